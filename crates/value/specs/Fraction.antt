@@ -1,0 +1,38 @@
+-- Fractions: a whole number over a positive one. Two are the same number (`_≈_`) where their cross products are equal.
+-- Sum, difference and product are those of fractions in general; a decimal is the case of a power of ten below.
+-- Assumes nothing.
+use mathlib.Core.Path.{_≡_}
+use Prim.Native.Nat.{ℕ, _*_, _<_}
+use native.Mathlib.Nat.{mul-pos}
+use lib.IntN.{ℤ, pos, negℤ, _+ℤ_, _-ℤ_, _*ℤ_}
+use lib.Signed.{_≤ℤ_}
+
+pub record Fraction : Type 0 where
+  pub num : ℤ
+  pub den : ℕ
+  pub positive : 0 < den
+
+infix 40 _≈_
+unfoldable pub _≈_ : Fraction → Fraction → Type 0
+p ≈ q = p .num *ℤ pos (q .den) ≡ q .num *ℤ pos (p .den)
+
+-- the order: p is at most q
+infix 40 _≼_
+unfoldable pub _≼_ : Fraction → Fraction → Type 0
+p ≼ q = (p .num *ℤ pos (q .den)) ≤ℤ (q .num *ℤ pos (p .den))
+
+infixl 60 _⊕_ _⊖_
+infixl 70 _⊗_
+unfoldable pub _⊕_ : Fraction → Fraction → Fraction
+p ⊕ q =
+    record { num = p .num *ℤ pos (q .den) +ℤ q .num *ℤ pos (p .den); den = p .den * q .den; positive = mul-pos (p .positive) (q .positive) }
+
+unfoldable pub _⊖_ : Fraction → Fraction → Fraction
+p ⊖ q =
+    record { num = p .num *ℤ pos (q .den) -ℤ q .num *ℤ pos (p .den); den = p .den * q .den; positive = mul-pos (p .positive) (q .positive) }
+
+unfoldable pub _⊗_ : Fraction → Fraction → Fraction
+p ⊗ q = record { num = p .num *ℤ q .num; den = p .den * q .den; positive = mul-pos (p .positive) (q .positive) }
+
+unfoldable pub opposite : Fraction → Fraction
+opposite p = record { num = negℤ (p .num); den = p .den; positive = p .positive }
