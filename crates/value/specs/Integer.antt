@@ -21,7 +21,7 @@ abbrev pub down : ℤ → ℕ
 down (pos n) = 0
 down (negsuc n) = suc n
 
-one-part : (z : ℤ) → 0 < up z → down z ≡ 0
+pub one-part : (z : ℤ) → 0 < up z → down z ≡ 0
 one-part (pos n) h = refl
 one-part (negsuc n) h = absurd (omega arith)
 

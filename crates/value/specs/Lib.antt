@@ -4,3 +4,5 @@ pub mod Decimal
 pub mod Literal
 pub mod Printed
 pub mod Gathering
+pub mod Rational
+pub mod Number
