@@ -3,6 +3,7 @@ pub mod Fraction
 pub mod FractionLaws
 pub mod Rational
 pub mod Decimal
+pub mod Number
 pub mod Literal
 pub mod Printed
 pub mod Gathering

@@ -86,6 +86,10 @@ pub 𝟏 : ℚ
 pub part : (d : ℕ) → 0 < d → ℚ
 part d h = rational (record { num = pos 1; den = d; positive = h })
 
+pub rational-integer : (z : ℤ) → rational (integer z) ≡ whole z
+unfolding whole
+rational-integer z = refl
+
 pub rational-⊕ : (p q : Fraction) → rational (Fraction._⊕_ p q) ≡ rational p ⊕ rational q
 unfolding ℚ rational _⊕_ lift₂
 rational-⊕ p q = refl
