@@ -1,5 +1,5 @@
--- Laws of ℤ that the kit lacks: the ring laws, and the order with sums and products.
--- Each is proved over ℕ: an integer is the difference of its parts, `up z - down z`, and `omega` does the rest.
+-- Laws of ℤ that the kit lacks: a commutative ring (`simp ringℤ`), its order, and division rounded down.
+-- They rest on ℕ: an integer is the difference of its parts, `up z - down z`, and `omega` does the rest.
 -- Assumes nothing.
 use mathlib.Core.Path.{_≡_, refl, sym, _∙_, ap, subst}
 use mathlib.Core.Bool.{Bool, true, false, cond}
