@@ -1,6 +1,7 @@
 pub mod Evaluated
 pub mod Gathered
 pub mod Listwise
+pub mod Ordered
 pub mod Collected
 pub mod Elements
 pub mod Bounds
