@@ -7,6 +7,7 @@ pub mod Elements
 pub mod Bounds
 pub mod Entries
 pub mod Numbered
+pub mod Stated
 pub mod Summed
 pub mod Lines
 pub mod Kept
