@@ -6,9 +6,10 @@ use mathlib.Core.Bool.{Bool, true, false}
 use mathlib.Core.List.{List, [], _∷_, _++_, append-assoc}
 use Prim.Native.Nat.{ℕ, zero, suc, _+_, _-_, _<_, _≤_}
 use native.Mathlib.Omega.{arith}
+use native.Mathlib.Decide.{ℕ-discrete}
 use lib.Dec.{ltb}
 use lib.ListN.{length, getD}
-use Rattle.language.specs.Listed.{At, In, at-getD, in-nil, in-cons, in-here, in-later, in-append, in-left, in-right}
+use Rattle.language.specs.Listed.{At, In, at-getD, in-nil, in-cons, in-here, in-later, in-left, in-right}
 use Rattle.value.specs.declared.Value.{Value}
 use Rattle.value.specs.Decimal.{zeroValue, isZero}
 use Rattle.language.specs.Syntax.{Name}
@@ -133,70 +134,48 @@ record OnColumn (j first last : ℕ) (l : Line) : Type 0 where
   to : row ≤ last
   no-zero : row < last → isZero coefficient ≡ false
 
-column-in : (j n : ℕ) (es : List Entry) (o : Row) → Each (OnColumn j n (n + length es)) (columnLines j n es o)
-unfolding columnLines
-column-in j n [] o =
-    each-cons (colLine (suc j) n (getD o j zeroValue)) []
-    (record { row = n; coefficient = _; is = refl; from = omega arith; to = omega arith; no-zero = λ t. absurd (omega arith) }) each-nil
-column-in j n (e ∷ es) o =
-    go (isZero v) refl
-    (each-as (columnLines j (suc n) es o) (column-in j (suc n) es o)
-    (λ l r. record {
-      row = r .row;
-      coefficient = r .coefficient;
-      is = r .is;
-      from = omega (arith, r .from);
-      to = omega (arith, r .to);
-      no-zero = λ t. r .no-zero (omega arith);
-    }))
-  where
-    v : Value
-    v = getD (coefficientsOf (e .fact)) j zeroValue
+-- the lines of variable j: w, its coefficient in the objective, is always given
+record Column (j first last : ℕ) (w : Value) (ls : List Line) : Type 0 where
+  lines : Each (OnColumn j first last) ls
+  rising : Rising EarlierLine ls
+  objective : In ls (colLine (suc j) last w)
 
-    Found : List Line → Type 0
-    Found ls = Each (OnColumn j n (n + suc (length es))) ls
-
-    go : (t : Bool) → isZero v ≡ t → Found (columnLines j (suc n) es o)
-        → Found (elim t [ true ↦ columnLines j (suc n) es o | false ↦ colLine (suc j) n v ∷ columnLines j (suc n) es o ])
-    go true z ih = ih
-    go false z ih =
-        each-cons (colLine (suc j) n v) (columnLines j (suc n) es o)
-        (record { row = n; coefficient = v; is = refl; from = omega arith; to = omega arith; no-zero = λ t. z }) ih
-
-rising-column : (j n : ℕ) (es : List Entry) (o : Row) → Rising EarlierLine (columnLines j n es o)
+column : (j n last : ℕ) (es : List Entry) (o : Row) → n + length es ≡ last → Column j n last (getD o j zeroValue) (columnLines j n es o)
 unfolding columnLines rank
-rising-column j n [] o = rising-one (colLine (suc j) n (getD o j zeroValue))
-rising-column j n (e ∷ es) o = go (isZero v) (rising-column j (suc n) es o)
+column j n last [] o e =
+    let same : n ≡ last = omega arith in
+    record {
+      lines =
+          each-cons _ [] (record { row = n; coefficient = _; is = refl; from = omega arith; to = omega arith; no-zero = λ t. absurd (omega arith) }) each-nil;
+      rising = rising-one (colLine (suc j) n (getD o j zeroValue));
+      objective = record { place = 0; at = ap (λ i. colLine (suc j) i (getD o j zeroValue)) same };
+    }
+column j n last (d ∷ es) o e = go (isZero v) refl (column j (suc n) last es o (omega arith))
   where
     v : Value
-    v = getD (coefficientsOf (e .fact)) j zeroValue
+    v = getD (coefficientsOf (d .fact)) j zeroValue
 
-    go : (t : Bool) → Rising EarlierLine (columnLines j (suc n) es o)
-        → Rising EarlierLine (elim t [ true ↦ columnLines j (suc n) es o | false ↦ colLine (suc j) n v ∷ columnLines j (suc n) es o ])
-    go true ih = ih
-    go false ih =
-        rising-cons _ (columnLines j (suc n) es o)
-        (λ l h. let r = column-in j (suc n) es o .each l h in subst (EarlierLine (colLine (suc j) n v)) (r .is) (inr (refl, inr (refl, inl (r .from)))))
-        ih
+    later : List Line
+    later = columnLines j (suc n) es o
 
--- the objective's is always given
-in-column : (j n : ℕ) (es : List Entry) (o : Row) → In (columnLines j n es o) (colLine (suc j) (n + length es) (getD o j zeroValue))
-unfolding columnLines
-in-column j n [] o = let z : n ≡ n + 0 = omega arith in record { place = 0; at = ap (λ i. colLine (suc j) i (getD o j zeroValue)) z }
-in-column j n (e ∷ es) o =
-    let z : suc n + length es ≡ n + suc (length es) = omega arith in
-    go (isZero v) (subst (λ i. In (columnLines j (suc n) es o) (colLine (suc j) i (getD o j zeroValue))) z (in-column j (suc n) es o))
-  where
-    v : Value
-    v = getD (coefficientsOf (e .fact)) j zeroValue
+    OnIt : List Line → Type 0
+    OnIt = Column j n last (getD o j zeroValue)
 
-    last : Line
-    last = colLine (suc j) (n + suc (length es)) (getD o j zeroValue)
+    sooner : (l : Line) → OnColumn j (suc n) last l → OnColumn j n last l
+    sooner l r = record { row = r .row; coefficient = r .coefficient; is = r .is; from = omega (arith, r .from); to = r .to; no-zero = r .no-zero }
 
-    go : (t : Bool) → In (columnLines j (suc n) es o) last
-        → In (elim t [ true ↦ columnLines j (suc n) es o | false ↦ colLine (suc j) n v ∷ columnLines j (suc n) es o ]) last
-    go true ih = ih
-    go false ih = in-later _ (columnLines j (suc n) es o) last ih
+    go : (t : Bool) → isZero v ≡ t → Column j (suc n) last (getD o j zeroValue) later → OnIt (elim t [ true ↦ later | false ↦ colLine (suc j) n v ∷ later ])
+    go true z c = record { lines = each-as later (c .lines) sooner; rising = c .rising; objective = c .objective }
+    go false z c =
+        record {
+          lines =
+              each-cons (colLine (suc j) n v) later (record { row = n; coefficient = v; is = refl; from = omega arith; to = omega arith; no-zero = λ t. z })
+              (each-as later (c .lines) sooner);
+          rising =
+              rising-cons (colLine (suc j) n v) later
+              (λ l h. let r = c .lines .each l h in subst (EarlierLine (colLine (suc j) n v)) (r .is) (inr (refl, inr (refl, inl (r .from))))) (c .rising);
+          objective = in-later _ later _ (c .objective);
+        }
 
 -- a line of one of the k variables from j on
 record OnColumns (k j last : ℕ) (l : Line) : Type 0 where
@@ -205,36 +184,40 @@ record OnColumns (k j last : ℕ) (l : Line) : Type 0 where
   to : variable < j + k
   on : OnColumn variable 1 last l
 
-columns-in : (k j : ℕ) (es : List Entry) (o : Row) → Each (OnColumns k j (1 + length es)) (colLines k j es o)
-unfolding colLines
-columns-in zero j es o = each-nil
-columns-in (suc k) j es o =
-    each-append (columnLines j 1 es o) (colLines k (suc j) es o)
-    (each-as (columnLines j 1 es o) (column-in j 1 es o) (λ l r. record { variable = j; from = omega arith; to = omega arith; on = r }))
-    (each-as (colLines k (suc j) es o) (columns-in k (suc j) es o)
-    (λ l r. record { variable = r .variable; from = omega (arith, r .from); to = omega (arith, r .to); on = r .on }))
+record Columns (k j last : ℕ) (o : Row) (ls : List Line) : Type 0 where
+  lines : Each (OnColumns k j last) ls
+  rising : Rising EarlierLine ls
+  objective : (i : ℕ) → j ≤ i → i < j + k → In ls (colLine (suc i) last (getD o i zeroValue))
 
-rising-columns : (k j : ℕ) (es : List Entry) (o : Row) → Rising EarlierLine (colLines k j es o)
+columns : (k j : ℕ) (es : List Entry) (o : Row) → Columns k j (suc (length es)) o (colLines k j es o)
 unfolding colLines rank
-rising-columns zero j es o = rising-nil
-rising-columns (suc k) j es o =
-    rising-append (columnLines j 1 es o) (colLines k (suc j) es o) (rising-column j 1 es o) (rising-columns k (suc j) es o)
-    (λ a b h h′.
-    let x = column-in j 1 es o .each a h in
-    let y = columns-in k (suc j) es o .each b h′ in
-    subst₂ EarlierLine (x .is) (y .on .is) (inr (refl, inl (omega (arith, y .from)))))
+columns zero j es o = record { lines = each-nil; rising = rising-nil; objective = λ i h t. absurd (omega arith) }
+columns (suc k) j es o = go (column j 1 (suc (length es)) es o (omega arith)) (columns k (suc j) es o)
+  where
+    first : List Line
+    first = columnLines j 1 es o
 
-in-columns : (k j i : ℕ) (es : List Entry) (o : Row) → i < k → In (colLines k j es o) (colLine (suc (j + i)) (1 + length es) (getD o (j + i) zeroValue))
-unfolding colLines
-in-columns zero j i es o h = absurd (omega arith)
-in-columns (suc k) j zero es o h =
-    let z : j ≡ j + 0 = omega arith in
-    in-left (columnLines j 1 es o) (colLines k (suc j) es o) _
-    (subst (λ v. In (columnLines j 1 es o) (colLine (suc v) (1 + length es) (getD o v zeroValue))) z (in-column j 1 es o))
-in-columns (suc k) j (suc i) es o h =
-    let z : suc j + i ≡ j + suc i = omega arith in
-    in-right (columnLines j 1 es o) (colLines k (suc j) es o) _
-    (subst (λ v. In (colLines k (suc j) es o) (colLine (suc v) (1 + length es) (getD o v zeroValue))) z (in-columns k (suc j) i es o (omega arith)))
+    later : List Line
+    later = colLines k (suc j) es o
+
+    go : Column j 1 (suc (length es)) (getD o j zeroValue) first → Columns k (suc j) (suc (length es)) o later → Columns (suc k) j (suc (length es)) o (first ++ later)
+    go c cs =
+        record {
+          lines =
+              each-append first later (each-as first (c .lines) (λ l r. record { variable = j; from = omega arith; to = omega arith; on = r }))
+              (each-as later (cs .lines) (λ l r. record { variable = r .variable; from = omega (arith, r .from); to = omega (arith, r .to); on = r .on }));
+          rising =
+              rising-append first later (c .rising) (cs .rising)
+              (λ a b h h′.
+              let x = c .lines .each a h in
+              let y = cs .lines .each b h′ in
+              subst₂ EarlierLine (x .is) (y .on .is) (inr (refl, inl (omega (arith, y .from)))));
+          objective = λ i h t. which i h t (ℕ-discrete j i);
+        }
+      where
+        which : (i : ℕ) → j ≤ i → i < j + suc k → Dec (j ≡ i) → In (first ++ later) (colLine (suc i) (suc (length es)) (getD o i zeroValue))
+        which i h t (yes e) = in-left first later _ (subst (λ i. In first (colLine (suc i) (suc (length es)) (getD o i zeroValue))) e (c .objective))
+        which i h t (no e) = in-right first later _ (cs .objective i (omega arith) (omega arith))
 
 -- ---- the order of the parts
 
@@ -286,6 +269,9 @@ module _ (m : Model) (p : Lp) where
       (row-lines (length (lessRows p)) true (equalRows p) (λ e h. equal-in (p .entries) e h .1) ∙ ap (λ n. numbered rowLineOf n (equalRows p)) z)
       ∙ sym (numbered-append rowLineOf 0 (lessRows p) (equalRows p))
 
+  col-part : Columns (length (p .variables)) 0 (suc (length (rows p))) (p .objective) colPart
+  col-part = columns (length (p .variables)) 0 (rows p) (p .objective)
+
   lines-are : linesOf m p ≡ lpPart ++ (rowPart ++ (varPart ++ (colPart ++ endPart)))
   unfolding linesOf
   lines-are =
@@ -315,14 +301,10 @@ module _ (m : Model) (p : Lp) where
 
   -- and each its coefficient in the objective
   pub objective-line : (i : ℕ) → i < length (p .variables) → (w : Value) × In (linesOf m p) (colLine (suc i) (suc (length (rows p))) w)
-  objective-line i h =
-      let z : 0 + i ≡ i = omega arith in
-      let last : 1 + length (rows p) ≡ suc (length (rows p)) = omega arith in (
-        getD (p .objective) (0 + i) zeroValue,
-        in-lines _ (in-right lpPart _ _ (in-right rowPart _ _ (in-right varPart _ _ (in-left colPart _ _
-            (subst₂ (λ j n. In colPart (colLine (suc j) n (getD (p .objective) (0 + i) zeroValue))) z last
-            (in-columns (length (p .variables)) 0 i (rows p) (p .objective) h)))))),
-      )
+  objective-line i h = (
+    _,
+    in-lines _ (in-right lpPart _ _ (in-right rowPart _ _ (in-right varPart _ _ (in-left colPart _ _ (col-part .objective i (omega arith) (omega arith)))))),
+  )
 
   -- every line says what it must, where each variable's name stands in the table
   pub every-line : ((j : ℕ) (v : Variable) → At (p .variables) j v → (x : Name) × At names (v .name) x) → (l : Line) → In (linesOf m p) l → Says m p l
@@ -333,7 +315,7 @@ module _ (m : Model) (p : Lp) where
       (each-numbered rowLineOf (rows p)
       (λ i e at. record { number = i; entry = e; at = at; number-is = refl; kind-is = refl; right-is = refl; title-is = refl; element-is = refl }))
       (each-append varPart _ (each-numbered (variableLine names p) (p .variables) of-variable)
-      (each-append colPart _ (each-as colPart (columns-in (length (p .variables)) 0 (rows p) (p .objective)) of-column) (each-cons endLine [] tt each-nil)))) in
+      (each-append colPart _ (each-as colPart (col-part .lines) of-column) (each-cons endLine [] tt each-nil)))) in
       says .each l (subst (λ ls. In ls l) lines-are h)
     where
       of-variable : (j : ℕ) (v : Variable) → At (p .variables) j v → Says m p (variableLine names p j v)
@@ -353,7 +335,7 @@ module _ (m : Model) (p : Lp) where
             element-is = refl;
           }
 
-      of-column : (l : Line) → OnColumns (length (p .variables)) 0 (1 + length (rows p)) l → Says m p l
+      of-column : (l : Line) → OnColumns (length (p .variables)) 0 (suc (length (rows p))) l → Says m p l
       of-column l c =
           let r = c .on in
           subst (Says m p) (r .is)
@@ -375,6 +357,6 @@ module _ (m : Model) (p : Lp) where
       (and-then 1 rowPart _ (rising-numbered rowLineOf (λ i j a b h. inr (refl, inl (omega arith))) 0 (rows p)) (each-numbered rowLineOf (rows p) (λ i e at. (suc i ∷ [], refl)))
       (and-then 2 varPart _ (rising-numbered (variableLine names p) (λ i j a b h. inr (refl, inl (omega arith))) 0 (p .variables))
       (each-numbered (variableLine names p) (p .variables) (λ j v at. (suc j ∷ [], refl)))
-      (and-then 3 colPart endPart (rising-columns (length (p .variables)) 0 (rows p) (p .objective))
-      (each-as colPart (columns-in (length (p .variables)) 0 (rows p) (p .objective)) (λ l c. subst (OfKind 3) (c .on .is) (_, refl)))
+      (and-then 3 colPart endPart (col-part .rising)
+      (each-as colPart (col-part .lines) (λ l c. subst (OfKind 3) (c .on .is) (_, refl)))
       (record { rising = rising-one endLine; kinds = each-cons endLine [] (4, omega arith, ([], refl)) each-nil })))) .rising)
