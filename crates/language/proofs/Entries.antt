@@ -19,7 +19,7 @@ use Rattle.value.specs.declared.Value.{Value}
 use Rattle.language.specs.Scope.{Scope, unbound}
 use Rattle.language.specs.Syntax.{Formula, Formulas, Spans, Form, Constraint, Relation, atMost, atLeast, equal, bare, form}
 use Rattle.language.specs.Evaluation.{eval, evalAll, within, over}
-use Rattle.language.specs.Written.{value, subscripts, formValue, negatedIf, InDomain, bindAll}
+use Rattle.language.specs.Written.{value, subscripts, formValue, negatedIf}
 use Rattle.language.specs.Model.{Model, start, Declaration}
 use Rattle.language.specs.Numbering.{Variable, addVariable, addVariables, numberOf, variableAt, Row, signed, gathered, Source, Entry, Fact, bound, row, flips, isEqual, factOf, rowCount, addEntry, addEntries}
 use Rattle.language.specs.Demand3.{Holds, RowMet, Written, scopeAt, Rising}

@@ -1,9 +1,9 @@
 -- Demand 3 on a read model: the listing of a generated problem keeps the model's meaning. Assumes nothing.
 use mathlib.Core.Path.{_≡_, refl, sym, _∙_, ap, subst, subst₂}
 use mathlib.Core.Logic.{_↔_, _⊎_, inl, inr}
-use mathlib.Core.Bool.{Bool, true, false}
+use mathlib.Core.Bool.{Bool}
 use mathlib.Core.Option.{Option, none, some}
-use mathlib.Core.List.{List, [], _++_, map}
+use mathlib.Core.List.{List, [], map}
 use Prim.Native.Nat.{ℕ, suc}
 use lib.IntN.{ℤ}
 use lib.ListN.{length, length-map}
@@ -124,18 +124,17 @@ module _ (m : Model) (vs : List Variable) (n : ℕ) (variables-made : Variables 
           meets-rows = λ i e at.
               let o = row-of i e at in
               row-met vs x _ _ _ (e .fact) (e .source .constraint .left) (o .0 .made) (o .1) .1 (h .constraints (e .source) (o .0 .written));
-          above-lower = λ j v at. above v (lowerOf es j) (numbered .of-number j v at) (lower-is j v at .stated);
+          above-lower = λ j v at. above v (lowerOf es j) (numbered .of-number j v at) (lower-is j v at);
           below-upper = λ j v at. below v (upperOf es j) (upper-is j v at);
         }
       where
-        above : (v : Variable) (l : Value) → Declared m v
-            → ((o : Source) × States Lower m v o × (rightValue m o ≡ exactly l)) ⊎ (((o : Source) → States Lower m v o → ⊥) × (l ≡ zeroValue)) → exactly l ⊑ x v
-        above v l d (inl (o, t, e)) =
-            subst₂ _⊑_ e (names-value x (o .constraint .left) (scopeAt m o) v (t .names))
-            (keeps-lower _ _ (o .constraint .relation) (t .kind) (h .constraints o (t .written)))
-        above v l d (inr (unstated, e)) =
-            subst (λ q. q ⊑ x v) (sym (ap exactly e ∙ exactly-zero))
-            (h .at-least-0 v d (λ t. unstated (t .source) (record { written = t .written; kind = t .lower; names = t .names })))
+        above : (v : Variable) (l : Value) → Declared m v → IsLower m v l → exactly l ⊑ x v
+        above v l d b = elim (b .stated) [
+          | inl (o, t, e) ↦ subst₂ _⊑_ e (names-value x (o .constraint .left) (scopeAt m o) v (t .names))
+              (keeps-lower _ _ (o .constraint .relation) (t .kind) (h .constraints o (t .written)))
+          | inr (unstated, e) ↦ subst (λ q. q ⊑ x v) (sym (ap exactly e ∙ exactly-zero))
+              (h .at-least-0 v d (λ t. unstated (t .source) (record { written = t .written; kind = t .lower; names = t .names })))
+        ]
 
         below : (v : Variable) (u : Option Value) → IsUpper m v u → BelowUpper u (x v)
         below v none k = tt
@@ -152,13 +151,14 @@ module _ (m : Model) (vs : List Variable) (n : ℕ) (variables-made : Variables 
               holds o w (a .0) (a .1) (a .2) (o .constraint .left) refl;
           at-least-0 = λ v d unstated.
               let n = numbered .has-number v d in
-              least v (lowerOf es (n .place)) unstated (h .above-lower (n .place) v (n .at)) (lower-is (n .place) v (n .at) .stated);
+              least v (lowerOf es (n .place)) unstated (h .above-lower (n .place) v (n .at)) (lower-is (n .place) v (n .at));
         }
       where
-        least : (v : Variable) (l : Value) → (StatesLower m v → ⊥) → exactly l ⊑ x v
-            → ((o : Source) × States Lower m v o × (rightValue m o ≡ exactly l)) ⊎ (((o : Source) → States Lower m v o → ⊥) × (l ≡ zeroValue)) → 𝟎 ⊑ x v
-        least v l unstated k (inl (o, t, e)) = absurd (unstated (record { source = o; written = t .written; lower = t .kind; names = t .names }))
-        least v l unstated k (inr (none-is, e)) = subst (λ q. q ⊑ x v) (ap exactly e ∙ exactly-zero) k
+        least : (v : Variable) (l : Value) → (StatesLower m v → ⊥) → exactly l ⊑ x v → IsLower m v l → 𝟎 ⊑ x v
+        least v l unstated k b = elim (b .stated) [
+          | inl (o, t, e) ↦ absurd (unstated (record { source = o; written = t .written; lower = t .kind; names = t .names }))
+          | inr (unsaid, e) ↦ subst (λ q. q ⊑ x v) (ap exactly e ∙ exactly-zero) k
+        ]
 
         below : (v : Variable) (o : Source) (u : Option Value) → IsUpper m v u → BelowUpper u (x v) → States Upper m v o → x v ⊑ rightValue m o
         below v o none k b t = absurd (k o t)

@@ -9,7 +9,7 @@ use Prim.Native.Nat.{ℕ}
 use lib.Dec.{eqb}
 use borrow.Author.Tests.{eqb-true, eq-eqb}
 use Rattle.value.specs.Number.{exactly}
-use Rattle.value.specs.Rational.{ℚ, _⊑_}
+use Rattle.value.specs.Rational.{_⊑_}
 use Rattle.value.specs.declared.Value.{Value}
 use Rattle.value.specs.Decimal.{zeroValue}
 use Rattle.language.specs.Listed.{At, In, Distinct, at-unique}
@@ -127,20 +127,14 @@ module _ (m : Model) (vs : List Variable) (es : List Entry) (generated : walk (e
   pub lower-bound : IsLower m v (lowerOf es j)
   unfolding lowerOf
   lower-bound =
+      let vs : List Value = values Lower lowerAt lowers in
       record {
-        least = λ o t.
-            let u = stated-value Lower lowerAt lowers o t in
-            subst (λ q. q ⊑ exactly (largest (values Lower lowerAt lowers))) (sym (u .2)) (largest-bounds (values Lower lowerAt lowers) (u .0) (u .1));
-        stated = go (largest-in (values Lower lowerAt lowers));
+        least = λ o t. let u = stated-value Lower lowerAt lowers o t in subst (λ q. q ⊑ exactly (largest vs)) (sym (u .2)) (largest-bounds vs (u .0) (u .1));
+        stated = elim (largest-in vs) [
+          | inl h ↦ inl (value-stated Lower lowerAt lowers (largest vs) h)
+          | inr (none-picked, e) ↦ inr (λ o t. let u = stated-value Lower lowerAt lowers o t in none-picked (u .0) (u .1), e)
+        ];
       }
-    where
-      top : Value
-      top = largest (values Lower lowerAt lowers)
-
-      go : In (values Lower lowerAt lowers) top ⊎ (((u : Value) → In (values Lower lowerAt lowers) u → ⊥) × (top ≡ zeroValue))
-          → ((o : Source) × States Lower m v o × (rightValue m o ≡ exactly top)) ⊎ (((o : Source) → States Lower m v o → ⊥) × (top ≡ zeroValue))
-      go (inl h) = inl (value-stated Lower lowerAt lowers top h)
-      go (inr h) = inr (λ o t. let u = stated-value Lower lowerAt lowers o t in h .0 (u .0) (u .1), h .1)
 
   pub upper-bound : IsUpper m v (upperOf es j)
   unfolding upperOf
