@@ -97,7 +97,7 @@ not-both (Syntax.discrete x) d e h k = none-some k
 not-both (Syntax.continuous x) d e h k = none-some h
 
 module _ (m : Model) where
-  abbrev pub allDeclared : List Declaration
+  abbrev allDeclared : List Declaration
   allDeclared = discretes m ++ continuouses m
 
   apart : (d e : Declaration) → In (discretes m) d → In (continuouses m) e → d .name ≡ e .name → ⊥

@@ -127,11 +127,11 @@ module _ (m : Model) (vs : List Variable) (es : List Entry) (generated : walk (e
   pub lower-bound : IsLower m v (lowerOf es j)
   unfolding lowerOf
   lower-bound =
-      let vs : List Value = values Lower lowerAt lowers in
+      let ls : List Value = values Lower lowerAt lowers in
       record {
-        least = λ o t. let u = stated-value Lower lowerAt lowers o t in subst (λ q. q ⊑ exactly (largest vs)) (sym (u .2)) (largest-bounds vs (u .0) (u .1));
-        stated = elim (largest-in vs) [
-          | inl h ↦ inl (value-stated Lower lowerAt lowers (largest vs) h)
+        least = λ o t. let u = stated-value Lower lowerAt lowers o t in subst (λ q. q ⊑ exactly (largest ls)) (sym (u .2)) (largest-bounds ls (u .0) (u .1));
+        stated = elim (largest-in ls) [
+          | inl h ↦ inl (value-stated Lower lowerAt lowers (largest ls) h)
           | inr (none-picked, e) ↦ inr (λ o t. let u = stated-value Lower lowerAt lowers o t in none-picked (u .0) (u .1), e)
         ];
       }
