@@ -6,3 +6,4 @@ pub mod Fitting
 pub mod Ranges
 pub mod Operations
 pub mod Reading
+pub mod Writing

@@ -41,10 +41,18 @@ module _ (v : Value) where
   unfolding inRange
   valid-in-range h = rw (le-leb _ _ (h .small), le-leb _ _ (h .places))
 
+-- two operands in range, as the code tests them
+pub record Both (a b : Value) : Type 0 where
+  pub left : inRange a ≡ true
+  pub right : inRange b ≡ true
+
+pub both-of : (a b : Value) (r : Bool) → r ≡ (inRange a && inRange b) → r ≡ true → Both a b
+both-of a b r e h = record { left = and-left _ _ (sym e ∙ h); right = and-right (inRange a) _ (sym e ∙ h) }
+
 module _ (a b : Value) (r : Fit) where
-  pub both-in-range : true ≡ (inRange a && inRange b) → r ≡ ifInRange a b r
+  pub both-in-range : Both a b → r ≡ ifInRange a b r
   unfolding ifInRange
-  both-in-range e = rw (← e)
+  both-in-range w = rw (w .left, w .right)
 
   pub not-in-range : false ≡ (inRange a && inRange b) → TooBig ≡ ifInRange a b r
   unfolding ifInRange

@@ -10,6 +10,7 @@ ghost use Rattle.rules.specs.Limits.{mantissaLimit, scaleLimit};
 ghost use Rattle.value.specs.Decimal.{tenths, withSign, at, choose, fitOf, inRange, ifInRange, sumOf, differenceOf, productOf, negate, isAtMost, isZero, wholeOf, ofWhole};
 ghost use Rattle.value.specs.Gathering.{millionths, ofMillionths};
 ghost use Rattle.value.specs.Literal.{isDigit, allDigits, digitOf, numberFrom, before, literalOf};
+ghost use Rattle.value.specs.Printed.{widthFrom, digits, minusSign, places, printed, shown, Written};
 ghost use Rattle.value.specs.Parts.{partsValue};
 
 pub struct Value {
@@ -348,4 +349,97 @@ pub fn literal(t: &[u8]) -> Fit
         return Fit::TooBig;
     }
     read_parts(&t[..p], &t[q..])
+}
+
+// ---- printing
+
+// Writes b at a place of the output, or past its end nothing; the next place.
+fn put(out: &mut [u8], at: usize, b: u8) -> usize
+    requires { ⌜ at < 2 ^ 62 ⌝ }
+    ensures { λ r. ⌜ Written (now (out .entry)) at (b ∷ []) r (now (out .exit)) ⌝ }
+{
+    if at < out.len() {
+        out[at] = b;
+        return at + 1;
+    }
+    at + 1
+}
+
+fn digit_at(n: u64, k: usize) -> u8
+    requires { ⌜ k < 19 ⌝ }
+    ensures { λ r. ⌜ r ≡ n / 10 ^ k % 10 + 48 ⌝ }
+{
+    (n / power(k) % 10) as u8 + 48
+}
+
+// The lowest k digits of n.
+fn put_digits(out: &mut [u8], at: usize, k: usize, n: u64) -> usize
+    requires { ⌜ (k < 19) × (at < 2 ^ 61) ⌝ }
+    ensures { λ r. ⌜ Written (now (out .entry)) at (digits k n) r (now (out .exit)) ⌝ }
+{
+    let mut i = at;
+    let mut j = k;
+    while 0 < j {
+        j = j - 1;
+        i = put(out, i, digit_at(n, j));
+    }
+    i
+}
+
+// How many digits n has, up to 18.
+fn width_of(n: u64) -> usize
+    ensures { λ r. ⌜ (r ≡ widthFrom 17 1 n) × (r < 19) ⌝ }
+{
+    let mut w = 1;
+    while w < 18 {
+        if n < power(w) {
+            return w;
+        }
+        w = w + 1;
+    }
+    w
+}
+
+fn put_sign(out: &mut [u8], m: i64) -> usize
+    ensures { λ r. ⌜ Written (now (out .entry)) 0 (minusSign m) r (now (out .exit)) ⌝ }
+{
+    if m < 0 {
+        return put(out, 0, b'-');
+    }
+    0
+}
+
+// A point and s digits, or nothing if s is 0.
+fn put_places(out: &mut [u8], at: usize, s: usize, x: u64) -> usize
+    requires { ⌜ (s < 19) × (at < 2 ^ 60) ⌝ }
+    ensures { λ r. ⌜ Written (now (out .entry)) at (places s x) r (now (out .exit)) ⌝ }
+{
+    if s == 0 {
+        return at;
+    }
+    let next = put(out, at, b'.');
+    put_digits(out, next, s, x)
+}
+
+fn put_value(out: &mut [u8], v: Value) -> usize
+    requires { ⌜ inRange v ≡ true ⌝ }
+    ensures { λ r. ⌜ Written (now (out .entry)) 0 (printed v) r (now (out .exit)) ⌝ }
+{
+    let m = v.m;
+    let s = v.s;
+    let x = magnitude(m);
+    let whole = x / power(s);
+    let at = put_sign(out, m);
+    let mid = put_digits(out, at, width_of(whole), whole);
+    put_places(out, mid, s, x)
+}
+
+// Writes a value, as far as the output reaches; the text's length.
+pub fn print(v: Value, out: &mut [u8]) -> usize
+    ensures { λ r. ⌜ Written (now (out .entry)) 0 (shown v) r (now (out .exit)) ⌝ }
+{
+    if in_range(v) {
+        return put_value(out, v);
+    }
+    0
 }
