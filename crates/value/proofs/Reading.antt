@@ -17,14 +17,7 @@ use Rattle.value.specs.declared.Fit.the-variants.{Fits, TooBig}
 use Rattle.value.specs.Decimal.{tenths, fitOf}
 use Rattle.value.specs.Literal.{isDigit, allDigits, digitOf, numberFrom, before, after, isLiteral, literalOf}
 use Rattle.value.specs.Parts.{partsValue}
-
-and-true : (t : Bool) → (t && true) ≡ t
-and-true true = refl
-and-true false = refl
-
-and-false : (t : Bool) → (t && false) ≡ false
-and-false true = refl
-and-false false = refl
+use Rattle.value.proofs.Ranges.{and-true, and-false}
 
 -- ---- a digit
 
