@@ -8,3 +8,5 @@ pub mod Operations
 pub mod Gathering
 pub mod Reading
 pub mod Writing
+pub mod ReadBack
+pub mod Cases
