@@ -7,7 +7,6 @@ use Prim.Native.Char.{code}
 use Prim.Native.String.{String, [] as []ˢ, _∷_ as _∷ˢ_}
 use lib.IntN.{pos}
 use Rattle.rules.specs.Limits.{mantissaLimit, scaleLimit, digitLimit}
-use Rattle.value.specs.declared.Value.{Value}
 use Rattle.value.specs.declared.Fit.{Fit}
 use Rattle.value.specs.declared.Fit.the-variants.{Fits, TooBig}
 use Rattle.value.specs.Fraction.{_⊗_}

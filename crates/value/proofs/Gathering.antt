@@ -2,8 +2,8 @@
 -- are added. Assumes nothing.
 use mathlib.Core.Path.{_≡_, refl, sym, _∙_, ap}
 use mathlib.Core.Bool.{Bool, true, false, cond, _&&_}
-use mathlib.Core.List.{List, []}
-use Prim.Native.Nat.{ℕ, zero, suc, _+_, _*_, _^_, _<_, _≤_}
+use mathlib.Core.List.{List}
+use Prim.Native.Nat.{ℕ, zero, suc, _*_, _^_, _<_, _≤_}
 use native.Mathlib.Omega.{arith}
 use native.Mathlib.Nat.{le-mul-of-pos-right}
 use native.Mathlib.Decide.{ℕ-discrete}
@@ -11,13 +11,13 @@ use borrow.Author.Tests.{lt-ltb, le-ltb, ltb-true}
 use lib.Dec.{ltb}
 use lib.ListN.{length, getD, set, replicate}
 use lib.Seq.{getD-set-same, getD-set-other}
-use lib.IntN.{ℤ, pos, natAbs, _+ℤ_, _*ℤ_}
+use lib.IntN.{ℤ, pos, natAbs, _+ℤ_}
 use Rattle.rules.specs.Limits.{mantissaLimit, scaleLimit}
 use Rattle.value.specs.declared.Value.{Value}
 use Rattle.value.specs.declared.Fit.{Fit}
 use Rattle.value.specs.declared.Fit.the-variants.{Fits, TooBig}
 use Rattle.value.specs.Fraction.{_≈_}
-use Rattle.value.specs.Decimal.{Valid, tenths, frac, fitOf, sumOf, inRange}
+use Rattle.value.specs.Decimal.{Valid, tenths, frac, sumOf, inRange}
 use Rattle.value.specs.Gathering.{millionths, ofMillionths, isFit, countLimit, isCount, gathers, Gathered, Counts}
 use Rattle.value.proofs.Integers.{natAbs-mul}
 use Rattle.value.proofs.Scales.{ten-pos}

@@ -1,6 +1,6 @@
 mod Table
 pub mod Integers
-pub mod Scales
+mod Scales
 pub mod Fractions
 pub mod Fitting
 pub mod Ranges

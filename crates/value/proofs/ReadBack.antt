@@ -1,13 +1,13 @@
 -- What is printed reads back as the same value, so that two values never print alike; and how long a printed value is.
 -- Assumes nothing.
-use mathlib.Core.Path.{_≡_, refl, sym, _∙_, ap, subst}
+use mathlib.Core.Path.{_≡_, refl, sym, _∙_, ap}
 use mathlib.Core.Bool.{Bool, true, false, cond}
 use mathlib.Core.List.{List, [], _∷_, _++_, append-nil}
 use Prim.Native.Nat.{ℕ, zero, suc, _+_, _-_, _*_, _/_, _%_, _^_, _<_, _≤_}
 use native.Mathlib.Omega.{arith}
-use native.Mathlib.Nat.{mul-assoc, mul-comm, mul-left-comm, mul-one, add-mul, mod-one, mod-lt, mod-eq-of-lt, div-add-mod', div-lt-iff-lt-mul, pow-suc, pow-le-pow-right}
+use native.Mathlib.Nat.{mul-assoc, mul-comm, mul-left-comm, add-mul, mod-one, mod-lt, mod-eq-of-lt, div-add-mod', div-lt-iff-lt-mul, pow-suc, pow-le-pow-right}
 use native.Mathlib.Decide.{ℕ-discrete}
-use borrow.Author.Tests.{eq-eqb, ne-eqb, le-leb, lt-leb, leb-true, leb-false, eqb-true}
+use borrow.Author.Tests.{eq-eqb, ne-eqb, le-leb, leb-true, leb-false}
 use lib.Dec.{eqb, leb, lit<}
 use lib.Arith.{mod-mul}
 use lib.ListN.{length, length-append}
@@ -22,7 +22,7 @@ use Rattle.value.specs.Literal.{isDigit, allDigits, digitOf, numberFrom,
 use Rattle.value.specs.Printed.{digits, widthFrom, natural, minusSign, places, printed}
 use Rattle.value.proofs.Scales.{ten-pos}
 use Rattle.value.proofs.Fitting.{fitOf-own}
-use Rattle.value.proofs.Reading.{digit-from, digit-to, digit-test, digit-value, number-append}
+use Rattle.value.proofs.Reading.{digit-from, digit-test, digit-value, number-append}
 use Rattle.value.proofs.Writing.{length-digits, digits-none, places-none, places-some, sign-short}
 
 -- ---- reading: a `-` and a literal, or a literal

@@ -1,18 +1,17 @@
 -- Laws of literals (`specs/Literal.antt`). Assumes nothing.
-use mathlib.Core.Path.{_≡_, refl, sym, _∙_, ap, subst}
+use mathlib.Core.Path.{_≡_, refl, _∙_, ap, subst}
 use mathlib.Core.Bool.{Bool, true, false, cond, _&&_}
 use mathlib.Core.List.{List, [], _∷_, _++_, append-nil}
-use Prim.Native.Nat.{ℕ, zero, suc, _+_, _-_, _*_, _^_, _<_, _≤_}
+use Prim.Native.Nat.{ℕ, suc, _+_, _-_, _*_, _^_, _<_, _≤_}
 use native.Mathlib.Omega.{arith}
 use native.Mathlib.Nat.{mul-assoc, mul-comm, mul-left-comm, mul-le-mul-right, pow-suc, one-le-pow, pow-le-pow-right, le-mul-of-pos-right}
 use native.Mathlib.Numerals.{add-one}
 use borrow.Author.Tests.{le-leb, lt-leb, leb-true, eq-eqb, ne-eqb}
 use lib.Dec.{leb, eqb, lit<}
-use lib.ListN.{length, getD, take, drop, length-take, length-drop, drop-of-length-le}
+use lib.ListN.{length, getD, take, drop, length-drop, drop-of-length-le}
 use lib.Seq.{drop-cons, take-all, drop-length}
 use lib.IntN.{pos}
 use Rattle.rules.specs.Limits.{digitLimit}
-use Rattle.value.specs.declared.Fit.{Fit}
 use Rattle.value.specs.declared.Fit.the-variants.{Fits, TooBig}
 use Rattle.value.specs.declared.Value.{Value}
 use Rattle.value.specs.Decimal.{Valid, tenths, fitOf}
@@ -198,9 +197,6 @@ module _ (t : List ℕ) (p : ℕ) (at : p ≡ length (before t)) where
 
   is-after : after t ≡ drop (p + 1) t
   is-after = rw (add-one, at) (after-drop t)
-
-  long-before : length t ≤ p → length (before t) ≡ length t
-  long-before h = ap length is-before ∙ length-take p t ∙ omega arith
 
   long-after : length (after t) ≡ length t - (p + 1)
   long-after = ap length is-after ∙ length-drop (p + 1) t

@@ -1,13 +1,13 @@
 -- Laws of printed text and of writing it (`specs/Printed.antt`). Assumes nothing.
 use mathlib.Core.Path.{_≡_, refl, sym, _∙_, ap, subst}
-use mathlib.Core.Bool.{Bool, true, false, cond}
+use mathlib.Core.Bool.{true, false}
 use mathlib.Core.List.{List, [], _∷_, _++_, append-nil}
-use Prim.Native.Nat.{ℕ, zero, suc, _+_, _-_, _*_, _/_, _%_, _^_, _<_, _≤_}
+use Prim.Native.Nat.{ℕ, zero, suc, _+_, _-_, _/_, _%_, _^_, _<_, _≤_}
 use native.Mathlib.Omega.{arith}
 use native.Mathlib.Nat.{add-zero, add-suc, suc-add}
 use native.Mathlib.Numerals.{add-one}
 use borrow.Author.Tests.{ltb-true, le-leb, lt-leb}
-use lib.Dec.{T, leb}
+use lib.Dec.{T}
 use lib.ListN.{length, set, take, drop, length-append, length-drop, take-append-drop, drop-of-length-le}
 use lib.Seq.{sets, set-out, length-sets, take-all, take-set-le, drop-set-add}
 use borrow.Rule.Slice.PartMut.{putMid}

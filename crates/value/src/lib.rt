@@ -3,9 +3,9 @@
 ghost use mathlib.Core.Path.{_≡_};
 ghost use mathlib.Core.Bool.{true, false, cond, _&&_};
 ghost use mathlib.Core.List.{[], _∷_};
-ghost use Prim.Native.Nat.{ℕ, _+_, _*_, _/_, _%_, _^_, _<_, _≤_};
+ghost use Prim.Native.Nat.{_+_, _*_, _/_, _%_, _^_, _<_, _≤_};
 ghost use lib.ListN.{length};
-ghost use lib.IntN.{ℤ, pos, natAbs, _+ℤ_, _-ℤ_, _*ℤ_};
+ghost use lib.IntN.{pos, natAbs, _+ℤ_, _-ℤ_, _*ℤ_};
 ghost use Rattle.rules.specs.Limits.{mantissaLimit, scaleLimit};
 ghost use Rattle.value.specs.Decimal.{tenths, withSign, at, choose, fitOf, inRange, ifInRange, sumOf, differenceOf, productOf, negate, isAtMost, isZero, wholeOf, ofWhole};
 ghost use Rattle.value.specs.Gathering.{millionths, ofMillionths, isCount, Gathered};
@@ -61,7 +61,7 @@ fn power(k: usize) -> u64
     POWERS[k]
 }
 
-// ---- signed numbers: nothing else adds, subtracts or multiplies them
+// ---- signed numbers: all code that adds, subtracts or multiplies them stands here
 
 fn plus(a: i64, b: i64) -> i64
     requires { ⌜ natAbs a + natAbs b < 2 ^ 63 ⌝ }
@@ -137,6 +137,7 @@ fn normalise(z: i64, s: usize) -> Fit
 
 // ---- operations
 
+// Are m and s within the bounds of a value?
 fn in_range(v: Value) -> bool
     ensures { λ r. ⌜ r ≡ inRange v ⌝ }
 {
@@ -163,7 +164,7 @@ fn scaled(m: i64, k: usize) -> i64
     times(m, power(k) as i64)
 }
 
-// A value as a count of millionths, and the value of such a count.
+// A value as a count of millionths.
 fn aligned(v: Value) -> i64
     requires { ⌜ inRange v ≡ true ⌝ }
     ensures { λ r. ⌜ r ≡ millionths v ⌝ }
@@ -172,12 +173,14 @@ fn aligned(v: Value) -> i64
     scaled(v.m, rules::SCALE_LIMIT - s)
 }
 
+// The value of a count of millionths, if it fits.
 pub fn of_millionths(z: i64) -> Fit
     ensures { λ r. ⌜ r ≡ ofMillionths z ⌝ }
 {
     normalise(z, rules::SCALE_LIMIT)
 }
 
+// Sum, difference and product, exact, if they fit; too big where an operand is out of range.
 pub fn add(a: Value, b: Value) -> Fit
     ensures { λ r. ⌜ r ≡ ifInRange a b (sumOf a b) ⌝ }
 {
@@ -207,6 +210,7 @@ pub fn mul(a: Value, b: Value) -> Fit
     Fit::TooBig
 }
 
+// The opposite; what is out of range stays as it is.
 pub fn negated(v: Value) -> Value
     ensures { λ r. ⌜ r ≡ cond (inRange v) (negate v) v ⌝ }
 {
@@ -219,6 +223,7 @@ pub fn negated(v: Value) -> Value
     v
 }
 
+// Is a at most b? Not so where one is out of range.
 pub fn at_most(a: Value, b: Value) -> bool
     ensures { λ r. ⌜ r ≡ cond (inRange a && inRange b) (isAtMost a b) false ⌝ }
 {
@@ -251,14 +256,17 @@ pub fn of_whole(k: i64) -> Value
 
 // ---- gathering coefficients
 
-// A count of millionths below 10^15 either side of zero.
+// A count that a value has is below this, either side of zero.
+const COUNT_LIMIT: u64 = 1000000000000000;
+
 fn is_count(z: i64) -> bool
     ensures { λ r. ⌜ r ≡ isCount z ⌝ }
 {
-    magnitude(z) < 1000000000000000
+    magnitude(z) < COUNT_LIMIT
 }
 
-// Adds v to element k of the sums, which are counts of millionths, where the sum fits; says whether it did.
+// Adds v to element k of the sums, which are counts of millionths, and says whether it did: there is such an element, it is
+// a count, v is in range, and the sum fits. Otherwise nothing changes.
 pub fn gather(sums: &mut [i64], k: usize, v: Value) -> bool
     ensures { λ r. ⌜ Gathered (now (sums .entry)) k v r (now (sums .exit)) ⌝ }
 {
@@ -366,6 +374,7 @@ fn read_parts(a: &[u8], b: &[u8]) -> Fit
     normalise(x as i64, f)
 }
 
+// The value of a literal: digits, digits.digits or .digits, at most 18 digits. Too big if t is none, or doesn't fit.
 pub fn literal(t: &[u8]) -> Fit
     ensures { λ r. ⌜ r ≡ literalOf (now (t .entry)) ⌝ }
 {
@@ -467,7 +476,7 @@ fn put_value(out: &mut [u8], v: Value) -> usize
     put_places(out, mid, s, x)
 }
 
-// Writes a value, as far as the output reaches; the text's length.
+// Writes a value, as far as the output reaches; the text's length. Nothing for what is out of range.
 pub fn print(v: Value, out: &mut [u8]) -> usize
     ensures { λ r. ⌜ Written (now (out .entry)) 0 (shown v) r (now (out .exit)) ⌝ }
 {

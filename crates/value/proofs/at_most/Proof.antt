@@ -1,5 +1,5 @@
 -- `value::at_most` meets its contract. Assumes nothing.
-use mathlib.Core.Path.{_≡_, sym, _∙_}
+use mathlib.Core.Path.{sym, _∙_}
 use Rattle.rules.specs.Limits.{mantissaLimit, scaleLimit}
 use Rattle.value.specs.Decimal.{isAtMost}
 use Rattle.value.proofs.Integers.{back}

@@ -2,7 +2,6 @@
 use lib.Dec.{lit<}
 use native.Mathlib.Nat.{one-le-pow}
 use borrow.Author.Needs.{needs}
-use mathlib.Core.Path.{_≡_, refl, sym, _∙_, ap}
 use native.Mathlib.Omega.{arith}
 use Rattle.value.proofs.digit_at.Statement.{statement}
 use Rattle.value.proofs.digit_at.Tie as tie

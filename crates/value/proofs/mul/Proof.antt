@@ -1,9 +1,8 @@
 -- `value::mul` meets its contract. Assumes nothing.
-use mathlib.Core.Path.{_≡_, sym, _∙_}
+use mathlib.Core.Path.{sym, _∙_}
 use Prim.Native.Nat.{_+_, _≤_}
 use native.Mathlib.Omega.{arith}
 use native.Mathlib.Nat.{mul-le-mul}
-use lib.IntN.{_*ℤ_}
 use Rattle.value.proofs.Integers.{back}
 use Rattle.value.proofs.Ranges.{Both, both-of, range-small, range-places, both-in-range, not-in-range}
 use Rattle.value.proofs.Operations.{product-fit}

@@ -1,6 +1,5 @@
 -- `value::put_sign` meets its contract. Assumes nothing.
 use borrow.Author.Needs.{needs}
-use mathlib.Core.Path.{_≡_, refl, sym, _∙_, ap}
 use Rattle.value.proofs.Integers.{back}
 use Rattle.value.proofs.Writing.{written-none, sign-negative, sign-other}
 use Rattle.value.proofs.put_sign.Statement.{statement}

@@ -17,10 +17,10 @@ both : (c : tie.Then1) → Both (c .before .before .args .a) (c .before .before 
 both c = both-of _ _ _ (c .before .both-in-range .ensures) (c .if1 .taken)
 
 aligned-requires : tie.Need-aligned-requires
-aligned-requires c κs = both c .left
+aligned-requires c κs = let w = both c in search needs
 
 aligned-requires-2 : tie.Need-aligned-requires-2
-aligned-requires-2 c κs = both (c .before) .right
+aligned-requires-2 c κs = let w = both (c .before) in search needs
 
 minus-requires : tie.Need-minus-requires
 minus-requires c κs =

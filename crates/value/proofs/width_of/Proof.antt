@@ -1,9 +1,8 @@
 -- `value::width_of` meets its contract. Assumes nothing.
-use Prim.Native.Nat.{_+_}
-use mathlib.Core.Path.{_≡_, refl, sym, _∙_, ap}
+use Prim.Native.Nat.{_+_, _-_, _≤_}
+use mathlib.Core.Path.{_≡_, refl, sym, _∙_}
 use native.Mathlib.Omega.{arith}
 use borrow.Author.Needs.{needs}
-use Prim.Native.Nat.{_-_, _≤_}
 use Rattle.value.specs.Printed.{widthFrom}
 use Rattle.value.proofs.Writing.{width-stop, width-end, width-next}
 use Rattle.value.proofs.width_of.Statement.{statement}
