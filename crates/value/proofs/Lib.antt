@@ -1,2 +1,12 @@
 pub mod Exactness
 pub mod Numbers
+pub mod Integers
+pub mod Fractions
+pub mod Fitting
+pub mod Ranges
+pub mod Operations
+pub mod Gathering
+pub mod Reading
+pub mod Writing
+pub mod ReadBack
+pub mod Cases
