@@ -1,0 +1,7 @@
+mod Runs
+pub mod Same
+mod Words
+mod Tokens
+mod Sizes
+mod Stream
+pub mod Calls
