@@ -4,3 +4,4 @@ pub mod Decimal
 pub mod Literal
 pub mod Printed
 pub mod Gathering
+pub mod Parts

@@ -1,0 +1,4 @@
+mod Table
+pub mod Integers
+pub mod Scales
+pub mod Reading
