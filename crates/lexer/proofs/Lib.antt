@@ -2,6 +2,3 @@ mod Runs
 pub mod Same
 mod Words
 mod Tokens
-mod Sizes
-mod Stream
-pub mod Calls

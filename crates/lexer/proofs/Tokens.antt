@@ -16,7 +16,6 @@ use Rattle.value.specs.declared.Fit.{Fit}
 use Rattle.value.specs.declared.Fit.the-variants.{Fits, TooBig}
 use Rattle.value.specs.Decimal.{Valid}
 use Rattle.value.specs.Literal.{isDigit, literalOf}
-use Rattle.value.proofs.Reading.{literal-valid}
 use Rattle.lexer.specs.Marks.{capitalWords, smallWords}
 use Rattle.lexer.specs.Text as Text
 use Rattle.lexer.specs.Text.{Kind, mark, name, string, wrong, isSmall, isCapital, isSign, inName, inString, noBrace, front, behind, pointed, step, literalKind, valued, nameStep, wordStep, literalStep, strange, wellShaped, stringStep, orderStep, stepAt}
@@ -28,6 +27,9 @@ use Rattle.lexer.proofs.Runs.{drop-here, run-is, run-part, run-slice, r
 
 true-false : {A : Type 0} → _≡_ {A = Bool} true false → A
 true-false e = absurd (let z : _≡_ {A = ℕ} 0 1 = cc in omega arith)
+
+literal-valid : (t : List ℕ) (v : Value) → literalOf t ≡ Fits v → Valid v
+literal-valid t v e = ?
 
 -- ---- names and words
 
@@ -139,12 +141,12 @@ module _ (s : List ℕ) (at w : ℕ) where
       subst (λ (l : List ℕ). Gives s r (valued false at l)) (fraction-bytes f p c)
       (value-is s _ false v at _ r e (sym (length-take-le (at + w + 1 + f - at) (drop at s) (omega (arith, p .inside, c .bound, length-drop at s)))) g)
 
-  pub literal-fraction : (r : Found) → PointAfter s at w → Gives s r (fractionStep at (drop at s))
-      → Gives s r (literalStep at (front isDigit (drop at s)) (behind isDigit (drop at s)))
+  pub literal-fraction : (b : Bool) (r : Found) → RunLength s at Digit w → b ≡ pointed (drop (at + w) s) → b ≡ true
+      → Gives s r (fractionStep at (drop at s)) → Gives s r (literalStep at (front isDigit (drop at s)) (behind isDigit (drop at s)))
   unfolding literalStep
-  literal-fraction r p g =
-      let e : pointed (behind isDigit (drop at s)) ≡ true = ap pointed (run-behind s at Digit w (p .digits)) ∙ p .point in
-      rw (e, literalStep) g
+  literal-fraction b r c e f g =
+      let q : pointed (behind isDigit (drop at s)) ≡ true = ap pointed (run-behind s at Digit w c) ∙ sym e ∙ f in
+      rw (q, literalStep) g
 
   pub literal-whole : (b : Bool) (v : Fit) (r : Found) → RunLength s at Digit w → b ≡ pointed (drop (at + w) s) → b ≡ false
       → v ≡ literalOf (take (at + w - at) (drop at s)) → r ≡ foundOf true v at w

@@ -1,6 +1,7 @@
 // The token cursor: at any position of any text, the token that comes next, its place and the cursor past it. Names and
 // strings are handed on as parts of the text.
 ghost use mathlib.Core.Path.{_≡_};
+ghost use mathlib.Core.Bool.{cond};
 ghost use mathlib.Core.List.{[]};
 ghost use Prim.Native.Nat.{_+_, _<_};
 ghost use lib.ListN.{length, getD, take, drop};
@@ -185,57 +186,37 @@ pub fn same_parts(s: &[u8], at: usize, n: usize, to: usize, m: usize) -> bool
 
 // ---- words
 
+// The word's number if the run is the word, else another number.
+fn word_or(word: &[u8], mark: u8, run: &[u8], other: u8) -> u8
+    ensures { λ r. ⌜ r ≡ cond (sameBytes (now (word .entry)) (now (run .entry))) mark other ⌝ }
+{
+    let same = same_bytes(word, run);
+    if same { mark } else { other }
+}
+
 // The number of the capital word that the run is, or 0.
 fn capital_word(run: &[u8]) -> u8
     ensures { λ r. ⌜ IsWord capitalWords (now (run .entry)) r ⌝ }
 {
-    if same_bytes(b"OPEN", run) {
-        return marks::OPEN;
-    }
-    if same_bytes(b"CLOSE", run) {
-        return marks::CLOSE;
-    }
-    if same_bytes(b"MAXIMIZE", run) {
-        return marks::MAXIMIZE;
-    }
-    if same_bytes(b"MINIMIZE", run) {
-        return marks::MINIMIZE;
-    }
-    if same_bytes(b"INIT", run) {
-        return marks::INIT;
-    }
-    if same_bytes(b"SUM", run) {
-        return marks::SUM;
-    }
-    if same_bytes(b"S", run) {
-        return marks::SIGMA;
-    }
-    0
+    let w = word_or(b"S", marks::SIGMA, run, 0);
+    let w = word_or(b"SUM", marks::SUM, run, w);
+    let w = word_or(b"INIT", marks::INIT, run, w);
+    let w = word_or(b"MINIMIZE", marks::MINIMIZE, run, w);
+    let w = word_or(b"MAXIMIZE", marks::MAXIMIZE, run, w);
+    let w = word_or(b"CLOSE", marks::CLOSE, run, w);
+    word_or(b"OPEN", marks::OPEN, run, w)
 }
 
 // The number of the lower-case word that the run is, or 0.
 fn small_word(run: &[u8]) -> u8
     ensures { λ r. ⌜ IsWord smallWords (now (run .entry)) r ⌝ }
 {
-    if same_bytes(b"index", run) {
-        return marks::INDEX;
-    }
-    if same_bytes(b"integer", run) {
-        return marks::INTEGER;
-    }
-    if same_bytes(b"real", run) {
-        return marks::REAL;
-    }
-    if same_bytes(b"formula", run) {
-        return marks::FORMULA;
-    }
-    if same_bytes(b"discrete", run) {
-        return marks::DISCRETE;
-    }
-    if same_bytes(b"continuous", run) {
-        return marks::CONTINUOUS;
-    }
-    0
+    let w = word_or(b"continuous", marks::CONTINUOUS, run, 0);
+    let w = word_or(b"discrete", marks::DISCRETE, run, w);
+    let w = word_or(b"formula", marks::FORMULA, run, w);
+    let w = word_or(b"real", marks::REAL, run, w);
+    let w = word_or(b"integer", marks::INTEGER, run, w);
+    word_or(b"index", marks::INDEX, run, w)
 }
 
 // ---- tokens

@@ -1,0 +1,35 @@
+use borrow.Author.Needs.{needs}
+use Rattle.lexer.proofs.Cursor.next.Statement.{statement}
+use Rattle.lexer.proofs.Cursor.next.Tie as tie
+use Rattle.lexer.proofs.Cursor.next.Reads as reads
+use Rattle.lexer.proofs.Cursor.next.Lts as lts
+use Rattle.lexer.proofs.run_length.Reads as run-length-reads
+use Rattle.lexer.proofs.token_at.Reads as token-at-reads
+
+-- src/lib.rt:487:13
+run-length-requires : tie.Need-run-length-requires
+run-length-requires c κs = search needs
+
+-- src/lib.rt:488:18
+add-at : tie.Need-add-at
+add-at c = search needs
+
+-- src/lib.rt:490:13
+returns : tie.Need-returns
+returns c = ?
+
+-- src/lib.rt:496:13
+token-at-requires : tie.Need-token-at-requires
+token-at-requires c κs = search needs
+
+-- src/lib.rt:498:18
+add-on : tie.Need-add-on
+add-on c = ?
+
+-- src/lib.rt:483:5
+returns-2 : tie.Need-returns-2
+returns-2 c = ?
+
+pub next-spec : {M : Type 1} → statement M
+next-spec =
+    tie.close (tie.spec run-length-requires add-at returns token-at-requires add-on returns-2)
