@@ -2,3 +2,6 @@ mod Runs
 pub mod Same
 mod Words
 mod Tokens
+mod Sizes
+mod Stream
+pub mod Calls

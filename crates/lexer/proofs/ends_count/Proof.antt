@@ -1,3 +1,5 @@
+use Rattle.lexer.specs.Text.{uncounted}
+use Rattle.lexer.proofs.Calls.{ends-is}
 use borrow.Author.Needs.{needs}
 use Rattle.lexer.proofs.ends_count.Statement.{statement}
 use Rattle.lexer.proofs.ends_count.Tie as tie
@@ -30,27 +32,33 @@ enum-told-5 c = search needs
 
 -- src/lib.rt:505:1
 returns : tie.Need-returns
-returns c = ?
+unfolding uncounted
+returns c = search ends-is depth 5
 
 -- src/lib.rt:505:1
 returns-2 : tie.Need-returns-2
-returns-2 c = ?
+unfolding uncounted
+returns-2 c = search ends-is depth 5
 
 -- src/lib.rt:505:1
 returns-3 : tie.Need-returns-3
-returns-3 c = ?
+unfolding uncounted
+returns-3 c = search ends-is depth 5
 
 -- src/lib.rt:505:1
 returns-4 : tie.Need-returns-4
-returns-4 c = ?
+unfolding uncounted
+returns-4 c = search ends-is depth 5
 
 -- src/lib.rt:505:1
 returns-5 : tie.Need-returns-5
-returns-5 c = ?
+unfolding uncounted
+returns-5 c = search ends-is depth 5
 
 -- src/lib.rt:505:1
 returns-6 : tie.Need-returns-6
-returns-6 c = ?
+unfolding uncounted
+returns-6 c = search ends-is depth 5
 
 pub ends-count-spec : {M : Type 1} → statement M
 ends-count-spec =

@@ -1,3 +1,6 @@
+use Prim.Native.Nat.{_+_}
+use native.Mathlib.Omega.{arith}
+use Rattle.lexer.proofs.Stream.{next-end, next-token, size-most}
 use borrow.Author.Needs.{needs}
 use Rattle.lexer.proofs.Cursor.next.Statement.{statement}
 use Rattle.lexer.proofs.Cursor.next.Tie as tie
@@ -16,7 +19,7 @@ add-at c = search needs
 
 -- src/lib.rt:490:13
 returns : tie.Need-returns
-returns c = ?
+returns c = search next-end depth 6
 
 -- src/lib.rt:496:13
 token-at-requires : tie.Need-token-at-requires
@@ -24,11 +27,13 @@ token-at-requires c κs = search needs
 
 -- src/lib.rt:498:18
 add-on : tie.Need-add-on
-add-on c = ?
+add-on c =
+    let d = c .before .before in
+    omega (arith, size-most (d .before .before .before .args .s .now) (d .before .before .before .args .self .at + d .before .run-length .result) (c .before .token-at .result) (d .if1 .left) (c .before .token-at .ensures))
 
 -- src/lib.rt:483:5
 returns-2 : tie.Need-returns-2
-returns-2 c = ?
+returns-2 c = search next-token depth 7
 
 pub next-spec : {M : Type 1} → statement M
 next-spec =

@@ -1,3 +1,4 @@
+use Rattle.lexer.proofs.Calls.{turn-free, turn-full, turn-on}
 use borrow.Author.Needs.{needs}
 use Rattle.lexer.proofs.Source.next.Statement.{statement}
 use Rattle.lexer.proofs.Source.next.Tie as tie
@@ -16,11 +17,11 @@ ends-count-requires c κs = search needs
 
 -- src/lib.rt:562:13
 returns : tie.Need-returns
-returns c = ?
+returns c = search turn-free depth 6
 
 -- src/lib.rt:573:13
 returns-2 : tie.Need-returns-2
-returns-2 c = ?
+returns-2 c = search turn-full depth 7
 
 -- src/lib.rt:579:20
 sub-rest : tie.Need-sub-rest
@@ -28,7 +29,7 @@ sub-rest c = search needs
 
 -- src/lib.rt:550:5
 returns-3 : tie.Need-returns-3
-returns-3 c = ?
+returns-3 c = search turn-on depth 7
 
 pub next-spec : {M : Type 1} → statement M
 next-spec =
