@@ -5,3 +5,4 @@ mod Tokens
 mod Sizes
 mod Stream
 pub mod Calls
+pub mod Strings
