@@ -1,4 +1,5 @@
--- ℤ: sizes of sums and products, signs, and what the machine reads of a signed number. Assumes nothing.
+-- ℤ: sizes of sums and products, signs, what the machine reads of a signed number, and a set for ring identities.
+-- Assumes nothing.
 use mathlib.Core.Path.{_≡_, refl, sym, _∙_, ap, subst}
 use mathlib.Core.Bool.{Bool, true, false, cond}
 use Prim.Native.Nat.{ℕ, zero, suc, _+_, _-_, _*_, _^_, _<_, _≤_}
@@ -6,13 +7,13 @@ use native.Mathlib.Omega.{arith}
 use native.Mathlib.Nat.{mul-suc, add-suc}
 use borrow.Author.Tests.{ltb-true, ltb-false}
 use lib.Dec.{T, ltb}
-use lib.IntN.{ℤ, pos, negsuc, negℤ, natAbs, subℕ, _+ℤ_, _-ℤ_, _*ℤ_, negℤ-negℤ, +ℤ-idl, +ℤ-one}
+use lib.IntN.{ℤ, pos, negsuc, negℤ, natAbs, subℕ, _+ℤ_, _-ℤ_, _*ℤ_, negℤ-negℤ, +ℤ-idl, +ℤ-one, +ℤ-assoc, +ℤ-comm, *ℤ-comm}
 use lib.Signed.{mag, ltZ, nonNeg}
 use mir.Syntax.{w64}
 use mir.Val.{SFits, toZ, ofZ}
 use mir.Facts.{toZ-ofZ}
 use Rattle.value.specs.Decimal.{withSign}
-use Rattle.value.specs.Integer.{negℤ-*ℤ}
+use Rattle.value.specs.Integer.{*ℤ-assoc, *ℤ-+ℤ, negℤ-*ℤ}
 
 -- ---- sizes
 
@@ -135,3 +136,17 @@ pub withSign-cross : (z : ℤ) (x k n : ℕ) → x * k ≡ natAbs z * n → with
 unfolding withSign
 withSign-cross (pos a) x k n e = ap pos e
 withSign-cross (negsuc a) x k n e = negℤ-*ℤ (pos x) (pos k) ∙ ap (λ (i : ℕ). negℤ (pos i)) e
+
+-- ---- ring identities
+
+pub +ℤ-*ℤ : (x y z : ℤ) → (x +ℤ y) *ℤ z ≡ x *ℤ z +ℤ y *ℤ z
++ℤ-*ℤ x y z = *ℤ-comm (x +ℤ y) z ∙ *ℤ-+ℤ z x y ∙ cc (*ℤ-comm x z, *ℤ-comm y z)
+
+pub *ℤ-left-comm : (x y z : ℤ) → x *ℤ (y *ℤ z) ≡ y *ℤ (x *ℤ z)
+*ℤ-left-comm x y z = sym (*ℤ-assoc x y z) ∙ ap (λ (t : ℤ). t *ℤ z) (*ℤ-comm x y) ∙ *ℤ-assoc y x z
+
+pub +ℤ-left-comm : (x y z : ℤ) → x +ℤ (y +ℤ z) ≡ y +ℤ (x +ℤ z)
++ℤ-left-comm x y z = sym (+ℤ-assoc x y z) ∙ ap (λ (t : ℤ). t +ℤ z) (+ℤ-comm x y) ∙ +ℤ-assoc y x z
+
+-- both sides of a ring identity come out alike: `simp ringℤ`
+pub ruleset ringℤ = (+ℤ-*ℤ, *ℤ-+ℤ, *ℤ-assoc, *ℤ-comm, *ℤ-left-comm, +ℤ-assoc, +ℤ-comm, +ℤ-left-comm)

@@ -1,4 +1,9 @@
 mod Table
 pub mod Integers
 pub mod Scales
+pub mod Fractions
+pub mod Fitting
+pub mod Ranges
+pub mod Operations
 pub mod Reading
+pub mod Writing

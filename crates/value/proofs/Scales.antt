@@ -29,7 +29,7 @@ module _ (x s i : ℕ) (h : i ≤ s) where
   quotient : x * 10 ^ i / 10 ^ s ≡ x / 10 ^ (s - i)
   quotient = rw split (mul-div-mul-right x (10 ^ (s - i)) (ten-pos i))
 
-  divides : x % 10 ^ (s - i) ≡ 0 → x * 10 ^ i % 10 ^ s ≡ 0
+  pub divides : x % 10 ^ (s - i) ≡ 0 → x * 10 ^ i % 10 ^ s ≡ 0
   divides e =
       let d = 10 ^ (s - i) in
       let a : x / d * d ≡ x = over x d e in
