@@ -1,20 +1,15 @@
 use mathlib.Core.Path.{sym}
-use lib.ListN.{List·getD-eq-default}
 use borrow.Author.Needs.{needs}
+use lib.ListN.{List·getD-eq-default}
 use Rattle.lexer.proofs.byte_at.Statement.{statement}
 use Rattle.lexer.proofs.byte_at.Tie as tie
-use Rattle.lexer.proofs.byte_at.Reads as reads
-use Rattle.lexer.proofs.byte_at.Lts as lts
 
--- src/lib.rt:112:22
 shared-slice-read-result : tie.Need-shared-slice-read-result
 shared-slice-read-result c = search needs
 
--- src/lib.rt:109:1
 returns : tie.Need-returns
 returns c = search needs
 
--- src/lib.rt:109:1
 returns-2 : tie.Need-returns-2
 returns-2 c = sym (List·getD-eq-default (c .before .args .s .now) 0 (c .if1 .left))
 

@@ -1,61 +1,47 @@
+use borrow.Author.Needs.{needs}
 use Rattle.lexer.specs.Text.{uncounted}
 use Rattle.lexer.proofs.Calls.{ends-is}
-use borrow.Author.Needs.{needs}
 use Rattle.lexer.proofs.ends_count.Statement.{statement}
 use Rattle.lexer.proofs.ends_count.Tie as tie
-use Rattle.lexer.proofs.ends_count.Reads as reads
-use Rattle.lexer.proofs.ends_count.Lts as lts
 
--- src/lib.rt:509:21
 enum-known-t : tie.Need-enum-known-t
 enum-known-t c = search needs
 
--- src/lib.rt:510:30
 enum-told : tie.Need-enum-told
 enum-told c = search needs
 
--- src/lib.rt:511:33
 enum-told-2 : tie.Need-enum-told-2
 enum-told-2 c = search needs
 
--- src/lib.rt:512:32
 enum-told-3 : tie.Need-enum-told-3
 enum-told-3 c = search needs
 
--- src/lib.rt:513:23
 enum-told-4 : tie.Need-enum-told-4
 enum-told-4 c = search needs
 
--- src/lib.rt:514:28
 enum-told-5 : tie.Need-enum-told-5
 enum-told-5 c = search needs
 
--- src/lib.rt:505:1
 returns : tie.Need-returns
 unfolding uncounted
 returns c = search ends-is depth 5
 
--- src/lib.rt:505:1
 returns-2 : tie.Need-returns-2
 unfolding uncounted
 returns-2 c = search ends-is depth 5
 
--- src/lib.rt:505:1
 returns-3 : tie.Need-returns-3
 unfolding uncounted
 returns-3 c = search ends-is depth 5
 
--- src/lib.rt:505:1
 returns-4 : tie.Need-returns-4
 unfolding uncounted
 returns-4 c = search ends-is depth 5
 
--- src/lib.rt:505:1
 returns-5 : tie.Need-returns-5
 unfolding uncounted
 returns-5 c = search ends-is depth 5
 
--- src/lib.rt:505:1
 returns-6 : tie.Need-returns-6
 unfolding uncounted
 returns-6 c = search ends-is depth 5

@@ -2,10 +2,7 @@ use mathlib.Core.Path.{refl}
 use Rattle.lexer.specs.Text.{inString}
 use Rattle.lexer.proofs.in_string.Statement.{statement}
 use Rattle.lexer.proofs.in_string.Tie as tie
-use Rattle.lexer.proofs.in_string.Reads as reads
-use Rattle.lexer.proofs.in_string.Lts as lts
 
--- src/lib.rt:73:1
 returns : tie.Need-returns
 unfolding inString
 returns c = refl

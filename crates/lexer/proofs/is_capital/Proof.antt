@@ -2,10 +2,7 @@ use mathlib.Core.Path.{refl}
 use Rattle.lexer.specs.Text.{isCapital}
 use Rattle.lexer.proofs.is_capital.Statement.{statement}
 use Rattle.lexer.proofs.is_capital.Tie as tie
-use Rattle.lexer.proofs.is_capital.Reads as reads
-use Rattle.lexer.proofs.is_capital.Lts as lts
 
--- src/lib.rt:55:1
 returns : tie.Need-returns
 unfolding isCapital
 returns c = refl

@@ -2,10 +2,7 @@ use mathlib.Core.Path.{refl}
 use Rattle.lexer.specs.Text.{isSign}
 use Rattle.lexer.proofs.is_sign.Statement.{statement}
 use Rattle.lexer.proofs.is_sign.Tie as tie
-use Rattle.lexer.proofs.is_sign.Reads as reads
-use Rattle.lexer.proofs.is_sign.Lts as lts
 
--- src/lib.rt:79:1
 returns : tie.Need-returns
 unfolding isSign
 returns c = refl

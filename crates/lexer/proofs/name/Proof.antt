@@ -1,47 +1,34 @@
+use borrow.Author.Needs.{needs}
 use Rattle.rules.specs.Limits.{nameLength}
 use Rattle.lexer.proofs.Tokens.{name-word, name-new, name-long}
-use borrow.Author.Needs.{needs}
 use Rattle.lexer.proofs.name.Statement.{statement}
 use Rattle.lexer.proofs.name.Tie as tie
-use Rattle.lexer.proofs.name.Reads as reads
-use Rattle.lexer.proofs.name.Lts as lts
-use Rattle.lexer.proofs.run_length.Reads as run-length-reads
-use Rattle.lexer.proofs.small_word.Reads as small-word-reads
 
--- src/lib.rt:255:9
 run-length-requires : tie.Need-run-length-requires
 run-length-requires c κs = search needs
 
--- src/lib.rt:256:15
 add-end : tie.Need-add-end
 add-end c = search needs
 
--- src/lib.rt:257:24
 sub-small-word : tie.Need-sub-small-word
 sub-small-word c = search needs
 
--- src/lib.rt:257:24
 part-small-word-start : tie.Need-part-small-word-start
 part-small-word-start c = search needs
 
--- src/lib.rt:257:24
 part-small-word-end : tie.Need-part-small-word-end
 part-small-word-end c = search needs
 
--- src/lib.rt:257:9
 small-word-requires : tie.Need-small-word-requires
 small-word-requires c κs = search needs
 
--- src/lib.rt:259:9
 returns : tie.Need-returns
 returns c = search name-word depth 7
 
--- src/lib.rt:266:9
 returns-2 : tie.Need-returns-2
 unfolding nameLength
 returns-2 c = search name-new depth 7
 
--- src/lib.rt:251:1
 returns-3 : tie.Need-returns-3
 unfolding nameLength
 returns-3 c = search name-long depth 7

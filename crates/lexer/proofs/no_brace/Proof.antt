@@ -2,10 +2,7 @@ use mathlib.Core.Path.{refl}
 use Rattle.lexer.specs.Text.{noBrace}
 use Rattle.lexer.proofs.no_brace.Statement.{statement}
 use Rattle.lexer.proofs.no_brace.Tie as tie
-use Rattle.lexer.proofs.no_brace.Reads as reads
-use Rattle.lexer.proofs.no_brace.Lts as lts
 
--- src/lib.rt:67:1
 returns : tie.Need-returns
 unfolding noBrace
 returns c = refl

@@ -1,37 +1,26 @@
-use Rattle.lexer.proofs.Tokens.{other-string, other-most, other-least, other-wrong}
 use borrow.Author.Needs.{needs}
+use Rattle.lexer.proofs.Tokens.{other-string, other-most, other-least, other-wrong}
 use Rattle.lexer.proofs.other.Statement.{statement}
 use Rattle.lexer.proofs.other.Tie as tie
-use Rattle.lexer.proofs.other.Reads as reads
-use Rattle.lexer.proofs.other.Lts as lts
-use Rattle.lexer.proofs.order.Reads as order-reads
-use Rattle.lexer.proofs.string.Reads as string-reads
 
--- src/lib.rt:422:9
 string-requires : tie.Need-string-requires
 string-requires c κs = search needs
 
--- src/lib.rt:422:9
 returns : tie.Need-returns
 returns c = search other-string depth 5
 
--- src/lib.rt:425:9
 order-requires : tie.Need-order-requires
 order-requires c κs = search needs
 
--- src/lib.rt:425:9
 returns-2 : tie.Need-returns-2
 returns-2 c = search other-most depth 5
 
--- src/lib.rt:428:9
 order-requires-2 : tie.Need-order-requires-2
 order-requires-2 c κs = search needs
 
--- src/lib.rt:428:9
 returns-3 : tie.Need-returns-3
 returns-3 c = search other-least depth 5
 
--- src/lib.rt:417:1
 returns-4 : tie.Need-returns-4
 returns-4 c = search other-wrong depth 6
 

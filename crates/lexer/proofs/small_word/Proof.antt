@@ -1,61 +1,45 @@
+use borrow.Author.Needs.{needs}
 use Rattle.lexer.specs.Marks.{smallWords}
 use Rattle.lexer.proofs.Words.{word-none, word-or}
-use borrow.Author.Needs.{needs}
 use Rattle.lexer.proofs.small_word.Statement.{statement}
 use Rattle.lexer.proofs.small_word.Tie as tie
-use Rattle.lexer.proofs.small_word.Reads as reads
-use Rattle.lexer.proofs.small_word.Lts as lts
-use Rattle.lexer.proofs.word_or.Reads as word-or-reads
 
--- src/lib.rt:214:21
 slice-aggregate-word-or : tie.Need-slice-aggregate-word-or
 slice-aggregate-word-or c = search needs
 
--- src/lib.rt:214:9
 word-or-requires : tie.Need-word-or-requires
 word-or-requires c κs = search needs
 
--- src/lib.rt:215:21
 slice-aggregate-word-or-2 : tie.Need-slice-aggregate-word-or-2
 slice-aggregate-word-or-2 c = search needs
 
--- src/lib.rt:215:9
 word-or-requires-2 : tie.Need-word-or-requires-2
 word-or-requires-2 c κs = search needs
 
--- src/lib.rt:216:21
 slice-aggregate-word-or-3 : tie.Need-slice-aggregate-word-or-3
 slice-aggregate-word-or-3 c = search needs
 
--- src/lib.rt:216:9
 word-or-requires-3 : tie.Need-word-or-requires-3
 word-or-requires-3 c κs = search needs
 
--- src/lib.rt:217:21
 slice-aggregate-word-or-4 : tie.Need-slice-aggregate-word-or-4
 slice-aggregate-word-or-4 c = search needs
 
--- src/lib.rt:217:9
 word-or-requires-4 : tie.Need-word-or-requires-4
 word-or-requires-4 c κs = search needs
 
--- src/lib.rt:218:21
 slice-aggregate-word-or-5 : tie.Need-slice-aggregate-word-or-5
 slice-aggregate-word-or-5 c = search needs
 
--- src/lib.rt:218:9
 word-or-requires-5 : tie.Need-word-or-requires-5
 word-or-requires-5 c κs = search needs
 
--- src/lib.rt:219:13
 slice-aggregate-word-or-6 : tie.Need-slice-aggregate-word-or-6
 slice-aggregate-word-or-6 c = search needs
 
--- src/lib.rt:219:5
 word-or-requires-6 : tie.Need-word-or-requires-6
 word-or-requires-6 c κs = search needs
 
--- src/lib.rt:211:1
 returns : tie.Need-returns
 unfolding smallWords
 returns c = search (word-or, word-none) depth 16

@@ -1,23 +1,17 @@
-use Rattle.lexer.proofs.Tokens.{found-is}
 use borrow.Author.Needs.{needs}
+use Rattle.lexer.proofs.Tokens.{found-is}
 use Rattle.lexer.proofs.valued.Statement.{statement}
 use Rattle.lexer.proofs.valued.Tie as tie
-use Rattle.lexer.proofs.valued.Reads as reads
-use Rattle.lexer.proofs.valued.Lts as lts
 
--- src/lib.rt:306:26
 enum-known-v : tie.Need-enum-known-v
 enum-known-v c = search needs
 
--- src/lib.rt:312:33
 enum-told : tie.Need-enum-told
 enum-told c = search needs
 
--- src/lib.rt:302:1
 returns : tie.Need-returns
 returns c = search found-is depth 5
 
--- src/lib.rt:302:1
 returns-2 : tie.Need-returns-2
 returns-2 c = search found-is depth 5
 

@@ -1,41 +1,29 @@
-use Rattle.lexer.proofs.Tokens.{word-mark, word-wrong}
 use borrow.Author.Needs.{needs}
+use Rattle.lexer.proofs.Tokens.{word-mark, word-wrong}
 use Rattle.lexer.proofs.word.Statement.{statement}
 use Rattle.lexer.proofs.word.Tie as tie
-use Rattle.lexer.proofs.word.Reads as reads
-use Rattle.lexer.proofs.word.Lts as lts
-use Rattle.lexer.proofs.capital_word.Reads as capital-word-reads
-use Rattle.lexer.proofs.run_length.Reads as run-length-reads
 
--- src/lib.rt:284:9
 run-length-requires : tie.Need-run-length-requires
 run-length-requires c κs = search needs
 
--- src/lib.rt:285:15
 add-end : tie.Need-add-end
 add-end c = search needs
 
--- src/lib.rt:286:26
 sub-capital-word : tie.Need-sub-capital-word
 sub-capital-word c = search needs
 
--- src/lib.rt:286:26
 part-capital-word-start : tie.Need-part-capital-word-start
 part-capital-word-start c = search needs
 
--- src/lib.rt:286:26
 part-capital-word-end : tie.Need-part-capital-word-end
 part-capital-word-end c = search needs
 
--- src/lib.rt:286:9
 capital-word-requires : tie.Need-capital-word-requires
 capital-word-requires c κs = search needs
 
--- src/lib.rt:288:9
 returns : tie.Need-returns
 returns c = search word-mark depth 7
 
--- src/lib.rt:280:1
 returns-2 : tie.Need-returns-2
 returns-2 c = search word-wrong depth 7
 

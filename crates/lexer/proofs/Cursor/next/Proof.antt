@@ -1,37 +1,27 @@
 use Prim.Native.Nat.{_+_}
 use native.Mathlib.Omega.{arith}
-use Rattle.lexer.proofs.Stream.{next-end, next-token, size-most}
 use borrow.Author.Needs.{needs}
+use Rattle.lexer.proofs.Stream.{next-end, next-token, size-most}
 use Rattle.lexer.proofs.Cursor.next.Statement.{statement}
 use Rattle.lexer.proofs.Cursor.next.Tie as tie
-use Rattle.lexer.proofs.Cursor.next.Reads as reads
-use Rattle.lexer.proofs.Cursor.next.Lts as lts
-use Rattle.lexer.proofs.run_length.Reads as run-length-reads
-use Rattle.lexer.proofs.token_at.Reads as token-at-reads
 
--- src/lib.rt:487:13
 run-length-requires : tie.Need-run-length-requires
 run-length-requires c κs = search needs
 
--- src/lib.rt:488:18
 add-at : tie.Need-add-at
 add-at c = search needs
 
--- src/lib.rt:490:13
 returns : tie.Need-returns
 returns c = search next-end depth 6
 
--- src/lib.rt:496:13
 token-at-requires : tie.Need-token-at-requires
 token-at-requires c κs = search needs
 
--- src/lib.rt:498:18
 add-on : tie.Need-add-on
 add-on c =
     let d = c .before .before in
     omega (arith, size-most (d .before .before .before .args .s .now) (d .before .before .before .args .self .at + d .before .run-length .result) (c .before .token-at .result) (d .if1 .left) (c .before .token-at .ensures))
 
--- src/lib.rt:483:5
 returns-2 : tie.Need-returns-2
 returns-2 c = search next-token depth 7
 

@@ -2,10 +2,7 @@ use mathlib.Core.Path.{refl}
 use Rattle.rules.specs.Limits.{tokenLimit}
 use Rattle.lexer.proofs.Source.start.Statement.{statement}
 use Rattle.lexer.proofs.Source.start.Tie as tie
-use Rattle.lexer.proofs.Source.start.Reads as reads
-use Rattle.lexer.proofs.Source.start.Lts as lts
 
--- src/lib.rt:539:5
 returns : tie.Need-returns
 unfolding tokenLimit
 returns c = refl
