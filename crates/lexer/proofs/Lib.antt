@@ -6,3 +6,4 @@ mod Sizes
 mod Stream
 pub mod Calls
 pub mod Strings
+mod Cases
