@@ -19,7 +19,7 @@ use Rattle.lexer.specs.declared.Token.the-variants.{Mark, Name, Literal,
 use Rattle.lexer.specs.declared.Step.{Step}
 use Rattle.lexer.specs.declared.Source.{Source}
 use Rattle.lexer.specs.View.{kindOf, Part, Within, isLast, Placed, Reads, comingAt, startOf, Turns}
-use Rattle.lexer.proofs.Sizes.{true-false}
+use Rattle.lexer.proofs.Runs.{true-false}
 
 -- ---- a token without the definition
 
@@ -122,6 +122,7 @@ module _ (s : List ℕ) (self : Source) (r : Step) (f : Bool) where
         within = tt;
         placed = record {
           low = w .placed .low;
+          high = w .placed .high;
           ends = λ q. true-false (let b : wrong Full ≡ end = q in cc);
           inside = λ _. w .placed .inside (λ q. true-false (sym (ap uncounted q) ∙ u));
           moves = λ q. true-false q;

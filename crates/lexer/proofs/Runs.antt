@@ -9,9 +9,12 @@ use borrow.Author.Tests.{not-true, not-false}
 use lib.ListN.{length, getD, take, drop, drop-of-length-le, length-drop}
 use lib.Seq.{drop-cons, drop-drop, take-all, take-nil}
 use Rattle.lexer.specs.declared.Class.{Class}
-use Rattle.lexer.specs.declared.Class.the-variants.{NoBrace}
 use Rattle.lexer.specs.Text.{noBrace, front, behind}
-use Rattle.lexer.specs.View.{classOf, RunLength, partOf}
+use Rattle.lexer.specs.View.{partOf}
+use Rattle.lexer.specs.Inner.{classOf, RunLength}
+
+pub true-false : {A : Type 0} → _≡_ {A = Bool} true false → A
+true-false e = absurd (let z : _≡_ {A = ℕ} 0 1 = cc in omega arith)
 
 pub drop-here : (s : List ℕ) (i : ℕ) → i < length s → drop i s ≡ getD s i 0 ∷ drop (i + 1) s
 drop-here s i h = rw (add-one i, drop-cons s i 0)

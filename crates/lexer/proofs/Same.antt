@@ -8,20 +8,20 @@ use borrow.Author.Tests.{eq-eqb, ne-eqb, eqb-true}
 use lib.Dec.{eqb}
 use lib.ListN.{length, getD, drop, drop-of-length-le}
 use Rattle.lexer.specs.Text.{sameBytes}
-use Rattle.lexer.proofs.Runs.{drop-here}
+use Rattle.lexer.proofs.Runs.{true-false, drop-here}
 
 -- ---- for callers
 
 pub same-bytes-equal : (a b : List ℕ) → sameBytes a b ≡ true → a ≡ b
 unfolding sameBytes
 same-bytes-equal [] [] e = refl
-same-bytes-equal [] (y ∷ b) e = absurd (let z : _≡_ {A = ℕ} 0 1 = cc in omega arith)
-same-bytes-equal (x ∷ a) [] e = absurd (let z : _≡_ {A = ℕ} 0 1 = cc in omega arith)
+same-bytes-equal [] (y ∷ b) e = true-false (sym e)
+same-bytes-equal (x ∷ a) [] e = true-false (sym e)
 same-bytes-equal (x ∷ a) (y ∷ b) e = go (eqb x y) refl (same-bytes-equal a b) e
   where
     go : (u : Bool) → eqb x y ≡ u → (sameBytes a b ≡ true → a ≡ b) → elim u as (λ _. Bool) [ true ↦ sameBytes a b | false ↦ false ] ≡ true → x ∷ a ≡ y ∷ b
     go true h r e = let q = eqb-true x y h in let p = r e in cc
-    go false h r e = absurd (let z : _≡_ {A = ℕ} 0 1 = cc in omega arith)
+    go false h r e = true-false (sym e)
 
 pub same-bytes-refl : (a : List ℕ) → sameBytes a a ≡ true
 unfolding sameBytes

@@ -16,7 +16,7 @@ use Rattle.value.specs.Literal.{isDigit, literalOf}
 use Rattle.lexer.specs.Marks.{Word, atMost, atLeast}
 use Rattle.lexer.specs.Text.{Kind, mark, name, string, wrong, sameBytes, among, Step, step, isWrong, isSmall, isCapital, isSign, inName, inString, noBrace, front, behind, pointed, literalKind, valued, nameStep, wordStep, literalStep, strange, wellShaped, stringStep, orderStep, stepAt}
 use Rattle.lexer.specs.View.{isLast}
-use Rattle.lexer.proofs.Runs.{front-length, front-first, behind-drop}
+use Rattle.lexer.proofs.Runs.{true-false, front-length, front-first, behind-drop}
 
 -- a token that is last is a refused one
 abbrev pub Proper : Kind → Type 0
@@ -29,9 +29,6 @@ pub record Sized (p : ℕ) (l : List ℕ) (x : Step) : Type 0 where
   pub high : x .token .place < p + length l
   pub last : Proper (x .token .kind)
   pub good : isWrong (x .token .kind) ≡ false → (x .token .place ≡ p) × (1 ≤ x .size) × (x .size ≤ length l)
-
-pub true-false : {A : Type 0} → _≡_ {A = Bool} true false → A
-true-false e = absurd (let z : _≡_ {A = ℕ} 0 1 = cc in omega arith)
 
 -- one of two
 either : (p : ℕ) (l : List ℕ) (t : Bool) (x y : Step) → (t ≡ true → Sized p l x) → (t ≡ false → Sized p l y) → Sized p l (cond t x y)

@@ -11,9 +11,10 @@ use Rattle.lexer.specs.Text.{Kind, end, isBlank, isWrong, front, step, s
 use Rattle.lexer.specs.declared.Class.the-variants.{Blank}
 use Rattle.lexer.specs.declared.Found.{Found}
 use Rattle.lexer.specs.declared.Token.the-variants.{End}
-use Rattle.lexer.specs.View.{RunLength, kindOf, Gives, isLast, Placed, Reads}
-use Rattle.lexer.proofs.Runs.{drop-here}
-use Rattle.lexer.proofs.Sizes.{true-false, step-sized}
+use Rattle.lexer.specs.View.{kindOf, isLast, Placed, Reads}
+use Rattle.lexer.specs.Inner.{RunLength, Gives}
+use Rattle.lexer.proofs.Runs.{true-false, drop-here}
+use Rattle.lexer.proofs.Sizes.{step-sized}
 
 -- ---- the definition by positions
 
@@ -95,6 +96,7 @@ module _ (s : List ℕ) (at : ℕ) (f : Found) (h : at < length s) (v : Gives s 
       let q : kindOf s (f .token) ≡ end → ⊥ = λ e. wrong-not-end _ (z .last) (sym kind-is ∙ e) in
       record {
         low = omega (arith, place-is, z .low);
+        high = λ _. omega (arith, place-is, z .high, length-drop (at + 1) s);
         ends = λ e. absurd (q e);
         inside = λ _. omega (arith, place-is, z .high, length-drop (at + 1) s);
         moves = λ e.
@@ -118,6 +120,7 @@ module _ (s : List ℕ) (from n : ℕ) (w : RunLength s from Blank n) where
     within = tt;
     placed = record {
       low = omega arith;
+      high = λ g. omega (arith, w .bound);
       ends = λ _ g. omega (arith, w .bound);
       inside = λ f. absurd (f refl);
       moves = λ e. true-false e;

@@ -17,7 +17,8 @@ use Rattle.lexer.specs.Marks.{Word, atMost, atLeast, capitalWords, small
 use Rattle.lexer.specs.Text.{Kind, mark, name, literal, string, end, wrong, Token, Step, step, sameBytes, among, isBlank, isSmall, isCapital, isSign, inName, inString, noBrace, front, behind, pointed, literalKind, valued, nameStep, wordStep, literalStep, strange, wellShaped, stringStep, orderStep, stepAt, isWrong, tokensFrom, uncounted, counted, tokens}
 use Rattle.lexer.specs.declared.Source.{Source}
 use Rattle.lexer.specs.View.{comingAt}
-use Rattle.lexer.proofs.Sizes.{true-false, step-sized}
+use Rattle.lexer.proofs.Runs.{true-false}
+use Rattle.lexer.proofs.Sizes.{step-sized}
 
 -- ---- one token
 

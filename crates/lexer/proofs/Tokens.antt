@@ -24,11 +24,9 @@ use Rattle.lexer.specs.Text.{Kind, mark, name, string, wrong, isSmall, i
 use Rattle.lexer.specs.declared.Class.the-variants.{Digit, InName, Capital, NoBrace, InString}
 use Rattle.lexer.specs.declared.Found.{Found}
 use Rattle.lexer.specs.declared.Token.the-variants.{Mark, Name, Literal, String, Wrong}
-use Rattle.lexer.specs.View.{RunLength, IsWord, partOf, kindOf, Within, Gives, foundOf, PointAfter, fractionStep, otherStep}
-use Rattle.lexer.proofs.Runs.{drop-here, run-is, run-part, run-slice, run-behind}
-
-true-false : {A : Type 0} → _≡_ {A = Bool} true false → A
-true-false e = absurd (let z : _≡_ {A = ℕ} 0 1 = cc in omega arith)
+use Rattle.lexer.specs.View.{partOf, kindOf, Within}
+use Rattle.lexer.specs.Inner.{RunLength, IsWord, Gives, foundOf, PointAfter, fractionStep, otherStep}
+use Rattle.lexer.proofs.Runs.{true-false, drop-here, run-is, run-part, run-slice, run-behind}
 
 -- ---- names and words
 

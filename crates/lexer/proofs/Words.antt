@@ -6,7 +6,7 @@ use Prim.Native.Nat.{ℕ}
 use lib.Dec.{eqb}
 use Rattle.lexer.specs.Marks.{Word}
 use Rattle.lexer.specs.Text.{Kind, mark, sameBytes, among}
-use Rattle.lexer.specs.View.{IsWord}
+use Rattle.lexer.specs.Inner.{IsWord}
 
 pub word-none : (l : List ℕ) → IsWord [] l 0
 unfolding among

@@ -1,49 +1,24 @@
--- What the code's answers are in the definition's terms, and what each call promises: a name or a string is a part of the
--- text. Assumes nothing.
+-- What the public calls answer, in the definition's terms: a name or a string is a part of the text. Assumes nothing.
 use mathlib.Core.Path.{_≡_}
 use mathlib.Core.Bool.{Bool, true, false, cond}
-use mathlib.Core.List.{List, [], _∷_, _++_}
-use Prim.Native.Nat.{ℕ, _+_, _-_, _<_, _≤_}
-use lib.Dec.{eqb}
+use mathlib.Core.List.{List, [], _∷_}
+use Prim.Native.Nat.{ℕ, _+_, _<_, _≤_}
 use lib.ListN.{length, take, drop}
-use Rattle.rules.specs.declared.Refusal.the-variants.{StrangeByte, Unfit}
 use Rattle.rules.specs.Limits.{nameLength, stringLength, tokenLimit}
-use Rattle.value.specs.declared.Fit.{Fit}
-use Rattle.value.specs.declared.Fit.the-variants.{Fits, TooBig}
 use Rattle.value.specs.Decimal.{Valid}
-use Rattle.value.specs.Literal.{isDigit}
-use Rattle.lexer.specs.Marks.{Word, atMost, atLeast}
 use Rattle.lexer.specs.Text as Text
-use Rattle.lexer.specs.Text.{Kind, mark, name, literal, string, end, wrong, isBlank, inName, isCapital, noBrace, inString, among, step, pointed, valued, tokensFrom, counted, front, behind, stringStep, orderStep}
-use Rattle.lexer.specs.declared.Class.{Class}
-use Rattle.lexer.specs.declared.Class.the-variants.{Blank, Digit, InName, Capital, NoBrace, InString}
+use Rattle.lexer.specs.Text.{Kind, mark, name, literal, string, end, wrong, tokensFrom, counted}
 use Rattle.lexer.specs.declared.Token.{Token}
 use Rattle.lexer.specs.declared.Token.the-variants.{Mark, Name, Literal, String, End, Wrong}
-use Rattle.lexer.specs.declared.Found.{Found}
 use Rattle.lexer.specs.declared.Step.{Step}
 use Rattle.lexer.specs.declared.Source.{Source}
 use Rattle.lexer.specs.declared.Turn.{Turn}
 
--- ---- bytes and parts
-
-abbrev pub classOf : Class → ℕ → Bool
-classOf Blank = isBlank
-classOf Digit = isDigit
-classOf InName = inName
-classOf Capital = isCapital
-classOf NoBrace = noBrace
-classOf InString = inString
-
--- n bytes of the class k stand from `at` on
-pub record RunLength (s : List ℕ) (at : ℕ) (k : Class) (n : ℕ) : Type 0 where
-  pub count : n ≡ length (front (classOf k) (drop at s))
-  pub bound : n ≤ length s - at
+-- ---- tokens
 
 -- the n bytes of the text from a on, or as many of them as it has
 abbrev pub partOf : List ℕ → ℕ → ℕ → List ℕ
 partOf s a n = take n (drop a s)
-
--- ---- tokens
 
 abbrev pub kindOf : List ℕ → Token → Kind
 kindOf s (Mark c) = mark c
@@ -69,37 +44,6 @@ Within s p (String a n) = Part s (p + 1) stringLength a n
 Within s p End = Unit {0}
 Within s p (Wrong r) = Unit {0}
 
--- the code found what the definition has
-pub record Gives (s : List ℕ) (r : Found) (x : Text.Step) : Type 0 where
-  pub same : step (kindOf s (r .token)) (r .place) (r .size) ≡ x
-  pub within : Within s (r .place) (r .token)
-
--- a literal's value, or that there is none
-abbrev pub foundOf : Bool → Fit → ℕ → ℕ → Found
-foundOf w (Fits v) at n = record { token = Literal w v; place = at; size = n }
-foundOf w TooBig at n = record { token = Wrong Unfit; place = at; size = n }
-
--- w is the number of the word that l is, or 0 if it is none of them
-pub record IsWord (ws : List Word) (l : List ℕ) (w : ℕ) : Type 0 where
-  pub is : (k : Kind) → among ws l k ≡ cond (eqb w 0) k (mark w)
-
--- w digits stand from `at` on, and behind them a point and a digit
-pub record PointAfter (s : List ℕ) (at w : ℕ) : Type 0 where
-  pub digits : RunLength s at Digit w
-  pub point : pointed (drop (at + w) s) ≡ true
-  pub inside : at + w < length s
-
--- parts of the definition's `literalStep` and `stepAt`
-abbrev pub fractionStep : ℕ → List ℕ → Text.Step
-fractionStep p l = valued false p (front isDigit l ++ (46 ∷ front isDigit (drop 1 (behind isDigit l))))
-
-abbrev pub otherStep : ℕ → ℕ → List ℕ → Text.Step
-otherStep p b t =
-    cond (eqb b 123) (stringStep p (front noBrace t) (behind noBrace t))
-    (cond (eqb b 60) (orderStep p atMost t)
-    (cond (eqb b 62) (orderStep p atLeast t)
-    (step (wrong StrangeByte) p 0)))
-
 -- ---- the cursor
 
 -- no token comes after
@@ -111,10 +55,11 @@ isLast (string l) = false
 isLast end = true
 isLast (wrong r) = true
 
--- where a token k from `at` on stands, and the cursor past it: places rise; the end stands at the text's length, any
--- other token in the text
+-- where a token k from `at` on stands, and the cursor past it: places rise; the end stands at the text's length, any other
+-- token in the text
 pub record Placed (s : List ℕ) (at : ℕ) (k : Kind) (place next : ℕ) : Type 0 where
   pub low : at ≤ place
+  pub high : at ≤ length s → place ≤ length s
   pub ends : k ≡ end → at ≤ length s → place ≡ length s
   pub inside : (k ≡ end → ⊥) → place < length s
   pub moves : isLast k ≡ false → (place < next) × (next ≤ length s)

@@ -8,7 +8,8 @@ ghost use lib.ListN.{length, getD, take, drop};
 ghost use Rattle.value.specs.Literal.{isDigit};
 ghost use Rattle.lexer.specs.Marks.{capitalWords, smallWords};
 ghost use Rattle.lexer.specs.Text.{isBlank, isSmall, isCapital, inName, isSign, inString, noBrace, front, behind, sameBytes, pointed as pointedBytes, nameStep, wordStep, literalStep, stringStep, orderStep, stepAt, uncounted};
-ghost use Rattle.lexer.specs.View.{classOf, RunLength, partOf, Gives, foundOf, PointAfter, fractionStep, otherStep, IsWord, Reads, startOf, Turns, kindOf};
+ghost use Rattle.lexer.specs.View.{partOf, Reads, startOf, Turns, kindOf};
+ghost use Rattle.lexer.specs.Inner.{classOf, RunLength, Gives, foundOf, PointAfter, fractionStep, otherStep, IsWord};
 
 pub mod marks;
 
@@ -26,7 +27,7 @@ pub enum Token {
 // ---- bytes
 
 // What a byte may be part of.
-pub enum Class {
+enum Class {
     Blank,
     Digit,
     InName,
@@ -222,10 +223,10 @@ fn small_word(run: &[u8]) -> u8
 // ---- tokens
 
 // A token, its place, and how many bytes it has.
-pub struct Found {
-    pub token: Token,
-    pub place: usize,
-    pub size: usize,
+struct Found {
+    token: Token,
+    place: usize,
+    size: usize,
 }
 
 // A run of letters and digits: one of the words, or a name that is not too long.

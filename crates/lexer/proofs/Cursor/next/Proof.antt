@@ -1,4 +1,3 @@
-use Prim.Native.Nat.{_+_}
 use native.Mathlib.Omega.{arith}
 use borrow.Author.Needs.{needs}
 use Rattle.lexer.proofs.Stream.{next-end, next-token, size-most}
@@ -18,9 +17,7 @@ token-at-requires : tie.Need-token-at-requires
 token-at-requires c κs = search needs
 
 add-on : tie.Need-add-on
-add-on c =
-    let d = c .before .before in
-    omega (arith, size-most (d .before .before .before .args .s .now) (d .before .before .before .args .self .at + d .before .run-length .result) (c .before .token-at .result) (d .if1 .left) (c .before .token-at .ensures))
+add-on c = omega (arith, size-most _ _ _ (c .before .before .if1 .left) (c .before .token-at .ensures))
 
 returns-2 : tie.Need-returns-2
 returns-2 c = search next-token depth 7
