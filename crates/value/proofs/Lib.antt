@@ -5,5 +5,8 @@ pub mod Fractions
 pub mod Fitting
 pub mod Ranges
 pub mod Operations
+pub mod Gathering
 pub mod Reading
 pub mod Writing
+pub mod ReadBack
+pub mod Cases

@@ -14,17 +14,12 @@ use lib.IntN.{pos}
 use Rattle.rules.specs.Limits.{digitLimit}
 use Rattle.value.specs.declared.Fit.{Fit}
 use Rattle.value.specs.declared.Fit.the-variants.{Fits, TooBig}
-use Rattle.value.specs.Decimal.{tenths, fitOf}
+use Rattle.value.specs.declared.Value.{Value}
+use Rattle.value.specs.Decimal.{Valid, tenths, fitOf}
 use Rattle.value.specs.Literal.{isDigit, allDigits, digitOf, numberFrom, before, after, isLiteral, literalOf}
 use Rattle.value.specs.Parts.{partsValue}
-
-and-true : (t : Bool) → (t && true) ≡ t
-and-true true = refl
-and-true false = refl
-
-and-false : (t : Bool) → (t && false) ≡ false
-and-false true = refl
-and-false false = refl
+use Rattle.value.proofs.Fitting.{fitOf-valid}
+use Rattle.value.proofs.Ranges.{and-true, and-false}
 
 -- ---- a digit
 
@@ -225,3 +220,13 @@ module _ (t : List ℕ) (p : ℕ) (at : p ≡ length (before t)) where
   unfolding partsValue literalOf isLiteral
   literal-parts h =
       rw (ne-eqb (length t) (length (before t)) (λ e. omega (arith, at)), le-leb 1 (length (after t)) (omega (arith, long-after)), and-true, is-before, is-after)
+
+-- ---- what is read is a value
+
+pub literal-valid : (t : List ℕ) (v : Value) → literalOf t ≡ Fits v → Valid v
+unfolding literalOf
+literal-valid t v e = go (isLiteral t && leb (length (before t) + length (after t)) digitLimit) e
+  where
+    go : (u : Bool) → cond u (fitOf (tenths (pos (numberFrom 0 (before t ++ after t))) (length (after t)))) TooBig ≡ Fits v → Valid v
+    go true h = fitOf-valid _ v h
+    go false h = absurd (let w : _≡_ {A = ℕ} 0 1 = cc in omega arith)

@@ -110,7 +110,7 @@ unfolding minusSign
 sign-other (pos n) e = refl
 sign-other (negsuc n) e = absurd (subst T e tt)
 
-sign-short : (m : ℤ) → length (minusSign m) ≤ 1
+pub sign-short : (m : ℤ) → length (minusSign m) ≤ 1
 unfolding minusSign
 sign-short (pos n) = omega arith
 sign-short (negsuc n) = omega arith

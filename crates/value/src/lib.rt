@@ -8,7 +8,7 @@ ghost use lib.ListN.{length};
 ghost use lib.IntN.{ℤ, pos, natAbs, _+ℤ_, _-ℤ_, _*ℤ_};
 ghost use Rattle.rules.specs.Limits.{mantissaLimit, scaleLimit};
 ghost use Rattle.value.specs.Decimal.{tenths, withSign, at, choose, fitOf, inRange, ifInRange, sumOf, differenceOf, productOf, negate, isAtMost, isZero, wholeOf, ofWhole};
-ghost use Rattle.value.specs.Gathering.{millionths, ofMillionths};
+ghost use Rattle.value.specs.Gathering.{millionths, ofMillionths, isCount, Gathered};
 ghost use Rattle.value.specs.Literal.{isDigit, allDigits, digitOf, numberFrom, before, literalOf};
 ghost use Rattle.value.specs.Printed.{widthFrom, digits, minusSign, places, printed, shown, Written};
 ghost use Rattle.value.specs.Parts.{partsValue};
@@ -247,6 +247,39 @@ pub fn of_whole(k: i64) -> Value
     ensures { λ r. ⌜ r ≡ ofWhole k ⌝ }
 {
     Value { m: k, s: 0 }
+}
+
+// ---- gathering coefficients
+
+// A count of millionths below 10^15 either side of zero.
+fn is_count(z: i64) -> bool
+    ensures { λ r. ⌜ r ≡ isCount z ⌝ }
+{
+    magnitude(z) < 1000000000000000
+}
+
+// Adds v to element k of the sums, which are counts of millionths, where the sum fits; says whether it did.
+pub fn gather(sums: &mut [i64], k: usize, v: Value) -> bool
+    ensures { λ r. ⌜ Gathered (now (sums .entry)) k v r (now (sums .exit)) ⌝ }
+{
+    if sums.len() <= k {
+        return false;
+    }
+    if !in_range(v) {
+        return false;
+    }
+    let old = sums[k];
+    if !is_count(old) {
+        return false;
+    }
+    let sum = plus(old, aligned(v));
+    match of_millionths(sum) {
+        Fit::Fits(_) => {
+            sums[k] = sum;
+            true
+        }
+        Fit::TooBig => false,
+    }
 }
 
 // ---- reading a literal
