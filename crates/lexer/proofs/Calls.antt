@@ -7,7 +7,6 @@ use Prim.Native.Nat.{ℕ, zero, suc, _+_, _-_, _<_, _≤_}
 use native.Mathlib.Omega.{arith}
 use borrow.Author.Tests.{le-leb, lt-leb}
 use lib.ListN.{length, drop}
-use Rattle.rules.specs.declared.Refusal.{Refusal}
 use Rattle.rules.specs.declared.Refusal.the-variants.{LongText, Full}
 use Rattle.rules.specs.Limits.{byteLimit, nameLength, stringLength}
 use Rattle.value.specs.declared.Value.{Value}
@@ -18,7 +17,7 @@ use Rattle.lexer.specs.declared.Token.{Token}
 use Rattle.lexer.specs.declared.Token.the-variants.{Mark, Name, Literal, String, End, Wrong}
 use Rattle.lexer.specs.declared.Step.{Step}
 use Rattle.lexer.specs.declared.Source.{Source}
-use Rattle.lexer.specs.View.{kindOf, Part, Within, isLast, Placed, Reads, comingAt, startOf, Turns}
+use Rattle.lexer.specs.View.{kindOf, Part, Within, isLast, Reads, comingAt, startOf, Turns}
 use Rattle.lexer.proofs.Runs.{true-false}
 
 -- ---- a token without the definition

@@ -7,7 +7,7 @@ use native.Mathlib.Omega.{arith}
 use lib.ListN.{length, getD, drop, drop-of-length-le, length-drop}
 use lib.Seq.{drop-drop}
 use Rattle.lexer.specs.Text as Text
-use Rattle.lexer.specs.Text.{Kind, end, isBlank, isWrong, front, step, stepAt, tokensFrom}
+use Rattle.lexer.specs.Text.{Kind, end, isBlank, isWrong, front, stepAt, tokensFrom}
 use Rattle.lexer.specs.declared.Class.the-variants.{Blank}
 use Rattle.lexer.specs.declared.Found.{Found}
 use Rattle.lexer.specs.declared.Token.the-variants.{End}

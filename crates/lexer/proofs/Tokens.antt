@@ -7,24 +7,21 @@ use native.Mathlib.Omega.{arith}
 use native.Mathlib.Numerals.{add-one}
 use borrow.Author.Tests.{eq-eqb, ne-eqb, eqb-true, le-leb, lt-leb, leb-true, ltb-true, ltb-false}
 use lib.Dec.{eqb, leb, ltb}
-use lib.IntN.{pos}
 use lib.ListN.{length, getD, take, drop, drop-of-length-le, length-drop}
 use lib.Seq.{drop-drop, take-add, length-take-le}
-use Rattle.rules.specs.declared.Refusal.the-variants.{StrangeByte, Misplaced, BadName, Unfit}
-use Rattle.rules.specs.Limits.{nameLength, stringLength, digitLimit}
-use Rattle.value.specs.declared.Value.{Value}
+use Rattle.rules.specs.declared.Refusal.the-variants.{StrangeByte, Misplaced, BadName}
+use Rattle.rules.specs.Limits.{nameLength, stringLength}
 use Rattle.value.specs.declared.Fit.{Fit}
 use Rattle.value.specs.declared.Fit.the-variants.{Fits, TooBig}
-use Rattle.value.specs.Decimal.{Valid, tenths, fitOf}
-use Rattle.value.specs.Literal.{isDigit, isLiteral, numberFrom, before, after, literalOf}
-use Rattle.value.proofs.Fitting.{fitOf-valid}
+use Rattle.value.specs.Literal.{isDigit, literalOf}
+use Rattle.value.proofs.Reading.{literal-valid}
 use Rattle.lexer.specs.Marks.{capitalWords, smallWords}
 use Rattle.lexer.specs.Text as Text
-use Rattle.lexer.specs.Text.{Kind, mark, name, string, wrong, isSmall, isCapital, isSign, inName, inString, noBrace, front, behind, pointed, step, literalKind, valued, nameStep, wordStep, literalStep, strange, wellShaped, stringStep, orderStep, stepAt}
+use Rattle.lexer.specs.Text.{mark, name, string, wrong, isSmall, isCapital, isSign, inName, inString, noBrace, front, behind, pointed, step, literalKind, valued, nameStep, wordStep, literalStep, strange, wellShaped, stringStep, orderStep, stepAt}
 use Rattle.lexer.specs.declared.Class.the-variants.{Digit, InName, Capital, NoBrace, InString}
 use Rattle.lexer.specs.declared.Found.{Found}
-use Rattle.lexer.specs.declared.Token.the-variants.{Mark, Name, Literal, String, Wrong}
-use Rattle.lexer.specs.View.{partOf, kindOf, Within}
+use Rattle.lexer.specs.declared.Token.the-variants.{Mark, Name, String, Wrong}
+use Rattle.lexer.specs.View.{partOf}
 use Rattle.lexer.specs.Inner.{RunLength, IsWord, Gives, foundOf, PointAfter, fractionStep, otherStep}
 use Rattle.lexer.proofs.Runs.{true-false, drop-here, run-is, run-part, run-slice, run-behind}
 
@@ -109,14 +106,6 @@ module _ (s : List ℕ) (at : ℕ) where
 
 pub found-is : (w : Bool) (v u : Fit) (at n : ℕ) (r : Found) → v ≡ u → r ≡ foundOf w u at n → r ≡ foundOf w v at n
 found-is w v u at n r e h = rw e h
-
-literal-valid : (l : List ℕ) (v : Value) → literalOf l ≡ Fits v → Valid v
-unfolding literalOf
-literal-valid l v e = go (isLiteral l && leb (length (before l) + length (after l)) digitLimit) e
-  where
-    go : (u : Bool) → cond u (fitOf (tenths (pos (numberFrom 0 (before l ++ after l))) (length (after l)))) TooBig ≡ Fits v → Valid v
-    go true e = fitOf-valid _ v e
-    go false e = absurd (let z : _≡_ {A = ℕ} 0 1 = cc in omega arith)
 
 -- the value of the literal l
 value-is : (s l : List ℕ) (w : Bool) (v : Fit) (at n : ℕ) (r : Found) → v ≡ literalOf l → n ≡ length l → r ≡ foundOf w v at n → Gives s r (valued w at l)

@@ -4,7 +4,7 @@ ghost use mathlib.Core.Path.{_≡_};
 ghost use mathlib.Core.Bool.{cond};
 ghost use mathlib.Core.List.{[]};
 ghost use Prim.Native.Nat.{_+_, _<_};
-ghost use lib.ListN.{length, getD, take, drop};
+ghost use lib.ListN.{length, getD, drop};
 ghost use Rattle.value.specs.Literal.{isDigit};
 ghost use Rattle.lexer.specs.Marks.{capitalWords, smallWords};
 ghost use Rattle.lexer.specs.Text.{isBlank, isSmall, isCapital, inName, isSign, inString, noBrace, front, behind, sameBytes, pointed as pointedBytes, nameStep, wordStep, literalStep, stringStep, orderStep, stepAt, uncounted};
