@@ -70,9 +70,6 @@ no-blank (b ∷ t) c r e = go (isBlank b) refl (no-blank t c r) e
 
 -- ---- where a token stands
 
-end-last : (k : Kind) → k ≡ end → isLast k ≡ false → ⊥
-end-last k e h = true-false (ap isLast (sym e) ∙ h)
-
 wrong-not-end : (k : Kind) → isLast k ≡ isWrong k → k ≡ end → ⊥
 unfolding isWrong
 wrong-not-end k h e = true-false (ap isLast (sym e) ∙ h ∙ ap isWrong e)

@@ -211,9 +211,6 @@ module _ (s l : List ℕ) (at : ℕ) where
   unfolding stringStep
   string-is e = rw (run-behind s (at + 1) NoBrace (length l) (inner-run e), ← e, ← shape-is s l (at + 1 + length l), ← add-one at) refl
 
-  pub string-fits : Inner → at < length s → at + 1 + length l ≤ length s
-  string-fits e h = omega (arith, inner-run e .bound)
-
   module _ (m : ℕ) where
     pub string-strange : Inner → RunLength l 0 InString m → m < length l → Gives s (record { token = Wrong StrangeByte; place = at + 1 + m; size = 0 }) here
     string-strange e d h = record {

@@ -533,13 +533,12 @@ impl Source {
         ensures { λ r. ⌜ Turns (now (s .entry)) self r ⌝ }
     {
         let left = self.left;
-        let counts = self.counts;
         let c = Cursor { at: self.at };
         let r = c.next(s);
         let token = r.token;
         let on = r.next.at;
         let ends = ends_count(token);
-        let free = !counts | ends;
+        let free = !self.counts | ends;
         if free {
             return Turn {
                 token: token,
