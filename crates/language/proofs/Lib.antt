@@ -10,3 +10,5 @@ pub mod Summed
 pub mod Lines
 pub mod Kept
 pub mod Accepted
+pub mod Each
+pub mod Fields
