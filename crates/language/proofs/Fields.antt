@@ -45,15 +45,18 @@ fields-once (f ∷ fs) (g ∷ gs) r t hf hg e =
 
 -- ---- one line feed, at the end
 
-abbrev NoLineFeed : ℕ → Type 0
+abbrev pub NoLineFeed : ℕ → Type 0
 NoLineFeed b = b ≢ 10
 
-text-line : (f : List ℕ) → Text f → Each NoLineFeed f
+pub text-line : (f : List ℕ) → Text f → Each NoLineFeed f
 text-line f h = each-all f (λ b v. omega (arith, v .least)) h
 
-pub fields-line : (fs : List (List ℕ)) → Each Text fs → (s : List ℕ) × (fields fs ≡ s ++ (10 ∷ [])) × Each (λ b. b ≢ 10) s
+pub fields-line : (fs : List (List ℕ)) → Each Text fs → (s : List ℕ) × (fields fs ≡ s ++ (10 ∷ [])) × Each NoLineFeed s
 unfolding fields
 fields-line [] h = ([], refl, each-nil)
 fields-line (f ∷ fs) h =
-    let k = fields-line fs (each-tail f fs h) in
-    (9 ∷ (f ++ k .0), ap (λ r. 9 ∷ (f ++ r)) (k .1) ∙ ap (λ r. 9 ∷ r) (sym (append-assoc f (k .0) (10 ∷ []))), each-cons 9 (f ++ k .0) (omega arith) (each-append f (k .0) (text-line f (each-head f fs h)) (k .2)))
+    let k = fields-line fs (each-tail f fs h) in (
+      9 ∷ (f ++ k .0),
+      ap (λ r. 9 ∷ r) (ap (λ r. f ++ r) (k .1) ∙ sym (append-assoc f (k .0) (10 ∷ []))),
+      each-cons 9 (f ++ k .0) (omega arith) (each-append f (k .0) (text-line f (each-head f fs h)) (k .2)),
+    )

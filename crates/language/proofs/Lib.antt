@@ -12,3 +12,5 @@ pub mod Kept
 pub mod Accepted
 pub mod Each
 pub mod Fields
+pub mod Figures
+pub mod Printing
