@@ -5,7 +5,7 @@ use mathlib.Core.List.{List, [], _∷_, _++_, append-assoc, head-eq-of-cons-eq, 
 use Prim.Native.Nat.{ℕ, _<_}
 use native.Mathlib.Omega.{arith}
 use lib.Dec.{lit<}
-use Rattle.language.specs.Proper.{Each, Visible, Text}
+use Rattle.language.specs.Proper.{Each, Text}
 use Rattle.language.specs.Listing.{fields}
 use Rattle.language.proofs.Each.{each-nil, each-cons, each-head, each-tail, each-append, each-all}
 

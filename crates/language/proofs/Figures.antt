@@ -1,16 +1,16 @@
 -- Numbers and values as they are printed: which bytes they have, and that printing tells them apart. Assumes nothing.
 use mathlib.Core.Path.{_≡_, refl, sym, _∙_, ap, subst}
 use mathlib.Core.Option.{Option, none, some}
-use mathlib.Core.List.{List, [], _∷_, _++_, map, append-nil, head-eq-of-cons-eq, tail-eq-of-cons-eq}
-use Prim.Native.Nat.{ℕ, zero, suc, _+_, _/_, _%_, _^_, _≤_}
+use mathlib.Core.List.{List, [], _∷_, map, append-nil, head-eq-of-cons-eq, tail-eq-of-cons-eq}
+use Prim.Native.Nat.{ℕ, zero, suc, _/_, _^_, _≤_}
 use native.Mathlib.Omega.{arith}
 use lib.IntN.{ℤ, pos, negsuc, natAbs}
-use Rattle.rules.specs.Limits.{mantissaLimit, scaleLimit}
+use Rattle.rules.specs.Limits.{scaleLimit}
 use Rattle.value.specs.declared.Value.{Value}
 use Rattle.value.specs.Decimal.{Valid, ofWhole}
 use Rattle.value.specs.Printed.{digits, natural, minusSign, places, printed, printedWhole}
 use Rattle.language.specs.Listing.{upperField}
-use Rattle.language.specs.Proper.{Each, Visible, Text, Small, SmallIndex, ValidUpper}
+use Rattle.language.specs.Proper.{Each, Text, Small, SmallIndex, ValidUpper}
 use Rattle.language.proofs.Each.{each-nil, each-cons, each-head, each-tail, each-append, each-all}
 
 -- ---- the bytes

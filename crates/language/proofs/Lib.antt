@@ -12,5 +12,7 @@ pub mod Kept
 pub mod Accepted
 pub mod Each
 pub mod Fields
+pub mod Parts
 pub mod Figures
 pub mod Printing
+pub mod Lengths

@@ -1,8 +1,8 @@
 -- Printing loses nothing: the bytes of a listing are those of no other proper lines. Assumes nothing.
-use mathlib.Core.Path.{_≡_, refl, sym, _∙_, ap, subst}
+use mathlib.Core.Path.{_≡_, refl, sym, _∙_, ap}
 use mathlib.Core.Logic.{_≢_}
 use mathlib.Core.Bool.{Bool, true, false, cond}
-use mathlib.Core.List.{List, [], _∷_, _++_, map, append-assoc, append-nil, head-eq-of-cons-eq, tail-eq-of-cons-eq}
+use mathlib.Core.List.{List, [], _∷_, _++_, append-assoc, append-nil, head-eq-of-cons-eq}
 use Prim.Native.Nat.{ℕ, zero, suc, _<_}
 use native.Mathlib.Omega.{arith}
 use lib.Dec.{lit<}
@@ -13,35 +13,9 @@ use Rattle.value.specs.Printed.{natural, printed, printedWhole}
 use Rattle.language.specs.Listing.{Line, lpLine, rowLine, varLine, colLine, endLine, fields, upperField, bytesOf, bytesOfAll}
 use Rattle.language.specs.Proper.{Each, Visible, Text, Proper}
 use Rattle.language.proofs.Each.{each-nil, each-cons, each-head, each-tail, each-append, each-map}
+use Rattle.language.proofs.Parts.{wordOf, fieldsOf, partsOf, bytes-parts}
 use Rattle.language.proofs.Fields.{NoLineFeed, text-line, fields-once, fields-line}
-use Rattle.language.proofs.Figures.{natural-text, printed-text, whole-text, upper-text, whole-once, natural-once, wholes-once, upper-once}
-
--- ---- a line is its word and its fields
-
-abbrev wordOf : Line → List ℕ
-wordOf (lpLine a b c d s t) = 108 ∷ 112 ∷ []
-wordOf (rowLine n q v s e) = 114 ∷ 111 ∷ 119 ∷ []
-wordOf (varLine n d l u s e) = 118 ∷ 97 ∷ 114 ∷ []
-wordOf (colLine j i v) = 99 ∷ 111 ∷ 108 ∷ []
-wordOf endLine = 101 ∷ 110 ∷ 100 ∷ []
-
-abbrev fieldsOf : Line → List (List ℕ)
-fieldsOf (lpLine a b c d s t) = natural a ∷ natural b ∷ natural c ∷ natural d ∷ s ∷ t ∷ []
-fieldsOf (rowLine n q v s e) = natural n ∷ (cond q 69 76 ∷ []) ∷ printed v ∷ s ∷ map printedWhole e
-fieldsOf (varLine n d l u s e) = natural n ∷ (cond d 68 67 ∷ []) ∷ printed l ∷ upperField u ∷ s ∷ map printedWhole e
-fieldsOf (colLine j i v) = natural j ∷ natural i ∷ printed v ∷ []
-fieldsOf endLine = []
-
-abbrev partsOf : Line → List (List ℕ)
-partsOf l = wordOf l ∷ fieldsOf l
-
-bytes-parts : (l : Line) → bytesOf l ≡ wordOf l ++ fields (fieldsOf l)
-unfolding bytesOf
-bytes-parts (lpLine a b c d s t) = refl
-bytes-parts (rowLine n q v s e) = refl
-bytes-parts (varLine n d l u s e) = refl
-bytes-parts (colLine j i v) = refl
-bytes-parts endLine = refl
+use Rattle.language.proofs.Figures.{natural-text, printed-text, whole-text, upper-text, natural-once, wholes-once, upper-once}
 
 word-text : (l : Line) → Text (wordOf l)
 word-text (lpLine a b c d s t) = each-cons 108 _ (omega arith) (each-cons 112 _ (omega arith) each-nil)
