@@ -7,9 +7,8 @@ use Prim.Native.Nat.{ℕ, zero, suc, _<_}
 use native.Mathlib.Omega.{arith}
 use lib.Dec.{lit<}
 use lib.ListN.{getD, replicate}
-use Rattle.value.specs.declared.Value.{Value}
-use Rattle.value.specs.Decimal.{Valid}
 use Rattle.value.specs.Printed.{natural, printed, printedWhole}
+use Rattle.value.proofs.ReadBack.{printed-unique}
 use Rattle.language.specs.Listing.{Line, lpLine, rowLine, varLine, colLine, endLine, fields, upperField, bytesOf, bytesOfAll}
 use Rattle.language.specs.Proper.{Each, Visible, Text, Proper}
 use Rattle.language.proofs.Each.{each-nil, each-cons, each-head, each-tail, each-append, each-map}
@@ -81,73 +80,72 @@ not-zeros l r a e = let z : _≡_ {A = ℕ} (getD (replicate a 0) 0 0) (getD (by
 apart : {x y : ℕ} {f g : List ℕ} {fs gs : List (List ℕ)} → (x ∷ f) ∷ fs ≡ (y ∷ g) ∷ gs → x ≢ y → ⊥
 apart e h = h (head-eq-of-cons-eq (head-eq-of-cons-eq e))
 
-module _ (printed-injective : (v w : Value) → Valid v → Valid w → printed v ≡ printed w → v ≡ w) where
-  parts-once : (k l : Line) → Proper k → Proper l → partsOf k ≡ partsOf l → k ≡ l
-  parts-once (lpLine a b c d s t) (lpLine a′ b′ c′ d′ s′ t′) h h′ e =
-      let ea : a ≡ a′ = natural-once printed-injective a a′ (h .discrete) (h′ .discrete) (cc) in
-      let eb : b ≡ b′ = natural-once printed-injective b b′ (h .variables) (h′ .variables) (cc) in
-      let ec : c ≡ c′ = natural-once printed-injective c c′ (h .less) (h′ .less) (cc) in
-      let ed : d ≡ d′ = natural-once printed-injective d d′ (h .rows) (h′ .rows) (cc) in
-      cc
-  parts-once (lpLine a b c d s t) (rowLine m p w r y) h h′ e = absurd (apart e (omega arith))
-  parts-once (lpLine a b c d s t) (varLine m p w o r y) h h′ e = absurd (apart e (omega arith))
-  parts-once (lpLine a b c d s t) (colLine k l w) h h′ e = absurd (apart e (omega arith))
-  parts-once (lpLine a b c d s t) endLine h h′ e = absurd (apart e (omega arith))
-  parts-once (rowLine n q v s x) (rowLine m p w r y) h h′ e =
-      let en : n ≡ m = natural-once printed-injective n m (h .number) (h′ .number) (cc) in
-      let eq : q ≡ p = kind-once 69 76 (omega arith) q p (cc) in
-      let ev : v ≡ w = printed-injective v w (h .right) (h′ .right) (cc) in
-      let ex : x ≡ y = wholes-once printed-injective x y (h .element) (h′ .element) (cc) in
-      cc
-  parts-once (rowLine n q v s x) (lpLine a b c d r t) h h′ e = absurd (apart e (omega arith))
-  parts-once (rowLine n q v s x) (varLine m p w o r y) h h′ e = absurd (apart e (omega arith))
-  parts-once (rowLine n q v s x) (colLine k l w) h h′ e = absurd (apart e (omega arith))
-  parts-once (rowLine n q v s x) endLine h h′ e = absurd (apart e (omega arith))
-  parts-once (varLine n q v u s x) (varLine m p w o r y) h h′ e =
-      let en : n ≡ m = natural-once printed-injective n m (h .number) (h′ .number) (cc) in
-      let eq : q ≡ p = kind-once 68 67 (omega arith) q p (cc) in
-      let ev : v ≡ w = printed-injective v w (h .lower) (h′ .lower) (cc) in
-      let eu : u ≡ o = upper-once printed-injective u o (h .upper) (h′ .upper) (cc) in
-      let ex : x ≡ y = wholes-once printed-injective x y (h .element) (h′ .element) (cc) in
-      cc
-  parts-once (varLine n q v u s x) (lpLine a b c d r t) h h′ e = absurd (apart e (omega arith))
-  parts-once (varLine n q v u s x) (rowLine m p w r y) h h′ e = absurd (apart e (omega arith))
-  parts-once (varLine n q v u s x) (colLine k l w) h h′ e = absurd (apart e (omega arith))
-  parts-once (varLine n q v u s x) endLine h h′ e = absurd (apart e (omega arith))
-  parts-once (colLine j i v) (colLine k l w) h h′ e =
-      let ej : j ≡ k = natural-once printed-injective j k (h .variable) (h′ .variable) (cc) in
-      let ei : i ≡ l = natural-once printed-injective i l (h .row) (h′ .row) (cc) in
-      let ev : v ≡ w = printed-injective v w (h .coefficient) (h′ .coefficient) (cc) in
-      cc
-  parts-once (colLine j i v) (lpLine a b c d r t) h h′ e = absurd (apart e (omega arith))
-  parts-once (colLine j i v) (rowLine m p w r y) h h′ e = absurd (apart e (omega arith))
-  parts-once (colLine j i v) (varLine m p w o r y) h h′ e = absurd (apart e (omega arith))
-  parts-once (colLine j i v) endLine h h′ e = absurd (apart e (omega arith))
-  parts-once endLine endLine h h′ e = refl
-  parts-once endLine (lpLine a b c d r t) h h′ e = absurd (apart e (omega arith))
-  parts-once endLine (rowLine m p w r y) h h′ e = absurd (apart e (omega arith))
-  parts-once endLine (varLine m p w o r y) h h′ e = absurd (apart e (omega arith))
-  parts-once endLine (colLine k l w) h h′ e = absurd (apart e (omega arith))
+parts-once : (k l : Line) → Proper k → Proper l → partsOf k ≡ partsOf l → k ≡ l
+parts-once (lpLine a b c d s t) (lpLine a′ b′ c′ d′ s′ t′) h h′ e =
+    let ea : a ≡ a′ = natural-once a a′ (h .discrete) (h′ .discrete) (cc) in
+    let eb : b ≡ b′ = natural-once b b′ (h .variables) (h′ .variables) (cc) in
+    let ec : c ≡ c′ = natural-once c c′ (h .less) (h′ .less) (cc) in
+    let ed : d ≡ d′ = natural-once d d′ (h .rows) (h′ .rows) (cc) in
+    cc
+parts-once (lpLine a b c d s t) (rowLine m p w r y) h h′ e = absurd (apart e (omega arith))
+parts-once (lpLine a b c d s t) (varLine m p w o r y) h h′ e = absurd (apart e (omega arith))
+parts-once (lpLine a b c d s t) (colLine k l w) h h′ e = absurd (apart e (omega arith))
+parts-once (lpLine a b c d s t) endLine h h′ e = absurd (apart e (omega arith))
+parts-once (rowLine n q v s x) (rowLine m p w r y) h h′ e =
+    let en : n ≡ m = natural-once n m (h .number) (h′ .number) (cc) in
+    let eq : q ≡ p = kind-once 69 76 (omega arith) q p (cc) in
+    let ev : v ≡ w = printed-unique v w (h .right) (h′ .right) (cc) in
+    let ex : x ≡ y = wholes-once x y (h .element) (h′ .element) (cc) in
+    cc
+parts-once (rowLine n q v s x) (lpLine a b c d r t) h h′ e = absurd (apart e (omega arith))
+parts-once (rowLine n q v s x) (varLine m p w o r y) h h′ e = absurd (apart e (omega arith))
+parts-once (rowLine n q v s x) (colLine k l w) h h′ e = absurd (apart e (omega arith))
+parts-once (rowLine n q v s x) endLine h h′ e = absurd (apart e (omega arith))
+parts-once (varLine n q v u s x) (varLine m p w o r y) h h′ e =
+    let en : n ≡ m = natural-once n m (h .number) (h′ .number) (cc) in
+    let eq : q ≡ p = kind-once 68 67 (omega arith) q p (cc) in
+    let ev : v ≡ w = printed-unique v w (h .lower) (h′ .lower) (cc) in
+    let eu : u ≡ o = upper-once u o (h .upper) (h′ .upper) (cc) in
+    let ex : x ≡ y = wholes-once x y (h .element) (h′ .element) (cc) in
+    cc
+parts-once (varLine n q v u s x) (lpLine a b c d r t) h h′ e = absurd (apart e (omega arith))
+parts-once (varLine n q v u s x) (rowLine m p w r y) h h′ e = absurd (apart e (omega arith))
+parts-once (varLine n q v u s x) (colLine k l w) h h′ e = absurd (apart e (omega arith))
+parts-once (varLine n q v u s x) endLine h h′ e = absurd (apart e (omega arith))
+parts-once (colLine j i v) (colLine k l w) h h′ e =
+    let ej : j ≡ k = natural-once j k (h .variable) (h′ .variable) (cc) in
+    let ei : i ≡ l = natural-once i l (h .row) (h′ .row) (cc) in
+    let ev : v ≡ w = printed-unique v w (h .coefficient) (h′ .coefficient) (cc) in
+    cc
+parts-once (colLine j i v) (lpLine a b c d r t) h h′ e = absurd (apart e (omega arith))
+parts-once (colLine j i v) (rowLine m p w r y) h h′ e = absurd (apart e (omega arith))
+parts-once (colLine j i v) (varLine m p w o r y) h h′ e = absurd (apart e (omega arith))
+parts-once (colLine j i v) endLine h h′ e = absurd (apart e (omega arith))
+parts-once endLine endLine h h′ e = refl
+parts-once endLine (lpLine a b c d r t) h h′ e = absurd (apart e (omega arith))
+parts-once endLine (rowLine m p w r y) h h′ e = absurd (apart e (omega arith))
+parts-once endLine (varLine m p w o r y) h h′ e = absurd (apart e (omega arith))
+parts-once endLine (colLine k l w) h h′ e = absurd (apart e (omega arith))
 
-  -- a line, and what follows it
-  line-once : (k l : Line) (r t : List ℕ) → Proper k → Proper l → bytesOf k ++ r ≡ bytesOf l ++ t → (k ≡ l) × (r ≡ t)
-  unfolding fields
-  line-once k l r t hk hl e =
-      let e′ : fields (partsOf k) ++ r ≡ fields (partsOf l) ++ t = ap (λ f. 9 ∷ f) (ap (λ f. f ++ r) (sym (bytes-parts k)) ∙ e ∙ ap (λ f. f ++ t) (bytes-parts l)) in
-      let p = fields-once (partsOf k) (partsOf l) r t (parts-text k hk) (parts-text l hl) e′ in
-      (parts-once k l hk hl (p .0), p .1)
+-- a line, and what follows it
+line-once : (k l : Line) (r t : List ℕ) → Proper k → Proper l → bytesOf k ++ r ≡ bytesOf l ++ t → (k ≡ l) × (r ≡ t)
+unfolding fields
+line-once k l r t hk hl e =
+    let e′ : fields (partsOf k) ++ r ≡ fields (partsOf l) ++ t = ap (λ f. 9 ∷ f) (ap (λ f. f ++ r) (sym (bytes-parts k)) ∙ e ∙ ap (λ f. f ++ t) (bytes-parts l)) in
+    let p = fields-once (partsOf k) (partsOf l) r t (parts-text k hk) (parts-text l hl) e′ in
+    (parts-once k l hk hl (p .0), p .1)
 
-  -- bytes after the listing are zero
-  pub printed-once-filled : (ks ls : List Line) (a b : ℕ) → Each Proper ks → Each Proper ls → bytesOfAll ks ++ replicate a 0 ≡ bytesOfAll ls ++ replicate b 0 → ks ≡ ls
-  unfolding bytesOfAll
-  printed-once-filled [] [] a b hk hl e = refl
-  printed-once-filled [] (l ∷ ls) a b hk hl e = absurd (not-zeros l (bytesOfAll ls ++ replicate b 0) a (e ∙ append-assoc (bytesOf l) (bytesOfAll ls) (replicate b 0)))
-  printed-once-filled (k ∷ ks) [] a b hk hl e = absurd (not-zeros k (bytesOfAll ks ++ replicate a 0) b (sym e ∙ append-assoc (bytesOf k) (bytesOfAll ks) (replicate a 0)))
-  printed-once-filled (k ∷ ks) (l ∷ ls) a b hk hl e =
-      let e′ = sym (append-assoc (bytesOf k) (bytesOfAll ks) (replicate a 0)) ∙ e ∙ append-assoc (bytesOf l) (bytesOfAll ls) (replicate b 0) in
-      let p = line-once k l _ _ (each-head k ks hk) (each-head l ls hl) e′ in
-      let q = printed-once-filled ks ls a b (each-tail k ks hk) (each-tail l ls hl) (p .1) in
-      λ i. p .0 i ∷ q i
+-- bytes after the listing are zero
+pub printed-once-filled : (ks ls : List Line) (a b : ℕ) → Each Proper ks → Each Proper ls → bytesOfAll ks ++ replicate a 0 ≡ bytesOfAll ls ++ replicate b 0 → ks ≡ ls
+unfolding bytesOfAll
+printed-once-filled [] [] a b hk hl e = refl
+printed-once-filled [] (l ∷ ls) a b hk hl e = absurd (not-zeros l (bytesOfAll ls ++ replicate b 0) a (e ∙ append-assoc (bytesOf l) (bytesOfAll ls) (replicate b 0)))
+printed-once-filled (k ∷ ks) [] a b hk hl e = absurd (not-zeros k (bytesOfAll ks ++ replicate a 0) b (sym e ∙ append-assoc (bytesOf k) (bytesOfAll ks) (replicate a 0)))
+printed-once-filled (k ∷ ks) (l ∷ ls) a b hk hl e =
+    let e′ = sym (append-assoc (bytesOf k) (bytesOfAll ks) (replicate a 0)) ∙ e ∙ append-assoc (bytesOf l) (bytesOfAll ls) (replicate b 0) in
+    let p = line-once k l _ _ (each-head k ks hk) (each-head l ls hl) e′ in
+    let q = printed-once-filled ks ls a b (each-tail k ks hk) (each-tail l ls hl) (p .1) in
+    λ i. p .0 i ∷ q i
 
-  pub printed-once : (ks ls : List Line) → Each Proper ks → Each Proper ls → bytesOfAll ks ≡ bytesOfAll ls → ks ≡ ls
-  printed-once ks ls hk hl e = printed-once-filled ks ls 0 0 hk hl (append-nil (bytesOfAll ks) ∙ e ∙ sym (append-nil (bytesOfAll ls)))
+pub printed-once : (ks ls : List Line) → Each Proper ks → Each Proper ls → bytesOfAll ks ≡ bytesOfAll ls → ks ≡ ls
+printed-once ks ls hk hl e = printed-once-filled ks ls 0 0 hk hl (append-nil (bytesOfAll ks) ∙ e ∙ sym (append-nil (bytesOfAll ls)))
