@@ -14,3 +14,9 @@ pub mod Kept
 pub mod Accepted
 pub mod Cases
 pub mod Shown
+pub mod Each
+pub mod Fields
+pub mod Parts
+pub mod Figures
+pub mod Printing
+pub mod Lengths

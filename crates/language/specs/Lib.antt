@@ -14,6 +14,7 @@ pub mod Data
 pub mod Model
 pub mod Numbering
 pub mod Listing
+pub mod Proper
 pub mod Answer
 pub mod Computed
 pub mod Written
