@@ -21,7 +21,8 @@ use Rattle.value.specs.Decimal.{Valid, tenths, frac, sumOf, inRange}
 use Rattle.value.specs.Gathering.{millionths, ofMillionths, isFit, countLimit, isCount, gathers, Gathered, Counts}
 use Rattle.value.proofs.Integers.{natAbs-mul}
 use Rattle.value.proofs.Scales.{ten-pos}
-use Rattle.value.proofs.Fractions.{≈-sym, ≈-trans, ⊕-cong, tenths-sum}
+use Rattle.value.specs.FractionLaws.{≈-sym, ≈-trans, ⊕-cong}
+use Rattle.value.proofs.Tenths.{tenths-sum}
 use Rattle.value.proofs.Fitting.{fitOf-exact, fitOf-valid, fitOf-cong, fitOf-≈}
 use Rattle.value.proofs.Ranges.{and-false, and-left, and-right, valid-in-range}
 use Rattle.value.proofs.Operations.{millionths-≈}

@@ -136,17 +136,3 @@ pub withSign-cross : (z : ℤ) (x k n : ℕ) → x * k ≡ natAbs z * n → with
 unfolding withSign
 withSign-cross (pos a) x k n e = ap pos e
 withSign-cross (negsuc a) x k n e = negℤ-*ℤ (pos x) (pos k) ∙ ap (λ (i : ℕ). negℤ (pos i)) e
-
--- ---- ring identities
-
-pub +ℤ-*ℤ : (x y z : ℤ) → (x +ℤ y) *ℤ z ≡ x *ℤ z +ℤ y *ℤ z
-+ℤ-*ℤ x y z = *ℤ-comm (x +ℤ y) z ∙ *ℤ-+ℤ z x y ∙ cc (*ℤ-comm x z, *ℤ-comm y z)
-
-pub *ℤ-left-comm : (x y z : ℤ) → x *ℤ (y *ℤ z) ≡ y *ℤ (x *ℤ z)
-*ℤ-left-comm x y z = sym (*ℤ-assoc x y z) ∙ ap (λ (t : ℤ). t *ℤ z) (*ℤ-comm x y) ∙ *ℤ-assoc y x z
-
-pub +ℤ-left-comm : (x y z : ℤ) → x +ℤ (y +ℤ z) ≡ y +ℤ (x +ℤ z)
-+ℤ-left-comm x y z = sym (+ℤ-assoc x y z) ∙ ap (λ (t : ℤ). t +ℤ z) (+ℤ-comm x y) ∙ +ℤ-assoc y x z
-
--- both sides of a ring identity come out alike: `simp ringℤ`
-pub ruleset ringℤ = (+ℤ-*ℤ, *ℤ-+ℤ, *ℤ-assoc, *ℤ-comm, *ℤ-left-comm, +ℤ-assoc, +ℤ-comm, +ℤ-left-comm)

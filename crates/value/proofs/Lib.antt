@@ -1,8 +1,9 @@
-pub mod Exactness
-pub mod Numbers
+mod Table
 pub mod Integers
-pub mod Fractions
+mod Scales
+mod Tenths
 pub mod Fitting
+pub mod Numbers
 pub mod Ranges
 pub mod Operations
 pub mod Gathering

@@ -13,9 +13,9 @@ use Rattle.value.specs.Integer.{*ℤ-id, leZ-true, leZ-false, le-leZ}
 use Rattle.value.specs.Fraction.{Fraction, _≈_, _≼_, opposite, integer}
 use Rattle.value.specs.FractionLaws.{≈-same}
 use Rattle.value.specs.Rational.{𝟎, 𝟏, _⊕_, _⊗_, neg, whole, rational, sound, exact, rational-integer, rational-⊕, rational-⊖, rational-⊗, rational-opposite, rational-⊑, _⊑_, whole-zero, whole-one}
-use Rattle.value.specs.Decimal.{tenths, frac, fitOf, sumOf, differenceOf, productOf, negate, isAtMost, isZero, zeroValue, oneValue, wholeOf, ofWhole}
+use Rattle.value.specs.Decimal.{Valid, tenths, frac, fitOf, sumOf, differenceOf, productOf, negate, isAtMost, isZero, zeroValue, oneValue, wholeOf, ofWhole}
 use Rattle.value.specs.Number.{exactly}
-use Rattle.value.proofs.Exactness.{fitOf-exact}
+use Rattle.value.proofs.Fitting.{fitOf-exact, unique}
 
 -- ---- whole numbers
 
@@ -92,3 +92,8 @@ unfolding exactly frac tenths isZero _≈_ integer
 isZero-exactly v e =
     let h : v .m *ℤ pos 1 ≡ pos 0 *ℤ pos (10 ^ v .s) = exact (frac v) (integer (pos 0)) (e ∙ sym (rational-integer (pos 0) ∙ whole-zero)) in
     eq-eqb (natAbs (v .m)) 0 (ap natAbs (sym (*ℤ-id (v .m)) ∙ h ∙ zero-*ℤ (pos (10 ^ v .s))))
+
+-- a number has one valid value
+pub exactly-unique : (v w : Value) → Valid v → Valid w → exactly v ≡ exactly w → v ≡ w
+unfolding exactly
+exactly-unique v w hv hw e = unique v w hv hw (exact (frac v) (frac w) e)

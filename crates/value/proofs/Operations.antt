@@ -16,7 +16,8 @@ use Rattle.value.specs.Fraction.{_≈_, _≼_, _⊕_, _⊖_, _⊗_, oppo
 use Rattle.value.specs.Decimal.{Valid, tenths, frac, fitOf, sumOf, differenceOf, productOf, negate, isAtMost, isZero, wholeOf, ofWhole, inRange, zeroValue}
 use Rattle.value.specs.Gathering.{millionths, ofMillionths}
 use Rattle.value.proofs.Integers.{natAbs-neg, natAbs-mul}
-use Rattle.value.proofs.Fractions.{≈-trans, ⊕-cong, opposite-cong, ⊖-is, tenths-sum, tenths-product, tenths-opposite, tenths-scale}
+use Rattle.value.specs.FractionLaws.{≈-trans, ⊕-cong, opposite-cong, ⊖-is}
+use Rattle.value.proofs.Tenths.{tenths-sum, tenths-product, tenths-opposite, tenths-scale}
 use Rattle.value.proofs.Fitting.{fitOf-exact, fitOf-valid, fitOf-cong, fitOf-refused}
 use Rattle.value.proofs.Ranges.{range-small, range-places, valid-in-range}
 
