@@ -1,0 +1,95 @@
+-- Document 01, "Listing": the lines, and their bytes. Assumes nothing.
+use mathlib.Core.Bool.{Bool, true, false, cond}
+use mathlib.Core.Option.{Option, none, some}
+use mathlib.Core.List.{List, [], _∷_, _++_, map}
+use Prim.Native.Nat.{ℕ, zero, suc}
+use lib.Dec.{ltb}
+use lib.ListN.{length, getD}
+use lib.IntN.{ℤ, pos}
+use Rattle.value.specs.declared.Value.{Value}
+use Rattle.value.specs.Decimal.{zeroValue, isZero}
+use Rattle.value.specs.Printed.{natural, printed, printedWhole}
+use Rattle.language.specs.Syntax.{Name}
+use Rattle.language.specs.Syntax
+use Rattle.language.specs.Model.{Model}
+use Rattle.language.specs.Numbering.{Variable, Row, Fact, bound, row, Entry, Lp, lessRows, equalRows, rows, lowerOf, upperOf}
+
+-- numbers of variables and rows are those printed, from 1
+pub data Line : Type 0 where
+  lpLine : (discrete variables less rows : ℕ) → (title dataTitle : List ℕ) → Line  -- N1, N, M1, M, model string, data string
+  rowLine : (number : ℕ) → (equal : Bool) → Value → List ℕ → List ℤ → Line  -- number, `L` or `E`, right side, string, index values
+  varLine : (number : ℕ) → (discrete : Bool) → Value → Option Value → List ℕ → List ℤ → Line  -- number, `D` or `C`, lower, upper or `inf`, name, index values
+  colLine : (variable row : ℕ) → Value → Line  -- variable, row, coefficient
+  endLine : Line
+
+-- ---- the lines of a problem
+
+abbrev pub rightOf : Fact → Value
+rightOf (bound j v) = zeroValue
+rightOf (row r v) = v
+
+abbrev pub coefficientsOf : Fact → Row
+coefficientsOf (bound j v) = []
+coefficientsOf (row r v) = r
+
+unfoldable pub rowLines : ℕ → Bool → List Entry → List Line
+rowLines n q [] = []
+rowLines n q (e ∷ es) = rowLine n q (rightOf (e .fact)) (e .source .constraint .title) (e .source .element) ∷ rowLines (suc n) q es
+
+noName : Name
+noName = record { spelling = []; place = 0; sort = Syntax.index }
+
+-- variable j from 0, of those with number suc j on
+unfoldable pub varLines : List Name → Lp → ℕ → List Variable → List Line
+unfolding noName
+varLines names p j [] = []
+varLines names p j (v ∷ vs) =
+    varLine (suc j) (ltb j (p .discrete)) (lowerOf (p .entries) j) (upperOf (p .entries) j) (getD names (v .name) noName .spelling) (v .element)
+    ∷ varLines names p (suc j) vs
+
+-- the `col` lines of variable j in the rows from number n on: rows rise, zeros are left out, and row M+1, the objective, is always given
+unfoldable pub columnLines : ℕ → ℕ → List Entry → Row → List Line
+columnLines j n [] o = colLine (suc j) n (getD o j zeroValue) ∷ []
+columnLines j n (e ∷ es) o =
+    let v = getD (coefficientsOf (e .fact)) j zeroValue in
+    elim (isZero v) [ true ↦ columnLines j (suc n) es o | false ↦ colLine (suc j) n v ∷ columnLines j (suc n) es o ]
+
+-- by variable, k of them from j on
+unfoldable pub colLines : ℕ → ℕ → List Entry → Row → List Line
+colLines zero j es o = []
+colLines (suc k) j es o = columnLines j 1 es o ++ colLines k (suc j) es o
+
+unfoldable pub linesOf : Model → Lp → List Line
+linesOf m p =
+    lpLine (p .discrete) (length (p .variables)) (length (lessRows p)) (length (rows p)) (m .structure .title) (m .given .title)
+    ∷ (rowLines 1 false (lessRows p) ++ (rowLines (suc (length (lessRows p))) true (equalRows p)
+    ++ (varLines (m .structure .names) p 0 (p .variables)
+    ++ (colLines (length (p .variables)) 0 (rows p) (p .objective)
+    ++ (endLine ∷ [])))))
+
+-- ---- the bytes of a line: fields parted by one tab, a line feed at the end
+
+unfoldable pub fields : List (List ℕ) → List ℕ
+fields [] = 10 ∷ []
+fields (f ∷ fs) = 9 ∷ (f ++ fields fs)
+
+unfoldable pub upperField : Option Value → List ℕ
+upperField none = 105 ∷ 110 ∷ 102 ∷ []  -- inf
+upperField (some v) = printed v
+
+unfoldable pub bytesOf : Line → List ℕ
+-- lp
+bytesOf (lpLine a b c d s t) = 108 ∷ 112 ∷ fields (natural a ∷ natural b ∷ natural c ∷ natural d ∷ s ∷ t ∷ [])
+-- row; E or L
+bytesOf (rowLine n q v s e) = 114 ∷ 111 ∷ 119 ∷ fields (natural n ∷ (cond q 69 76 ∷ []) ∷ printed v ∷ s ∷ map printedWhole e)
+-- var; D or C
+bytesOf (varLine n d l u s e) = 118 ∷ 97 ∷ 114 ∷ fields (natural n ∷ (cond d 68 67 ∷ []) ∷ printed l ∷ upperField u ∷ s ∷ map printedWhole e)
+-- col
+bytesOf (colLine j i v) = 99 ∷ 111 ∷ 108 ∷ fields (natural j ∷ natural i ∷ printed v ∷ [])
+-- end
+bytesOf endLine = 101 ∷ 110 ∷ 100 ∷ fields []
+
+-- each line is written from the byte where the last one ended
+unfoldable pub bytesOfAll : List Line → List ℕ
+bytesOfAll [] = []
+bytesOfAll (l ∷ ls) = bytesOf l ++ bytesOfAll ls

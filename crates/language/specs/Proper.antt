@@ -1,0 +1,66 @@
+-- What every line of a listing is: its values fit, its numbers and index values are no larger than a value's, and the bytes of
+-- its strings and names are from 32 to 126. Assumes nothing.
+use mathlib.Core.Option.{Option, none, some}
+use mathlib.Core.List.{List}
+use Prim.Native.Nat.{ℕ, _≤_}
+use lib.IntN.{ℤ, natAbs}
+use Rattle.rules.specs.Limits.{mantissaLimit}
+use Rattle.value.specs.declared.Value.{Value}
+use Rattle.value.specs.Decimal.{Valid}
+use Rattle.language.specs.Listed.{In}
+use Rattle.language.specs.Listing.{Line, lpLine, rowLine, varLine, colLine, endLine}
+
+-- every entry of l has the property P
+pub record Each {A : Type 0} (P : A → Type 0) (l : List A) : Type 0 where
+  pub each : (a : A) → In l a → P a
+
+pub record Visible (b : ℕ) : Type 0 where
+  pub least : 32 ≤ b
+  pub most : b ≤ 126
+
+-- a string or a name
+abbrev pub Text : List ℕ → Type 0
+Text s = Each Visible s
+
+pub record Small (n : ℕ) : Type 0 where
+  pub most : n ≤ mantissaLimit
+
+abbrev pub SmallIndex : ℤ → Type 0
+SmallIndex k = Small (natAbs k)
+
+abbrev pub ValidUpper : Option Value → Type 0
+ValidUpper none = Unit
+ValidUpper (some v) = Valid v
+
+pub record ProperFirst (a b c d : ℕ) (s t : List ℕ) : Type 0 where
+  pub discrete : Small a
+  pub variables : Small b
+  pub less : Small c
+  pub rows : Small d
+  pub title : Text s
+  pub data-title : Text t
+
+pub record ProperRow (n : ℕ) (v : Value) (s : List ℕ) (e : List ℤ) : Type 0 where
+  pub number : Small n
+  pub right : Valid v
+  pub title : Text s
+  pub element : Each SmallIndex e
+
+pub record ProperVariable (n : ℕ) (l : Value) (u : Option Value) (s : List ℕ) (e : List ℤ) : Type 0 where
+  pub number : Small n
+  pub lower : Valid l
+  pub upper : ValidUpper u
+  pub name : Text s
+  pub element : Each SmallIndex e
+
+pub record ProperColumn (j i : ℕ) (v : Value) : Type 0 where
+  pub variable : Small j
+  pub row : Small i
+  pub coefficient : Valid v
+
+abbrev pub Proper : Line → Type 0
+Proper (lpLine a b c d s t) = ProperFirst a b c d s t
+Proper (rowLine n q v s e) = ProperRow n v s e
+Proper (varLine n d l u s e) = ProperVariable n l u s e
+Proper (colLine j i v) = ProperColumn j i v
+Proper endLine = Unit

@@ -1,0 +1,78 @@
+-- Document 01, "The words of demand 3": written values, on the text's own terms, without limit of size and not by way of
+-- gathered coefficients. Assumes nothing.
+use mathlib.Core.Bool.{Bool, true, false}
+use mathlib.Core.Option.{Option, none, some}
+use mathlib.Core.List.{List, [], _∷_}
+use Prim.Native.Nat.{ℕ, zero, suc}
+use lib.IntN.{ℤ, pos}
+use Rattle.language.specs.Ranges.{range}
+use Rattle.value.specs.Rational.{ℚ, 𝟎, _⊕_, _⊗_, neg, whole, floor, ceiling, _⊑_}
+use Rattle.value.specs.Number.{exactly}
+use Rattle.value.specs.declared.Value.{Value}
+use Rattle.language.specs.Scope.{Scope, bind, boundTo}
+use Rattle.language.specs.Syntax.{Formula, Formulas, Spans, datum, minus, plus, times, sum, point, span, Form, Term, also, factor, variable, sigma}
+use Rattle.language.specs.Syntax
+use Rattle.language.specs.Numbering.{Variable}
+
+unfoldable pub sumOver : (ℤ → ℚ) → List ℤ → ℚ
+sumOver f [] = 𝟎
+sumOver f (k ∷ ks) = f k ⊕ sumOver f ks
+
+unfoldable pub negatedIf : Bool → ℚ → ℚ
+negatedIf true q = neg q
+negatedIf false q = q
+
+-- what a name without a value counts as; no accepted model has one
+unfoldable pub wholeOr0 : Option ℤ → ℚ
+wholeOr0 none = 𝟎
+wholeOr0 (some k) = whole k
+
+unfoldable pub valueOr0 : Option Value → ℚ
+valueOr0 none = 𝟎
+valueOr0 (some v) = exactly v
+
+-- a run from a written lower to a written upper limit
+unfoldable pub runBetween : ℚ → ℚ → List ℤ
+runBetween p q = range (ceiling p) (floor q)
+
+unfoldable mutual
+  pub value : Formula → Scope → ℚ
+  value (Syntax.literal v) s = exactly v
+  value (Syntax.index i p) s = wholeOr0 (boundTo i (s .bound))
+  value (datum i d fs p) s = valueOr0 (s .known i (subscripts fs s))
+  value (minus f) s = neg (value f s)
+  value (plus f g p) s = value f s ⊕ value g s
+  value (times f g p) s = value f s ⊗ value g s
+  value (sum i f g h p) s = sumOver (λ k. value h (bind i k s)) (runBetween (value f s) (value g s))
+
+  pub subscripts : Formulas → Scope → List ℤ
+  subscripts Syntax.none s = []
+  subscripts (Syntax.more f fs) s = floor (value f s) ∷ subscripts fs s
+
+-- under an assignment: a linear form's is the sum of its signed terms; a term's the product of its primaries and its variable's
+-- assigned number or its sigma's value; a sigma's the sum of its body's values over its run, inner limits read anew each time
+module _ (x : Variable → ℚ) where
+  unfoldable mutual
+    pub formValue : Form → Scope → ℚ
+    formValue Syntax.end s = 𝟎
+    formValue (also m t f) s = negatedIf m (termValue t s) ⊕ formValue f s
+
+    pub termValue : Term → Scope → ℚ
+    termValue (factor f p t) s = value f s ⊗ termValue t s
+    termValue (variable i d fs p) s = x (record { name = i; element = subscripts fs s })
+    termValue (sigma i f g h p) s = sumOver (λ k. formValue h (bind i k s)) (runBetween (value f s) (value g s))
+
+-- ---- written domains
+
+-- an element is in a domain where each index is neither below its written lower limit nor above its upper one
+abbrev pub InDomain : Spans → Scope → List ℤ → Type 0
+InDomain point s [] = Unit
+InDomain point s (k ∷ e) = ⊥
+InDomain (span i f g p d) s [] = ⊥
+InDomain (span i f g p d) s (k ∷ e) = (value f s ⊑ whole k) × (whole k ⊑ value g s) × InDomain d (bind i k s) e
+
+-- the scope at an element
+unfoldable pub bindAll : Spans → List ℤ → Scope → Scope
+bindAll point e s = s
+bindAll (span i f g p d) [] s = s
+bindAll (span i f g p d) (k ∷ e) s = bindAll d e (bind i k s)
