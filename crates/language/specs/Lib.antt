@@ -6,12 +6,14 @@ pub mod Linear
 pub mod Declarations
 pub mod Grammar
 pub mod Listed
+pub mod Every
 pub mod Ranges
 pub mod Scope
 pub mod Evaluation
 pub mod Store
 pub mod Data
 pub mod Model
+pub mod Literals
 pub mod Numbering
 pub mod Listing
 pub mod Answer
