@@ -3,7 +3,7 @@ use mathlib.Core.Path.{_≡_, subst}
 use mathlib.Core.List.{List, [], _∷_, _++_, map}
 use Prim.Native.Nat.{ℕ, zero, suc}
 use lib.ListN.{getD, set, replicate}
-use Rattle.language.specs.Listed.{At, In}
+use Rattle.language.specs.Listed.{At, In, in-here, in-later}
 
 module _ {A : Type 0} (P : A → Type 0) where
   abbrev pub Every : List A → Type 0
@@ -17,6 +17,10 @@ module _ {A : Type 0} (P : A → Type 0) where
 
   pub every-in : (l : List A) (a : A) → Every l → In l a → P a
   every-in l a h n = every-at l (n .place) a h (n .at)
+
+  pub in-every : (l : List A) → ((a : A) → In l a → P a) → Every l
+  in-every [] h = tt
+  in-every (a ∷ l) h = (h a (in-here a l), in-every l (λ b n. h b (in-later a l b n)))
 
   pub every-append : (l m : List A) → Every l → Every m → Every (l ++ m)
   every-append [] m h k = k

@@ -16,6 +16,7 @@ pub mod Model
 pub mod Literals
 pub mod Numbering
 pub mod Listing
+pub mod Valid
 pub mod Answer
 pub mod Computed
 pub mod Written
