@@ -1,2 +1,14 @@
+pub mod Evaluated
+pub mod Gathered
+pub mod Listwise
+pub mod Collected
+pub mod Elements
+pub mod Bounds
+pub mod Entries
+pub mod Numbered
+pub mod Summed
+pub mod Lines
+pub mod Kept
+pub mod Accepted
 pub mod Valid
 pub mod ValidProblem

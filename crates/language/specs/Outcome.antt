@@ -55,6 +55,9 @@ refused-done e = let z : _≡_ {A = ℕ} 0 1 = cc in omega arith
 pub some-injective : {A : Type 0} {a b : A} → _≡_ {A = Option A} (some a) (some b) → a ≡ b
 some-injective e = cc
 
+pub none-some : {A : Type 0} {a : A} → _≡_ {A = Option A} none (some a) → ⊥
+none-some e = let z : _≡_ {A = ℕ} 0 1 = cc in omega arith
+
 module _ {A B : Type 0} where
   pub after : {C : Type 0} (m : Outcome A) (f : A → Outcome B) (b : B) → (m >>= f) ≡ done b → ((a : A) → m ≡ done a → f a ≡ done b → C) → C
   after (done a) f b e k = k a refl e

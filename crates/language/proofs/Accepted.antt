@@ -1,0 +1,54 @@
+-- Demand 3 for every text and buffer length: where the answer's number is 0, the listing keeps the model's meaning. Assumes nothing.
+use mathlib.Core.Path.{_≡_, refl, sym, _∙_, ap}
+use mathlib.Core.List.{List, _++_}
+use Prim.Native.Nat.{ℕ, _-_}
+use native.Mathlib.Omega.{arith}
+use lib.Dec.{leb}
+use lib.ListN.{length, replicate}
+use Rattle.rules.specs.declared.Refusal.{Refusal}
+use Rattle.rules.specs.declared.Refusal.the-variants.{LongText, StrangeByte, Misplaced, BadName, Unfit, Full, BadIndex, NotWhole, Outside, Missing, LongListing}
+use Rattle.rules.specs.Refusals.{refusalNumber}
+use Rattle.language.specs.Outcome.{Outcome, done, refused, after, after-check, done-injective}
+use Rattle.language.specs.Model.{readModel}
+use Rattle.language.specs.Numbering.{generate}
+use Rattle.language.specs.Listing.{linesOf, bytesOfAll}
+use Rattle.language.specs.Answer.{Answer, accepted, listingOf, listing, respond, answer}
+use Rattle.language.specs.Demand3.{Demand3, Statement}
+use Rattle.language.proofs.Kept.{keeps}
+
+-- no refusal has number 0
+numbered : (r : Refusal) → refusalNumber r ≡ 0 → ⊥
+numbered LongText e = omega arith
+numbered StrangeByte e = omega arith
+numbered Misplaced e = omega arith
+numbered BadName e = omega arith
+numbered Unfit e = omega arith
+numbered Full e = omega arith
+numbered BadIndex e = omega arith
+numbered NotWhole e = omega arith
+numbered Outside e = omega arith
+numbered Missing e = omega arith
+numbered LongListing e = omega arith
+
+pub kept : Statement
+unfolding answer listing accepted listingOf respond
+kept text n e = go (listing text n) refl e
+  where
+    go : (o : Outcome (List ℕ)) → listing text n ≡ o → (respond n o) .number ≡ 0 → Demand3 text n
+    go (refused r p) eo e = absurd (numbered r e)
+    go (done bytes) eo e =
+        after (accepted text) _ bytes eo λ a ea g.
+        after-check LongListing (length (listingOf a)) (leb (length (listingOf a)) n) _ bytes g λ _ g.
+        after (readModel text) _ a ea λ m rm h.
+        after (generate m) _ a h λ p gp h.
+        let same : a ≡ record { model = m; problem = p } = sym (done-injective h) in
+        let printed : bytes ≡ bytesOfAll (linesOf m p) = sym (done-injective g) ∙ ap listingOf same in
+        let responds : answer text n ≡ respond n (done bytes) = ap (respond n) eo in
+        record {
+          found = record { model = m; problem = p };
+          reads = rm;
+          prints = ap (λ (r : Answer). r .buffer) responds
+              ∙ ap (λ l. l ++ replicate (n - length bytes) 0) printed
+              ∙ ap (λ (r : Answer). bytesOfAll (linesOf m p) ++ replicate (n - r .size) 0) (sym responds);
+          keeps = keeps m p gp;
+        }

@@ -1,0 +1,2 @@
+pub mod Exactness
+pub mod Numbers
