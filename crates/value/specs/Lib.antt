@@ -7,3 +7,4 @@ pub mod Number
 pub mod Literal
 pub mod Printed
 pub mod Gathering
+pub mod Parts
