@@ -5,17 +5,16 @@ use mathlib.Core.Bool.{Bool, true, false, cond}
 use mathlib.Core.Option.{Option, none, some}
 use mathlib.Core.List.{List, [], _∷_, _++_, map}
 use Prim.Native.Nat.{ℕ, zero, suc}
-use native.Mathlib.Omega.{arith}
 use lib.Dec.{eqb, ltb}
 use lib.ListN.{length, getD, set, replicate}
 use lib.IntN.{ℤ}
 use Rattle.rules.specs.Limits.{variableLimit}
 use Rattle.rules.specs.declared.Refusal.the-variants.{Full}
 use Rattle.value.specs.declared.Value.{Value}
-use Rattle.value.specs.declared.Fit.the-variants.{Fits}
-use Rattle.value.specs.Decimal.{Valid, zeroValue, oneValue, negate, sumOf, productOf, isZero}
+use Rattle.value.specs.Decimal.{Valid, zeroValue, oneValue, sumOf, productOf, isAtMost, isZero}
+use Rattle.value.proofs.Operations.{sum-valid, negate-valid, zero-valid}
 use Rattle.language.specs.Every.{Every, every-append, every-getD, every-set, every-replicate, every-map}
-use Rattle.language.specs.Outcome.{Outcome, done, _>>=_, after, after-fits, after-check, done-injective, some-injective}
+use Rattle.language.specs.Outcome.{Outcome, done, _>>=_, after, after-fits, after-check, done-injective, some-injective, none-some}
 use Rattle.language.specs.Scope.{Scope, bind}
 use Rattle.language.specs.Syntax.{Name, Sort, Spans, Form, Term, also, factor, variable, sigma, Formula, Constraint, Relation, atMost, atLeast, equal, Side, bare, form}
 use Rattle.language.specs.Syntax
@@ -23,16 +22,12 @@ use Rattle.language.specs.Evaluation.{limitsOf, runOf, eval, over}
 use Rattle.language.specs.Store.{allGiven}
 use Rattle.language.specs.Model.{Model, start, Declaration, asDiscrete, asContinuous, declared, discretes, continuouses}
 use Rattle.language.specs.Numbering.{Variable, addVariable, addVariables, Row, xor, signed, addAt, variableAt, gather, gatherTerm, gathered, Fact, bound, row, Entry, flips, factOf, keep, lessRow, equalRow, rowCount, addEntry, addEntries, boundAt, lowerAt, upperAt, picked, extreme, largest, smallest, isAtLeast, lowerOf, upperOf, Lp, lessRows, equalRows, rows, generate}
-use Rattle.value.specs.Decimal.{isAtMost}
 use Rattle.language.specs.Listing.{Line, lpLine, rowLine, varLine, colLine, endLine, rightOf, coefficientsOf, rowLines, varLines, columnLines, colLines, linesOf}
 use Rattle.language.specs.Literals.{AllLiterals, DomainLiterals, FormLiterals, TermLiterals, SideLiterals, ConstraintLiterals, SortLiterals, NameLiterals, StructureLiterals}
 use Rattle.language.specs.Valid.{Small, SmallElement, ValidScope, ValidRow, ValidVariable, ValidFact, ValidEntry, ValidProblem, ValidUpper, ValidLine}
-use Rattle.language.proofs.Valid.{zero-valid, one-valid, bind-valid, each-keeps, eval-valid, run-valid, over-keeps}
+use Rattle.language.proofs.Valid.{bind-valid, each-keeps, eval-valid, run-valid, over-keeps}
 
 -- ---- declared domains
-
-none-some : {A C : Type 0} {a : A} → _≡_ {A = Option A} none (some a) → C
-none-some e = let z : _≡_ {A = ℕ} 0 1 = cc in absurd (omega arith)
 
 abbrev pub DeclaredLiterals : Declaration → Type 0
 DeclaredLiterals d = DomainLiterals Valid (d .domain)
@@ -50,20 +45,20 @@ declared-literals f from i (x ∷ xs) h = go (f (x .sort)) refl (declared-litera
 
 discrete-literals : (s : Sort) (d : Spans) → SortLiterals Valid s → asDiscrete s ≡ some d → DomainLiterals Valid d
 unfolding asDiscrete
-discrete-literals Syntax.index d h e = none-some e
-discrete-literals (Syntax.integer c) d h e = none-some e
-discrete-literals (Syntax.real c) d h e = none-some e
-discrete-literals (Syntax.formula f) d h e = none-some e
+discrete-literals Syntax.index d h e = absurd (none-some e)
+discrete-literals (Syntax.integer c) d h e = absurd (none-some e)
+discrete-literals (Syntax.real c) d h e = absurd (none-some e)
+discrete-literals (Syntax.formula f) d h e = absurd (none-some e)
 discrete-literals (Syntax.discrete c) d h e = subst (DomainLiterals Valid) (some-injective e) h
-discrete-literals (Syntax.continuous c) d h e = none-some e
+discrete-literals (Syntax.continuous c) d h e = absurd (none-some e)
 
 continuous-literals : (s : Sort) (d : Spans) → SortLiterals Valid s → asContinuous s ≡ some d → DomainLiterals Valid d
 unfolding asContinuous
-continuous-literals Syntax.index d h e = none-some e
-continuous-literals (Syntax.integer c) d h e = none-some e
-continuous-literals (Syntax.real c) d h e = none-some e
-continuous-literals (Syntax.formula f) d h e = none-some e
-continuous-literals (Syntax.discrete c) d h e = none-some e
+continuous-literals Syntax.index d h e = absurd (none-some e)
+continuous-literals (Syntax.integer c) d h e = absurd (none-some e)
+continuous-literals (Syntax.real c) d h e = absurd (none-some e)
+continuous-literals (Syntax.formula f) d h e = absurd (none-some e)
+continuous-literals (Syntax.discrete c) d h e = absurd (none-some e)
 continuous-literals (Syntax.continuous c) d h e = subst (DomainLiterals Valid) (some-injective e) h
 
 -- ---- bounds
@@ -101,17 +96,17 @@ boundAt-valid (bound i w) j v h e = go (eqb i j) e
   where
     go : (t : Bool) → cond t (some w) none ≡ some v → Valid v
     go true e = subst Valid (some-injective e) h
-    go false e = none-some e
-boundAt-valid (row r w) j v h e = none-some e
+    go false e = absurd (none-some e)
+boundAt-valid (row r w) j v h e = absurd (none-some e)
 
 lowerAt-valid : (r : Relation) (f : Fact) (j : ℕ) (v : Value) → ValidFact f → lowerAt r f j ≡ some v → Valid v
-lowerAt-valid atMost f j v h e = none-some e
+lowerAt-valid atMost f j v h e = absurd (none-some e)
 lowerAt-valid atLeast f j v h e = boundAt-valid f j v h e
 lowerAt-valid equal f j v h e = boundAt-valid f j v h e
 
 upperAt-valid : (r : Relation) (f : Fact) (j : ℕ) (v : Value) → ValidFact f → upperAt r f j ≡ some v → Valid v
 upperAt-valid atMost f j v h e = boundAt-valid f j v h e
-upperAt-valid atLeast f j v h e = none-some e
+upperAt-valid atLeast f j v h e = absurd (none-some e)
 upperAt-valid equal f j v h e = boundAt-valid f j v h e
 
 pub lower-valid : (es : List Entry) (j : ℕ) → Every ValidEntry es → Valid (lowerOf es j)
@@ -188,111 +183,110 @@ lines-valid m p h =
 
 -- ---- variables, rows and facts
 
-module _ (sum-valid : (a b c : Value) → sumOf a b ≡ Fits c → Valid c) (product-valid : (a b c : Value) → productOf a b ≡ Fits c → Valid c) (negate-valid : (v : Value) → Valid v → Valid (negate v)) where
-  addVariable-valid : (d : Declaration) (s : Scope) (e : List ℤ) (vs ws : List Variable) → SmallElement e → Every ValidVariable vs → addVariable d s e vs ≡ done ws → Every ValidVariable ws
-  unfolding addVariable
-  addVariable-valid d s e vs ws he h a =
-      after-check Full (d .place) (ltb (length vs) variableLimit) _ ws a λ _ a.
-      subst (Every ValidVariable) (done-injective a) (every-append ValidVariable vs _ h (he, tt))
+addVariable-valid : (d : Declaration) (s : Scope) (e : List ℤ) (vs ws : List Variable) → SmallElement e → Every ValidVariable vs → addVariable d s e vs ≡ done ws → Every ValidVariable ws
+unfolding addVariable
+addVariable-valid d s e vs ws he h a =
+    after-check Full (d .place) (ltb (length vs) variableLimit) _ ws a λ _ a.
+    subst (Every ValidVariable) (done-injective a) (every-append ValidVariable vs _ h (he, tt))
 
-  pub addVariables-valid : (s : Scope) (ds : List Declaration) (vs ws : List Variable) → ValidScope s → Every DeclaredLiterals ds → Every ValidVariable vs
-      → addVariables s ds vs ≡ done ws → Every ValidVariable ws
-  unfolding addVariables
-  addVariables-valid s [] vs ws hs hd h e = subst (Every ValidVariable) (done-injective e) h
-  addVariables-valid s (d ∷ ds) vs ws hs hd h e =
-      after (over (d .domain) s (addVariable d) vs) _ ws e λ us o e.
-      addVariables-valid s ds us ws hs (hd .1)
-      (over-keeps sum-valid product-valid negate-valid (Every ValidVariable) (d .domain) s (addVariable d) (hd .0) hs (λ t x a b _ hx ha e. addVariable-valid d t x a b hx ha e) vs us h o) e
+pub addVariables-valid : (s : Scope) (ds : List Declaration) (vs ws : List Variable) → ValidScope s → Every DeclaredLiterals ds → Every ValidVariable vs
+    → addVariables s ds vs ≡ done ws → Every ValidVariable ws
+unfolding addVariables
+addVariables-valid s [] vs ws hs hd h e = subst (Every ValidVariable) (done-injective e) h
+addVariables-valid s (d ∷ ds) vs ws hs hd h e =
+    after (over (d .domain) s (addVariable d) vs) _ ws e λ us o e.
+    addVariables-valid s ds us ws hs (hd .1)
+    (over-keeps (Every ValidVariable) (d .domain) s (addVariable d) (hd .0) hs (λ t x a b _ hx ha e. addVariable-valid d t x a b hx ha e) vs us h o) e
 
-  -- each coefficient is 0 or a sum's result
-  addAt-valid : (j : ℕ) (v : Value) (p : ℕ) (r q : Row) → ValidRow r → addAt j v p r ≡ done q → ValidRow q
-  unfolding addAt
-  addAt-valid j v p r q h e =
-      after-fits p (sumOf (getD r j zeroValue) v) _ q e λ w a e.
-      subst ValidRow (done-injective e) (every-set Valid r j w h (sum-valid _ v w a))
+-- each coefficient is 0 or a sum's result
+addAt-valid : (j : ℕ) (v : Value) (p : ℕ) (r q : Row) → ValidRow r → addAt j v p r ≡ done q → ValidRow q
+unfolding addAt
+addAt-valid j v p r q h e =
+    after-fits p (sumOf (getD r j zeroValue) v) _ q e λ w a e.
+    subst ValidRow (done-injective e) (every-set Valid r j w h (sum-valid _ v w a))
 
-  module _ (vs : List Variable) where
-    mutual
-      unfolding gather
+module _ (vs : List Variable) where
+  mutual
+    unfolding gather
 
-      gather-valid : (f : Form) (s : Scope) (c : Value) (m : Bool) (r q : Row) → FormLiterals Valid f → ValidScope s → ValidRow r → gather vs f s c m r ≡ done q → ValidRow q
-      gather-valid Syntax.end s c m r q l hs h e = subst ValidRow (done-injective e) h
-      gather-valid (also n t f) s c m r q l hs h e =
-          after (gatherTerm vs t s c (xor m n) r) _ q e λ u tu e.
-          gather-valid f s c m u q (l .1) hs (gatherTerm-valid t s c (xor m n) r u (l .0) hs h tu) e
+    gather-valid : (f : Form) (s : Scope) (c : Value) (m : Bool) (r q : Row) → FormLiterals Valid f → ValidScope s → ValidRow r → gather vs f s c m r ≡ done q → ValidRow q
+    gather-valid Syntax.end s c m r q l hs h e = subst ValidRow (done-injective e) h
+    gather-valid (also n t f) s c m r q l hs h e =
+        after (gatherTerm vs t s c (xor m n) r) _ q e λ u tu e.
+        gather-valid f s c m u q (l .1) hs (gatherTerm-valid t s c (xor m n) r u (l .0) hs h tu) e
 
-      gatherTerm-valid : (t : Term) (s : Scope) (c : Value) (m : Bool) (r q : Row) → TermLiterals Valid t → ValidScope s → ValidRow r → gatherTerm vs t s c m r ≡ done q → ValidRow q
-      gatherTerm-valid (factor f p t) s c m r q l hs h e =
-          after (eval f s) _ q e λ v _ e.
-          after-fits p (productOf c v) _ q e λ w _ e.
-          gatherTerm-valid t s w m r q (l .1) hs h e
-      gatherTerm-valid (variable i d fs p) s c m r q l hs h e =
-          after (variableAt vs i d fs p s) _ q e λ j _ e.
-          addAt-valid j (signed m c) p r q h e
-      gatherTerm-valid (sigma i f g b p) s c m r q l hs h e =
-          after (limitsOf (eval f s) (eval g s) p) _ q e λ x fg e.
-          after (runOf x i s p) _ q e λ ks ru e.
-          each-keeps ValidRow (λ k u. gather vs b (bind i k s) c m u)
-          (λ k u w hk hu e. gather-valid b (bind i k s) c m u w (l .2) (bind-valid i k s hk hs) hu e)
-          ks r q (run-valid sum-valid product-valid negate-valid f g i s p x ks (l .0) (l .1) hs fg ru) h e
+    gatherTerm-valid : (t : Term) (s : Scope) (c : Value) (m : Bool) (r q : Row) → TermLiterals Valid t → ValidScope s → ValidRow r → gatherTerm vs t s c m r ≡ done q → ValidRow q
+    gatherTerm-valid (factor f p t) s c m r q l hs h e =
+        after (eval f s) _ q e λ v _ e.
+        after-fits p (productOf c v) _ q e λ w _ e.
+        gatherTerm-valid t s w m r q (l .1) hs h e
+    gatherTerm-valid (variable i d fs p) s c m r q l hs h e =
+        after (variableAt vs i d fs p s) _ q e λ j _ e.
+        addAt-valid j (signed m c) p r q h e
+    gatherTerm-valid (sigma i f g b p) s c m r q l hs h e =
+        after (limitsOf (eval f s) (eval g s) p) _ q e λ x fg e.
+        after (runOf x i s p) _ q e λ ks ru e.
+        each-keeps ValidRow (λ k u. gather vs b (bind i k s) c m u)
+        (λ k u w hk hu e. gather-valid b (bind i k s) c m u w (l .2) (bind-valid i k s hk hs) hu e)
+        ks r q (run-valid f g i s p x ks (l .0) (l .1) hs fg ru) h e
 
-    pub gathered-valid : (f : Form) (s : Scope) (r : Row) → FormLiterals Valid f → ValidScope s → gathered vs f s ≡ done r → ValidRow r
-    unfolding gathered
-    gathered-valid f s r l hs e = gather-valid f s oneValue false _ r l hs (every-replicate Valid (length vs) zeroValue zero-valid) e
+  pub gathered-valid : (f : Form) (s : Scope) (r : Row) → FormLiterals Valid f → ValidScope s → gathered vs f s ≡ done r → ValidRow r
+  unfolding gathered
+  gathered-valid f s r l hs e = gather-valid f s oneValue false _ r l hs (every-replicate Valid (length vs) zeroValue zero-valid) e
 
-    signed-valid : (m : Bool) (v : Value) → Valid v → Valid (signed m v)
-    signed-valid true v h = negate-valid v h
-    signed-valid false v h = h
+  signed-valid : (m : Bool) (v : Value) → Valid v → Valid (signed m v)
+  signed-valid true v h = negate-valid v h
+  signed-valid false v h = h
 
-    signedRow-valid : (m : Bool) (r : Row) → ValidRow r → ValidRow (map (signed m) r)
-    signedRow-valid m r h = every-map Valid Valid (signed m) (signed-valid m) r h
+  signedRow-valid : (m : Bool) (r : Row) → ValidRow r → ValidRow (map (signed m) r)
+  signedRow-valid m r h = every-map Valid Valid (signed m) (signed-valid m) r h
 
-    factOf-valid : (l : Side) (r : Relation) (g : Formula) (s : Scope) (f : Fact) → SideLiterals Valid l → AllLiterals Valid g → ValidScope s → factOf vs l r g s ≡ done f → ValidFact f
-    unfolding factOf
-    factOf-valid (bare i d fs p) r g s f l h hs e =
-        after (variableAt vs i d fs p s) _ f e λ j _ e.
-        after (eval g s) _ f e λ v gv e.
-        subst ValidFact (done-injective e) (eval-valid sum-valid product-valid negate-valid g s v h hs gv)
-    factOf-valid (form x) r g s f l h hs e =
-        after (gathered vs x s) _ f e λ cs xc e.
-        after (eval g s) _ f e λ v gv e.
-        subst ValidFact (done-injective e)
-        (signedRow-valid (flips r) cs (gathered-valid x s cs l hs xc), signed-valid (flips r) v (eval-valid sum-valid product-valid negate-valid g s v h hs gv))
+  factOf-valid : (l : Side) (r : Relation) (g : Formula) (s : Scope) (f : Fact) → SideLiterals Valid l → AllLiterals Valid g → ValidScope s → factOf vs l r g s ≡ done f → ValidFact f
+  unfolding factOf
+  factOf-valid (bare i d fs p) r g s f l h hs e =
+      after (variableAt vs i d fs p s) _ f e λ j _ e.
+      after (eval g s) _ f e λ v gv e.
+      subst ValidFact (done-injective e) (eval-valid g s v h hs gv)
+  factOf-valid (form x) r g s f l h hs e =
+      after (gathered vs x s) _ f e λ cs xc e.
+      after (eval g s) _ f e λ v gv e.
+      subst ValidFact (done-injective e)
+      (signedRow-valid (flips r) cs (gathered-valid x s cs l hs xc), signed-valid (flips r) v (eval-valid g s v h hs gv))
 
-    addEntry-valid : (n : ℕ) (c : Constraint) (s : Scope) (e : List ℤ) (es fs : List Entry) → ConstraintLiterals Valid c → ValidScope s → SmallElement e → Every ValidEntry es
-        → addEntry vs n c s e es ≡ done fs → Every ValidEntry fs
-    unfolding addEntry
-    addEntry-valid n c s e es fs l hs he h a =
-        after (factOf vs (c .left) (c .relation) (c .right) s) _ fs a λ f cf a.
-        after (rowCount f (c .place) es) _ fs a λ _ _ a.
-        subst (Every ValidEntry) (done-injective a)
-        (every-append ValidEntry es _ h (record { element = he; fact = factOf-valid (c .left) (c .relation) (c .right) s f (l .left) (l .right) hs cf }, tt))
+  addEntry-valid : (n : ℕ) (c : Constraint) (s : Scope) (e : List ℤ) (es fs : List Entry) → ConstraintLiterals Valid c → ValidScope s → SmallElement e → Every ValidEntry es
+      → addEntry vs n c s e es ≡ done fs → Every ValidEntry fs
+  unfolding addEntry
+  addEntry-valid n c s e es fs l hs he h a =
+      after (factOf vs (c .left) (c .relation) (c .right) s) _ fs a λ f cf a.
+      after (rowCount f (c .place) es) _ fs a λ _ _ a.
+      subst (Every ValidEntry) (done-injective a)
+      (every-append ValidEntry es _ h (record { element = he; fact = factOf-valid (c .left) (c .relation) (c .right) s f (l .left) (l .right) hs cf }, tt))
 
-    pub addEntries-valid : (s : Scope) (n : ℕ) (cs : List Constraint) (es fs : List Entry) → ValidScope s → Every (ConstraintLiterals Valid) cs → Every ValidEntry es
-        → addEntries vs s n cs es ≡ done fs → Every ValidEntry fs
-    unfolding addEntries
-    addEntries-valid s n [] es fs hs l h e = subst (Every ValidEntry) (done-injective e) h
-    addEntries-valid s n (c ∷ cs) es fs hs l h e =
-        after (over (c .domain) s (addEntry vs n c) es) _ fs e λ gs o e.
-        addEntries-valid s (suc n) cs gs fs hs (l .1)
-        (over-keeps sum-valid product-valid negate-valid (Every ValidEntry) (c .domain) s (addEntry vs n c) (l .0 .domain) hs
-        (λ t x a b ht hx ha e. addEntry-valid n c t x a b (l .0) ht hx ha e) es gs h o) e
+  pub addEntries-valid : (s : Scope) (n : ℕ) (cs : List Constraint) (es fs : List Entry) → ValidScope s → Every (ConstraintLiterals Valid) cs → Every ValidEntry es
+      → addEntries vs s n cs es ≡ done fs → Every ValidEntry fs
+  unfolding addEntries
+  addEntries-valid s n [] es fs hs l h e = subst (Every ValidEntry) (done-injective e) h
+  addEntries-valid s n (c ∷ cs) es fs hs l h e =
+      after (over (c .domain) s (addEntry vs n c) es) _ fs e λ gs o e.
+      addEntries-valid s (suc n) cs gs fs hs (l .1)
+      (over-keeps (Every ValidEntry) (c .domain) s (addEntry vs n c) (l .0 .domain) hs
+      (λ t x a b ht hx ha e. addEntry-valid n c t x a b (l .0) ht hx ha e) es gs h o) e
 
-  -- ---- the problem
+-- ---- the problem
 
-  pub generate-valid : (m : Model) (p : Lp) → StructureLiterals Valid (m .structure) → ValidScope (start m) → generate m ≡ done p → ValidProblem p
-  unfolding generate discretes continuouses
-  generate-valid m p l hs e =
-      after (allGiven 0 (m .structure .names) (start m)) _ p e λ _ _ e.
-      after (addVariables (start m) (discretes m) []) _ p e λ a da e.
-      after (addVariables (start m) (continuouses m) a) _ p e λ b cb e.
-      after (gathered b (m .structure .objective) (start m)) _ p e λ o ob e.
-      after (addEntries b (start m) 0 (m .structure .constraints) []) _ p e λ es ce e.
-      subst ValidProblem (done-injective e)
-      (record {
-        variables =
-            addVariables-valid (start m) (continuouses m) a b hs (declared-literals asContinuous continuous-literals 0 (m .structure .names) (l .names))
-            (addVariables-valid (start m) (discretes m) [] a hs (declared-literals asDiscrete discrete-literals 0 (m .structure .names) (l .names)) tt da) cb;
-        entries = addEntries-valid b (start m) 0 (m .structure .constraints) [] es hs (l .constraints) tt ce;
-        objective = signedRow-valid b (m .structure .minimize) o (gathered-valid b (m .structure .objective) (start m) o (l .objective) hs ob);
-      })
+pub generate-valid : (m : Model) (p : Lp) → StructureLiterals Valid (m .structure) → ValidScope (start m) → generate m ≡ done p → ValidProblem p
+unfolding generate discretes continuouses
+generate-valid m p l hs e =
+    after (allGiven 0 (m .structure .names) (start m)) _ p e λ _ _ e.
+    after (addVariables (start m) (discretes m) []) _ p e λ a da e.
+    after (addVariables (start m) (continuouses m) a) _ p e λ b cb e.
+    after (gathered b (m .structure .objective) (start m)) _ p e λ o ob e.
+    after (addEntries b (start m) 0 (m .structure .constraints) []) _ p e λ es ce e.
+    subst ValidProblem (done-injective e)
+    (record {
+      variables =
+          addVariables-valid (start m) (continuouses m) a b hs (declared-literals asContinuous continuous-literals 0 (m .structure .names) (l .names))
+          (addVariables-valid (start m) (discretes m) [] a hs (declared-literals asDiscrete discrete-literals 0 (m .structure .names) (l .names)) tt da) cb;
+      entries = addEntries-valid b (start m) 0 (m .structure .constraints) [] es hs (l .constraints) tt ce;
+      objective = signedRow-valid b (m .structure .minimize) o (gathered-valid b (m .structure .objective) (start m) o (l .objective) hs ob);
+    })
