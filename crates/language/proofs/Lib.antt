@@ -12,3 +12,5 @@ pub mod Kept
 pub mod Accepted
 pub mod Valid
 pub mod ValidProblem
+pub mod ValidStore
+pub mod ValidData
