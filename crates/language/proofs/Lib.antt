@@ -14,3 +14,4 @@ pub mod Valid
 pub mod ValidProblem
 pub mod ValidStore
 pub mod ValidData
+pub mod ValidText

@@ -45,7 +45,7 @@ abbrev Any : {A : Type 0} → A → Type 0
 Any a = Unit
 
 module _ {A : Type 0} {Q : A → Type 0} where
-  given : {a : A} → Q a → Gives (give a) Q
+  pub given : {a : A} → Q a → Gives (give a) Q
   given {a} q = record { gives = λ ts r h e. subst (Got Q) (done-injective e) (record { what = q; rest = h }) }
 
   refusing : {n : Refusal} {p : ℕ} → Gives (refuse {A = A} n p) Q
@@ -69,7 +69,7 @@ module _ {A : Type 0} {Q : A → Type 0} where
   choice false a b = b
 
 module _ {A B : Type 0} {Q : A → Type 0} {R : B → Type 0} where
-  then : {m : Reader A} {f : A → Reader B} → Gives m Q → ((a : A) → Q a → Gives (f a) R) → Gives (m >>= f) R
+  pub then : {m : Reader A} {f : A → Reader B} → Gives m Q → ((a : A) → Q a → Gives (f a) R) → Gives (m >>= f) R
   then {m} {f} gm gf = record { gives = λ ts r h e. go ts r h (m ts) refl e }
     where
       go : (ts : List Token) (r : Read B) → ValidTokens ts → (o : Outcome (Read A)) → m ts ≡ o → follow o f ≡ done r → Got R r
