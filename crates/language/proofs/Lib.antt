@@ -15,3 +15,4 @@ pub mod ValidProblem
 pub mod ValidStore
 pub mod ValidData
 pub mod ValidText
+pub mod Defined

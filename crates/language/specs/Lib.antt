@@ -14,6 +14,7 @@ pub mod Store
 pub mod Data
 pub mod Model
 pub mod Literals
+pub mod Shaped
 pub mod Numbering
 pub mod Listing
 pub mod Valid
@@ -21,3 +22,4 @@ pub mod Answer
 pub mod Computed
 pub mod Written
 pub mod Demand3
+pub mod Defined
