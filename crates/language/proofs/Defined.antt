@@ -13,20 +13,22 @@ use Rattle.rules.specs.declared.Refusal.the-variants.{BadIndex, Outside, Missin
 use Rattle.value.specs.declared.Value.{Value}
 use Rattle.value.specs.declared.Whole.the-variants.{Number}
 use Rattle.value.specs.Integer.{leZ-true}
-use Rattle.value.specs.Decimal.{zeroValue, sumOf, productOf, wholeOf}
+use Rattle.value.specs.Decimal.{zeroValue, oneValue, productOf, wholeOf}
 use Rattle.value.specs.Rational.{ℚ, whole, floor, ceiling, floor-whole, floor-is, ceiling-is, _⊑_, whole-⊑}
 use Rattle.value.proofs.Numbers.{exactly-wholeOf}
-use Rattle.language.specs.Listed.{In, in-nil, in-cons}
+use Rattle.language.specs.Listed.{At, In, in-nil, in-cons}
 use Rattle.language.specs.Ranges.{range-in}
 use Rattle.language.specs.Outcome.{Outcome, done, _>>=_, after, after-some, after-fits, after-whole, after-check, some-of, done-injective, refused-done}
 use Rattle.language.specs.Scope.{Scope, bind, unbound, boundTo}
-use Rattle.language.specs.Syntax.{Formula, Formulas, Spans, Form, Term, datum, minus, plus, times, sum, point, span, also, factor, variable, sigma}
+use Rattle.language.specs.Syntax.{Formula, Formulas, Spans, Form, Term, datum, minus, plus, times, sum, point, span, also, factor, variable, sigma, Relation, Side, bare, form}
 use Rattle.language.specs.Syntax
 use Rattle.language.specs.Evaluation.{Limits, limitsOf, wholeAt, runOf, each, addTo, eval, evalAll, within, over}
+use Rattle.language.specs.Numbering.{Variable, numberOf, Row, xor, variableAt, gather, gatherTerm, gathered, Fact, factOf}
 use Rattle.language.specs.Written.{value, subscripts, runBetween, InDomain, bindAll}
-use Rattle.language.specs.Shaped.{AsMany, Shaped, ShapedSubscripts, ShapedDomain, ShapedForm, ShapedTerm}
-use Rattle.language.specs.Defined.{Has, IsWhole, Between, Defined, DefinedSubscripts, DefinedTest, DefinedDomain, DefinedVariable, DefinedForm, DefinedTerm}
+use Rattle.language.specs.Shaped.{AsMany, Shaped, ShapedSubscripts, ShapedDomain, ShapedForm, ShapedTerm, ShapedSide}
+use Rattle.language.specs.Defined.{Has, IsWhole, Between, Defined, DefinedSubscripts, DefinedTest, DefinedDomain, DefinedVariable, DefinedForm, DefinedTerm, DefinedSide}
 use Rattle.language.proofs.Evaluated.{limits-read, run-written, eval-done, evalAll-done}
+use Rattle.language.proofs.Gathered.{numberOf-at}
 
 -- ---- limits and runs
 
@@ -173,3 +175,93 @@ mutual
           w .inside,
         );
       }
+
+-- ---- domains
+
+pub over-defined : {A : Type 0} (d : Spans) (s : Scope) (f : Scope → List ℤ → A → Outcome A) (a b : A) → ShapedDomain d → over d s f a ≡ done b → DefinedDomain d s
+unfolding over
+over-defined point s f a b h e = tt
+over-defined (span i lower upper p d) s f a b h e =
+    after (limitsOf (eval lower s) (eval upper s) p) _ b e λ l le e.
+    after (runOf l i s p) _ b e λ ks r e.
+    let c = limited lower upper s p l le in (
+      eval-defined lower s (c .low) (h .0) (c .low-done),
+      is-whole _ (l .lower) (c .lower-is),
+      eval-defined upper s (c .high) (h .1) (c .high-done),
+      is-whole _ (l .upper) (c .upper-is),
+      λ k n.
+          let x = each-at (λ k b. over d (bind i k s) (λ t e. f t (k ∷ e)) b) ks a b e k (in-run lower upper i s p l ks le r k n) in
+          over-defined d (bind i k s) (λ t e. f t (k ∷ e)) (x .0) (x .1) (h .2) (x .2),
+    )
+
+-- a walk takes its step at each written element
+pub over-at : {A : Type 0} (d : Spans) (s : Scope) (f : Scope → List ℤ → A → Outcome A) (a b : A) → over d s f a ≡ done b
+    → (e : List ℤ) → InDomain d s e → (x : A) × (y : A) × (f (bindAll d e s) e x ≡ done y)
+unfolding over bindAll
+over-at point s f a b h [] n = (a, b, h)
+over-at point s f a b h (k ∷ e) n = absurd n
+over-at (span i lower upper p d) s f a b h [] n = absurd n
+over-at (span i lower upper p d) s f a b h (k ∷ e) n =
+    after (limitsOf (eval lower s) (eval upper s) p) _ b h λ l le h.
+    after (runOf l i s p) _ b h λ ks r h.
+    let x = each-at (λ k b. over d (bind i k s) (λ t e. f t (k ∷ e)) b) ks a b h k (in-run lower upper i s p l ks le r k (n .0, n .1)) in
+    over-at d (bind i k s) (λ t e. f t (k ∷ e)) (x .0) (x .1) (x .2) e (n .2)
+
+-- ---- linear forms, over variables that have P
+
+module _ (vs : List Variable) (P : Variable → Type 0) (numbered : (j : ℕ) (v : Variable) → At vs j v → P v) where
+  pub variable-defined : (i : ℕ) (d : Spans) (fs : Formulas) (p : ℕ) (s : Scope) (j : ℕ) → AsMany d fs × ShapedDomain d × ShapedSubscripts fs
+      → variableAt vs i d fs p s ≡ done j → DefinedVariable P i d fs s
+  unfolding variableAt
+  variable-defined i d fs p s j a e =
+      after (evalAll fs s p) _ j e λ ks fk e.
+      after (within d ks (unbound s) p) _ j e λ u wu e.
+      let w = within-defined d ks (unbound s) p u (a .1) (many d fs s p ks (a .0) fk) wu in
+      subst (λ x. DefinedSubscripts fs s × DefinedTest d (unbound s) x × InDomain d (unbound s) x × P (record { name = i; element = x })) (sym (evalAll-done fs s p ks fk))
+      (evalAll-defined fs s p ks (a .2) fk, w .test, w .inside, numbered j _ (numberOf-at i ks vs j (some-of Outside p (numberOf i ks vs) j e)))
+
+  mutual
+    unfolding gather
+
+    gather-defined : (f : Form) (s : Scope) (c : Value) (m : Bool) (r q : Row) → ShapedForm f → gather vs f s c m r ≡ done q → DefinedForm P f s
+    gather-defined Syntax.end s c m r q a e = tt
+    gather-defined (also n t f) s c m r q a e =
+        after (gatherTerm vs t s c (xor m n) r) _ q e λ u tu e.
+        (gatherTerm-defined t s c (xor m n) r u (a .0) tu, gather-defined f s c m u q (a .1) e)
+
+    gatherTerm-defined : (t : Term) (s : Scope) (c : Value) (m : Bool) (r q : Row) → ShapedTerm t → gatherTerm vs t s c m r ≡ done q → DefinedTerm P t s
+    gatherTerm-defined (factor f p t) s c m r q a e =
+        after (eval f s) _ q e λ v fv e.
+        after-fits p (productOf c v) _ q e λ w _ e.
+        (eval-defined f s v (a .0) fv, gatherTerm-defined t s w m r q (a .1) e)
+    gatherTerm-defined (variable i d fs p) s c m r q a e =
+        after (variableAt vs i d fs p s) _ q e λ j vj e.
+        variable-defined i d fs p s j a vj
+    gatherTerm-defined (sigma i f g h p) s c m r q a e =
+        after (limitsOf (eval f s) (eval g s) p) _ q e λ l fg e.
+        after (runOf l i s p) _ q e λ ks ru e.
+        let d = limited f g s p l fg in (
+          eval-defined f s (d .low) (a .0) (d .low-done),
+          is-whole _ (l .lower) (d .lower-is),
+          eval-defined g s (d .high) (a .1) (d .high-done),
+          is-whole _ (l .upper) (d .upper-is),
+          λ k b.
+              let x = each-at (λ k u. gather vs h (bind i k s) c m u) ks r q e k (in-run f g i s p l ks fg ru k b) in
+              gather-defined h (bind i k s) c m (x .0) (x .1) (a .2) (x .2),
+        )
+
+  pub gathered-defined : (f : Form) (s : Scope) (r : Row) → ShapedForm f → gathered vs f s ≡ done r → DefinedForm P f s
+  unfolding gathered
+  gathered-defined f s r a e = gather-defined f s oneValue false _ r a e
+
+  -- both sides of a constraint
+  pub fact-defined : (l : Side) (r : Relation) (g : Formula) (s : Scope) (f : Fact) → ShapedSide l → Shaped g → factOf vs l r g s ≡ done f → DefinedSide P l s × Defined g s
+  unfolding factOf
+  fact-defined (bare i d fs p) r g s f a h e =
+      after (variableAt vs i d fs p s) _ f e λ j vj e.
+      after (eval g s) _ f e λ v gv e.
+      (variable-defined i d fs p s j a vj, eval-defined g s v h gv)
+  fact-defined (form x) r g s f a h e =
+      after (gathered vs x s) _ f e λ cs xc e.
+      after (eval g s) _ f e λ v gv e.
+      (gathered-defined x s cs a xc, eval-defined g s v h gv)
