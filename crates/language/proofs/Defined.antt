@@ -87,7 +87,7 @@ Many point (k ∷ ks) = ⊥
 Many (span i f g p d) [] = ⊥
 Many (span i f g p d) (k ∷ ks) = Many d ks
 
-many : (d : Spans) (fs : Formulas) (s : Scope) (p : ℕ) (ks : List ℤ) → AsMany d fs → evalAll fs s p ≡ done ks → Many d ks
+pub many : (d : Spans) (fs : Formulas) (s : Scope) (p : ℕ) (ks : List ℤ) → AsMany d fs → evalAll fs s p ≡ done ks → Many d ks
 unfolding evalAll wholeAt
 many point Syntax.none s p ks a e = subst (Many point) (done-injective e) tt
 many point (Syntax.more f fs) s p ks a e = absurd a

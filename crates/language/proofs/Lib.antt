@@ -16,3 +16,4 @@ pub mod ValidStore
 pub mod ValidData
 pub mod ValidText
 pub mod Defined
+pub mod EachNumbered
