@@ -17,3 +17,4 @@ pub mod ValidData
 pub mod ValidText
 pub mod Defined
 pub mod EachNumbered
+pub mod DefinedModel
