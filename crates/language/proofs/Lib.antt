@@ -1,2 +1,4 @@
 pub mod Taken
 pub mod Phrased
+pub mod PhrasedLinear
+pub mod PhrasedModel

@@ -99,7 +99,7 @@ module _ (names : List Name) where
       then-part c h = then (part-read c) (λ f l w. rw (w .2) (weaken (h f (w .0) (w .1) (w .3)) (λ b k x. rw (append-assoc (w .0) (mark (suc c) at w .1 ∷ []) k) x)))
 
   module _ (F : Reader Formula) (rf : Reads F (WritesFormula names)) (n : ℕ) where
-    head-read : Reads (headOf names n) (λ i l. (s : List ℕ) × (p : ℕ) × (r : ℕ) × (l ≡ mark opens at p ∷ name s at i .place ∷ mark comma at r ∷ []) × Means names s (i .number) Syntax.index)
+    pub head-read : Reads (headOf names n) (λ i l. (s : List ℕ) × (p : ℕ) × (r : ℕ) × (l ≡ mark opens at p ∷ name s at i .place ∷ mark comma at r ∷ []) × Means names s (i .number) Syntax.index)
     unfolding headOf
     head-read = then-bracket _ n (λ p. then-index names (λ i s m. then-expect _ (λ r. gives (s, p, r, refl, m))))
 
