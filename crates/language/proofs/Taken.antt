@@ -50,16 +50,19 @@ module _ {A B : Type 0} {W : B → List Token → Type 0} where
   pub last : {m : Reader A} (g : A → B) {U : A → List Token → Type 0} → Reads m U → ((a : A) (l : List Token) → U a l → W (g a) l) → Reads (m >>= λ a. give (g a)) W
   last g rm h = then rm (λ a l w. gives (rw append-nil (h a l w)))
 
-  pub then-demand : (o : Option A) (p : ℕ) {f : A → Reader B} → ((a : A) → o ≡ some a → Reads (f a) W) → Reads (demand o p >>= f) W
-  unfolding demand
-  then-demand (some a) p h = record { reads = λ ts r e. h a refl .reads ts r e }
-  then-demand none p h = record { reads = λ ts r e. absurd (refused-done e) }
+pub demand-read : {A : Type 0} (o : Option A) (p : ℕ) → Reads (demand o p) (λ a l. (l ≡ []) × (o ≡ some a))
+unfolding demand
+demand-read (some a) p = gives (refl, refl)
+demand-read none p = refuses
 
 module _ {B : Type 0} {W : B → List Token → Type 0} where
   pub then-require : (t : Bool) (n : Refusal) (p : ℕ) {f : Unit {0} → Reader B} → ((u : Unit {0}) → t ≡ true → Reads (f u) W) → Reads (require t n p >>= f) W
   unfolding require
   then-require true n p h = record { reads = λ ts r e. h tt refl .reads ts r e }
   then-require false n p h = record { reads = λ ts r e. absurd (refused-done e) }
+
+  pub then-demand : {A : Type 0} (o : Option A) (p : ℕ) {f : A → Reader B} → ((a : A) → o ≡ some a → Reads (f a) W) → Reads (demand o p >>= f) W
+  then-demand o p h = then (demand-read o p) (λ a l w. rw (w .0) (h a (w .1)))
 
 -- ---- one token
 

@@ -36,6 +36,11 @@ abbrev pub indices : Spans → List ℕ
 indices point = []
 indices (span i lower upper p d) = i ∷ indices d
 
+abbrev pub relationSign : Relation → ℕ
+relationSign atMost = Marks.atMost
+relationSign atLeast = Marks.atLeast
+relationSign equal = equals
+
 module _ (names : List Name) where
   -- ---- formulas
 
@@ -138,11 +143,6 @@ module _ (names : List Name) where
     withFactor : {m : Bool} {g : Formula} {p : ℕ} {t : Term} {f : Form} {l : List Token} → WritesForm true false (also m (factor g p t) f) l → WritesSide (form (also m (factor g p t) f)) l
     withSigma : {m : Bool} {i p : ℕ} {g h : Formula} {b f : Form} {l : List Token} → WritesForm true false (also m (sigma i g h b p) f) l → WritesSide (form (also m (sigma i g h b p) f)) l
     withSecond : {m n : Bool} {t u : Term} {f : Form} {l : List Token} → WritesForm true false (also m t (also n u f)) l → WritesSide (form (also m t (also n u f))) l
-
-  abbrev pub relationSign : Relation → ℕ
-  relationSign atMost = Marks.atMost
-  relationSign atLeast = Marks.atLeast
-  relationSign equal = equals
 
   pub data WritesConstraint : Constraint → List Token → Type 0 where
     constraint : {s : List ℕ} {left : Side} {right : Formula} {d : Spans} {a b c : List Token} (p q : ℕ) (r : Relation) → WritesSide left a → WritesFormula right b → WritesOptionalDomain d c
