@@ -1,3 +1,7 @@
+pub mod Taken
+pub mod Phrased
+pub mod PhrasedLinear
+pub mod PhrasedModel
 pub mod Evaluated
 pub mod Gathered
 pub mod Listwise

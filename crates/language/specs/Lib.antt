@@ -5,6 +5,7 @@ pub mod Formulas
 pub mod Linear
 pub mod Declarations
 pub mod Grammar
+pub mod Phrases
 pub mod Listed
 pub mod Every
 pub mod Ranges
