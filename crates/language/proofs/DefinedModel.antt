@@ -22,7 +22,7 @@ use Rattle.language.specs.Model.{Model, start, Declaration, asDiscrete, 
 use Rattle.language.specs.Numbering.{Variable, addVariable, addVariables, gathered, Fact, factOf, Source, Entry, rowCount, addEntry, addEntries, Lp, generate}
 use Rattle.language.specs.Written.{InDomain, bindAll}
 use Rattle.language.specs.Demand3.{Written, Declared, scopeAt}
-use Rattle.language.specs.Shaped.{ShapedDomain, ShapedSort, ShapedName, ShapedConstraint, ShapedStructure}
+use Rattle.language.specs.Named.{NamedDomain, NamedSort, NamedEntry, NamedConstraint, NamedStructure}
 use Rattle.language.specs.Defined.{Has, Defined, DefinedDomain, DefinedSide, DefinedSort, DefinedModel}
 use Rattle.language.proofs.Numbered.{variable-numbers}
 use Rattle.language.proofs.Defined.{over-defined, over-at, gathered-defined, fact-defined}
@@ -44,10 +44,10 @@ is-there i p s e u w h = go (s .known i e) refl h
     go (some v) k h = record { it = v; is = k }
     go none k h = absurd (refused-done h)
 
-data-defined : (i p : ℕ) (d : Spans) (s : Scope) (u : Unit {0}) → ShapedDomain d → over d s (isGiven i p) tt ≡ done u
+data-defined : (names : List Name) (i p : ℕ) (d : Spans) (s : Scope) (u : Unit {0}) → NamedDomain names d → over d s (isGiven i p) tt ≡ done u
     → DefinedDomain d s × ((e : List ℤ) → InDomain d s e → Has (s .known i e))
-data-defined i p d s u a h = (
-  over-defined d s (isGiven i p) tt u a h,
+data-defined names i p d s u a h = (
+  over-defined names d s (isGiven i p) tt u a h,
   λ e n.
       let x = over-at d s (isGiven i p) tt u h e n in
       subst (λ (f : ℕ → List ℤ → Option Value). Has (f i e)) (known-at d e s) (is-there i p (bindAll d e s) e (x .0) (x .1) (x .2)),
@@ -98,11 +98,11 @@ declared-in f i (y ∷ xs) (suc j) x d at e = go (f (y .sort)) (declared-in f (s
     go none r = r
 
 walked-defined : (f : Sort → Option Spans) (s : Scope) (xs : List Name) (vs ws : List Variable) → addVariables s (declared f 0 xs) vs ≡ done ws
-    → (j : ℕ) (x : Name) (d : Spans) → At xs j x → f (x .sort) ≡ some d → ShapedDomain d → DefinedDomain d s
+    → (j : ℕ) (x : Name) (d : Spans) → At xs j x → f (x .sort) ≡ some d → NamedDomain xs d → DefinedDomain d s
 walked-defined f s xs vs ws e j x d at is a =
     let c = declared-in f 0 xs j x d at is in
     let o = addVariables-at s (declared f 0 xs) vs ws e (c .0) (c .2) in
-    over-defined d s (addVariable (c .0)) (o .0) (o .1) a (subst (λ d. over d s (addVariable (c .0)) (o .0) ≡ done (o .1)) (c .1) (o .2))
+    over-defined xs d s (addVariable (c .0)) (o .0) (o .1) a (subst (λ d. over d s (addVariable (c .0)) (o .0) ≡ done (o .1)) (c .1) (o .2))
 
 -- ---- constraints: each is taken at each of its elements
 
@@ -122,11 +122,11 @@ addEntries-at vs s n (x ∷ cs) es fs e c h =
     go gs o (inr k) ih = ih k
 
 module _ (m : Model) (vs : List Variable) (fs : List Entry) (taken : addEntries vs (start m) 0 (m .structure .constraints) [] ≡ done fs)
-    (shape : Every ShapedConstraint (m .structure .constraints)) where
+    (named : Every (NamedConstraint (m .structure .names)) (m .structure .constraints)) where
   domain-defined : (c : Constraint) → In (m .structure .constraints) c → DefinedDomain (c .domain) (start m)
   domain-defined c n =
       let o = addEntries-at vs (start m) 0 (m .structure .constraints) [] fs taken c n in
-      over-defined (c .domain) (start m) (addEntry vs (o .0) c) (o .1) (o .2) (every-in ShapedConstraint (m .structure .constraints) c shape n .domain) (o .3)
+      over-defined (m .structure .names) (c .domain) (start m) (addEntry vs (o .0) c) (o .1) (o .2) (every-in (NamedConstraint (m .structure .names)) (m .structure .constraints) c named n .domain) (o .3)
 
   sides-defined : (P : Variable → Type 0) → ((j : ℕ) (v : Variable) → At vs j v → P v) → (o : Source) → Written m o
       → DefinedSide P (o .constraint .left) (scopeAt m o) × Defined (o .constraint .right) (scopeAt m o)
@@ -134,46 +134,46 @@ module _ (m : Model) (vs : List Variable) (fs : List Entry) (taken : addEntries 
   sides-defined P numbered o w =
       let c = o .constraint in
       let n : In (m .structure .constraints) c = record { place = o .ordinal; at = w .listed } in
-      let h = every-in ShapedConstraint (m .structure .constraints) c shape n in
+      let h = every-in (NamedConstraint (m .structure .names)) (m .structure .constraints) c named n in
       let t = addEntries-at vs (start m) 0 (m .structure .constraints) [] fs taken c n in
       let x = over-at (c .domain) (start m) (addEntry vs (t .0) c) (t .1) (t .2) (t .3) (o .element) (w .inside) in
       after (factOf vs (c .left) (c .relation) (c .right) (bindAll (c .domain) (o .element) (start m))) _ (x .1) (x .2) λ f cf _.
-      fact-defined vs P numbered (c .left) (c .relation) (c .right) _ f (h .left) (h .right) cf
+      fact-defined (m .structure .names) vs P numbered (c .left) (c .relation) (c .right) _ f (h .left) (h .right) cf
 
 -- ---- names
 
 module _ (m : Model) (u : Unit {0}) (given : allGiven 0 (m .structure .names) (start m) ≡ done u)
     (a : List Variable) (first : addVariables (start m) (declared asDiscrete 0 (m .structure .names)) [] ≡ done a)
-    (vs : List Variable) (then : addVariables (start m) (declared asContinuous 0 (m .structure .names)) a ≡ done vs) (shape : Every ShapedName (m .structure .names)) where
+    (vs : List Variable) (then : addVariables (start m) (declared asContinuous 0 (m .structure .names)) a ≡ done vs) (named : Every (NamedEntry (m .structure .names)) (m .structure .names)) where
   given-at : (i : ℕ) (x : Name) → At (m .structure .names) i x → (s : Sort) → x .sort ≡ s → (w : Unit {0}) × (givenBy i (x .place) s (start m) ≡ done w)
   given-at i x at s is =
       let r = allGiven-at 0 (m .structure .names) (start m) u given i x at in
       let z : 0 + i ≡ i = omega arith in
       (r .0, subst (λ s. givenBy i (x .place) s (start m) ≡ done (r .0)) is (subst (λ n. givenBy n (x .place) (x .sort) (start m) ≡ done (r .0)) z (r .1)))
 
-  shape-at : (i : ℕ) (x : Name) → At (m .structure .names) i x → (s : Sort) → x .sort ≡ s → ShapedSort s
-  shape-at i x at s is = subst ShapedSort is (every-at ShapedName (m .structure .names) i x shape at)
+  named-at : (i : ℕ) (x : Name) → At (m .structure .names) i x → (s : Sort) → x .sort ≡ s → NamedSort (m .structure .names) s
+  named-at i x at s is = subst (NamedSort (m .structure .names)) is (every-at (NamedEntry (m .structure .names)) (m .structure .names) i x named at)
 
   name-defined : (i : ℕ) (x : Name) → At (m .structure .names) i x → (s : Sort) → x .sort ≡ s → DefinedSort i s (start m)
   unfolding givenBy asDiscrete asContinuous
   name-defined i x at Syntax.index is = tt
   name-defined i x at (Syntax.integer d) is =
       let g = given-at i x at (Syntax.integer d) is in
-      data-defined i (x .place) d (start m) (g .0) (shape-at i x at (Syntax.integer d) is) (g .1)
+      data-defined (m .structure .names) i (x .place) d (start m) (g .0) (named-at i x at (Syntax.integer d) is) (g .1)
   name-defined i x at (Syntax.real d) is =
       let g = given-at i x at (Syntax.real d) is in
-      data-defined i (x .place) d (start m) (g .0) (shape-at i x at (Syntax.real d) is) (g .1)
+      data-defined (m .structure .names) i (x .place) d (start m) (g .0) (named-at i x at (Syntax.real d) is) (g .1)
   name-defined i x at (Syntax.formula f) is = tt
   name-defined i x at (Syntax.discrete d) is =
-      walked-defined asDiscrete (start m) (m .structure .names) [] a first i x d at (ap asDiscrete is) (shape-at i x at (Syntax.discrete d) is)
+      walked-defined asDiscrete (start m) (m .structure .names) [] a first i x d at (ap asDiscrete is) (named-at i x at (Syntax.discrete d) is)
   name-defined i x at (Syntax.continuous d) is =
-      walked-defined asContinuous (start m) (m .structure .names) a vs then i x d at (ap asContinuous is) (shape-at i x at (Syntax.continuous d) is)
+      walked-defined asContinuous (start m) (m .structure .names) a vs then i x d at (ap asContinuous is) (named-at i x at (Syntax.continuous d) is)
 
 -- ---- the model
 
-pub defined : (m : Model) (p : Lp) → ShapedStructure (m .structure) → generate m ≡ done p → DefinedModel m
+pub defined : (m : Model) (p : Lp) → NamedStructure (m .structure) → generate m ≡ done p → DefinedModel m
 unfolding generate discretes continuouses
-defined m p shape e =
+defined m p named e =
     after (allGiven 0 (m .structure .names) (start m)) _ p e λ u given e.
     after (addVariables (start m) (discretes m) []) _ p e λ a first e.
     after (addVariables (start m) (continuouses m) a) _ p e λ vs then e.
@@ -181,9 +181,9 @@ defined m p shape e =
     after (addEntries vs (start m) 0 (m .structure .constraints) []) _ p e λ es taken _.
     let numbered : (j : ℕ) (v : Variable) → At vs j v → Declared m v = variable-numbers m vs (variables-made m a vs first then) .of-number in
     record {
-      names = λ i x at. name-defined m u given a first vs then (shape .names) i x at (x .sort) refl;
-      objective = gathered-defined vs (Declared m) numbered (m .structure .objective) (start m) o (shape .objective) gathers;
-      domains = domain-defined m vs es taken (shape .constraints);
-      left = λ o w. sides-defined m vs es taken (shape .constraints) (Declared m) numbered o w .0;
-      right = λ o w. sides-defined m vs es taken (shape .constraints) (Declared m) numbered o w .1;
+      names = λ i x at. name-defined m u given a first vs then (named .table) i x at (x .sort) refl;
+      objective = gathered-defined (m .structure .names) vs (Declared m) numbered (m .structure .objective) (start m) o (named .objective) gathers;
+      domains = domain-defined m vs es taken (named .constraints);
+      left = λ o w. sides-defined m vs es taken (named .constraints) (Declared m) numbered o w .0;
+      right = λ o w. sides-defined m vs es taken (named .constraints) (Declared m) numbered o w .1;
     }

@@ -21,7 +21,7 @@ use Rattle.language.specs.Model.{Model, start, Declaration, discretes, c
 use Rattle.language.specs.Numbering.{Variable, addVariables, sameVariable, later, numberOf}
 use Rattle.language.specs.Written.{InDomain}
 use Rattle.language.specs.Demand3.{Declared}
-use Rattle.language.specs.Shaped.{AsMany, ShapedDomain}
+use Rattle.language.specs.Named.{AsMany, NamedDomain}
 use Rattle.language.specs.Defined.{Has}
 use Rattle.language.proofs.Listwise.{collect}
 use Rattle.language.proofs.Collected.{collect-append}
@@ -75,7 +75,7 @@ module _ (m : Model) (a vs : List Variable) (first : addVariables (start m) (dis
   each-numbered v d = in-numberOf (v .name) (v .element) vs (variable-numbers m vs variables-made .has-number v d)
 
   -- subscripts that pass the domain test of a declared variable have a number, wherever indices are bound
-  pub never-outside : (d : Declaration) → In (discretes m ++ continuouses m) d → ShapedDomain (d .domain) → (s : Scope) → s .known ≡ start m .known
+  pub never-outside : (d : Declaration) → In (discretes m ++ continuouses m) d → NamedDomain (m .structure .names) (d .domain) → (s : Scope) → s .known ≡ start m .known
       → (fs : Formulas) (p : ℕ) (ks : List ℤ) (u : Unit {0}) → AsMany (d .domain) fs → evalAll fs s p ≡ done ks → within (d .domain) ks (unbound s) p ≡ done u
       → Has (numberOf (d .name) ks vs)
   unfolding unbound start scopeOf
@@ -86,5 +86,5 @@ module _ (m : Model) (a vs : List Variable) (first : addVariables (start m) (dis
         declaration = d;
         listed = n;
         named = refl;
-        inside = subst (λ t. InDomain (d .domain) t ks) same (within-defined (d .domain) ks (unbound s) p u a (many (d .domain) fs s p ks h e) w .inside);
+        inside = subst (λ t. InDomain (d .domain) t ks) same (within-defined (m .structure .names) (d .domain) ks (unbound s) p u a (many (d .domain) fs s p ks h e) w .inside);
       })

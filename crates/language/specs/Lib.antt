@@ -15,7 +15,7 @@ pub mod Store
 pub mod Data
 pub mod Model
 pub mod Literals
-pub mod Shaped
+pub mod Named
 pub mod Numbering
 pub mod Listing
 pub mod Valid
