@@ -22,3 +22,4 @@ pub mod ValidText
 pub mod Defined
 pub mod EachNumbered
 pub mod DefinedModel
+pub mod NamedRead

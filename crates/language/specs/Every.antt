@@ -40,6 +40,11 @@ module _ {A : Type 0} (P : A → Type 0) where
   every-replicate zero a k = tt
   every-replicate (suc n) a k = (k, every-replicate n a k)
 
+module _ {A : Type 0} (P Q : A → Type 0) (weaker : (a : A) → P a → Q a) where
+  pub every-weaken : (l : List A) → Every P l → Every Q l
+  every-weaken [] h = tt
+  every-weaken (a ∷ l) h = (weaker a (h .0), every-weaken l (h .1))
+
 module _ {A B : Type 0} (P : A → Type 0) (Q : B → Type 0) (f : A → B) (keeps : (a : A) → P a → Q (f a)) where
   pub every-map : (l : List A) → Every P l → Every Q (map f l)
   every-map [] h = tt
