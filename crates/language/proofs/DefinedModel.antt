@@ -10,7 +10,7 @@ use native.Mathlib.Omega.{arith}
 use lib.IntN.{ℤ}
 use Rattle.rules.specs.declared.Refusal.the-variants.{Missing}
 use Rattle.value.specs.declared.Value.{Value}
-use Rattle.language.specs.Listed.{At, In, in-nil, in-cons, in-here, in-later}
+use Rattle.language.specs.Listed.{At, In, in-nil, in-cons}
 use Rattle.language.specs.Every.{Every, every-at, every-in}
 use Rattle.language.specs.Outcome.{Outcome, done, _>>=_, check, after, refused-done}
 use Rattle.language.specs.Scope.{Scope, bind}
@@ -26,7 +26,7 @@ use Rattle.language.specs.Named.{NamedDomain, NamedSort, NamedEntry, Nam
 use Rattle.language.specs.Defined.{Has, Defined, DefinedDomain, DefinedSide, DefinedSort, DefinedModel}
 use Rattle.language.proofs.Numbered.{variable-numbers}
 use Rattle.language.proofs.Defined.{over-defined, over-at, gathered-defined, fact-defined}
-use Rattle.language.proofs.EachNumbered.{variables-made}
+use Rattle.language.proofs.EachNumbered.{declared-in, variables-made}
 
 -- ---- data: each element of a declared domain has a value
 
@@ -83,26 +83,12 @@ addVariables-at s (c ∷ ds) vs ws e d n =
     go us o (inl k) ih = (vs, us, subst (λ (d : Declaration). over (d .domain) s (addVariable d) vs ≡ done us) k o)
     go us o (inr k) ih = ih k
 
-declared-in : (f : Sort → Option Spans) (i : ℕ) (xs : List Name) (j : ℕ) (x : Name) (d : Spans) → At xs j x → f (x .sort) ≡ some d
-    → (c : Declaration) × (c .domain ≡ d) × In (declared f i xs) c
-unfolding declared
-declared-in f i [] j x d at e = absurd at
-declared-in f i (y ∷ xs) zero x d at e =
-    (record { name = i; domain = d; place = y .place }, refl, rw (ap (λ (x : Name). f (x .sort)) at ∙ e, declared) (in-here _ (declared f (suc i) xs)))
-declared-in f i (y ∷ xs) (suc j) x d at e = go (f (y .sort)) (declared-in f (suc i) xs j x d at e)
-  where
-    go : (o : Option Spans) → (c : Declaration) × (c .domain ≡ d) × In (declared f (suc i) xs) c
-        → (c : Declaration) × (c .domain ≡ d)
-        × In {A = Declaration} (elim o [ some d ↦ record { name = i; domain = d; place = y .place } ∷ declared f (suc i) xs | none ↦ declared f (suc i) xs ]) c
-    go (some b) r = (r .0, r .1, in-later _ (declared f (suc i) xs) (r .0) (r .2))
-    go none r = r
-
 walked-defined : (f : Sort → Option Spans) (s : Scope) (xs : List Name) (vs ws : List Variable) → addVariables s (declared f 0 xs) vs ≡ done ws
     → (j : ℕ) (x : Name) (d : Spans) → At xs j x → f (x .sort) ≡ some d → NamedDomain xs d → DefinedDomain d s
 walked-defined f s xs vs ws e j x d at is a =
     let c = declared-in f 0 xs j x d at is in
-    let o = addVariables-at s (declared f 0 xs) vs ws e (c .0) (c .2) in
-    over-defined xs d s (addVariable (c .0)) (o .0) (o .1) a (subst (λ d. over d s (addVariable (c .0)) (o .0) ≡ done (o .1)) (c .1) (o .2))
+    let o = addVariables-at s (declared f 0 xs) vs ws e (c .0) (c .3) in
+    over-defined xs d s (addVariable (c .0)) (o .0) (o .1) a (subst (λ d. over d s (addVariable (c .0)) (o .0) ≡ done (o .1)) (c .2) (o .2))
 
 -- ---- constraints: each is taken at each of its elements
 
