@@ -23,3 +23,4 @@ pub mod Defined
 pub mod EachNumbered
 pub mod DefinedModel
 pub mod NamedRead
+pub mod DefinedText
