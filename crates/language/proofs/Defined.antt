@@ -3,28 +3,28 @@
 use mathlib.Core.Path.{_≡_, refl, sym, _∙_, ap, subst}
 use mathlib.Core.Bool.{Bool, true, false, _&&_}
 use mathlib.Core.Logic.{_⊎_, inl, inr}
-use mathlib.Core.Option.{Option, none, some}
+use mathlib.Core.Option.{none}
 use mathlib.Core.List.{List, [], _∷_}
 use Prim.Native.Nat.{ℕ}
 use native.Mathlib.Omega.{arith}
 use lib.IntN.{ℤ}
-use lib.Signed.{_≤ℤ_, leZ}
+use lib.Signed.{leZ}
 use Rattle.rules.specs.declared.Refusal.the-variants.{BadIndex, Outside, Missing}
 use Rattle.value.specs.declared.Value.{Value}
 use Rattle.value.specs.declared.Whole.the-variants.{Number}
 use Rattle.value.specs.Integer.{leZ-true}
 use Rattle.value.specs.Decimal.{zeroValue, oneValue, productOf, wholeOf}
-use Rattle.value.specs.Rational.{ℚ, whole, floor, ceiling, floor-whole, floor-is, ceiling-is, _⊑_, whole-⊑}
+use Rattle.value.specs.Rational.{ℚ, whole, floor, ceiling, floor-whole, floor-is, ceiling-is, whole-⊑}
 use Rattle.value.proofs.Numbers.{exactly-wholeOf}
 use Rattle.language.specs.Listed.{At, In, in-nil, in-cons}
 use Rattle.language.specs.Ranges.{range-in}
-use Rattle.language.specs.Outcome.{Outcome, done, _>>=_, after, after-some, after-fits, after-whole, after-check, some-of, done-injective, refused-done}
+use Rattle.language.specs.Outcome.{Outcome, done, after, after-some, after-fits, after-whole, after-check, some-of, done-injective}
 use Rattle.language.specs.Scope.{Scope, bind, unbound, boundTo}
 use Rattle.language.specs.Syntax.{Formula, Formulas, Spans, Form, Term, Name, datum, minus, plus, times, sum, point, span, also, factor, variable, sigma, Relation, Side, bare, form}
 use Rattle.language.specs.Syntax
 use Rattle.language.specs.Evaluation.{Limits, limitsOf, wholeAt, runOf, each, addTo, eval, evalAll, within, over}
 use Rattle.language.specs.Numbering.{Variable, numberOf, Row, xor, variableAt, gather, gatherTerm, gathered, Fact, factOf}
-use Rattle.language.specs.Written.{value, subscripts, runBetween, InDomain, bindAll}
+use Rattle.language.specs.Written.{value, runBetween, InDomain, bindAll}
 use Rattle.language.specs.Named.{AsMany, Named, NamedSubscripts, NamedDomain, NamedVariable, NamedForm, NamedTerm, NamedSide}
 use Rattle.language.specs.Defined.{Has, IsWhole, Between, Defined, DefinedSubscripts, DefinedTest, DefinedDomain, DefinedVariable, DefinedForm, DefinedTerm, DefinedSide}
 use Rattle.language.proofs.Evaluated.{limits-read, run-written, eval-done, evalAll-done}

@@ -1,7 +1,7 @@
 -- In a model from which a problem is generated every written value is defined: the objective, both sides of each constraint at
 -- each written element, and the limits of every domain. Assumes nothing.
-use mathlib.Core.Path.{_≡_, refl, sym, _∙_, ap, subst}
-use mathlib.Core.Bool.{Bool, true, false, not}
+use mathlib.Core.Path.{_≡_, refl, ap, subst}
+use mathlib.Core.Bool.{not}
 use mathlib.Core.Logic.{_⊎_, inl, inr}
 use mathlib.Core.Option.{Option, none, some}
 use mathlib.Core.List.{List, [], _∷_}
@@ -12,14 +12,14 @@ use Rattle.rules.specs.declared.Refusal.the-variants.{Missing}
 use Rattle.value.specs.declared.Value.{Value}
 use Rattle.language.specs.Listed.{At, In, in-nil, in-cons}
 use Rattle.language.specs.Every.{Every, every-at, every-in}
-use Rattle.language.specs.Outcome.{Outcome, done, _>>=_, check, after, refused-done}
+use Rattle.language.specs.Outcome.{done, check, after, refused-done}
 use Rattle.language.specs.Scope.{Scope, bind}
 use Rattle.language.specs.Syntax.{Name, Sort, Spans, point, span, Constraint}
 use Rattle.language.specs.Syntax
 use Rattle.language.specs.Evaluation.{over, isNone}
 use Rattle.language.specs.Store.{isGiven, givenBy, allGiven}
 use Rattle.language.specs.Model.{Model, start, Declaration, asDiscrete, asContinuous, declared, discretes, continuouses}
-use Rattle.language.specs.Numbering.{Variable, addVariable, addVariables, gathered, Fact, factOf, Source, Entry, rowCount, addEntry, addEntries, Lp, generate}
+use Rattle.language.specs.Numbering.{Variable, addVariable, addVariables, gathered, factOf, Source, Entry, addEntry, addEntries, Lp, generate}
 use Rattle.language.specs.Written.{InDomain, bindAll}
 use Rattle.language.specs.Demand3.{Written, Declared, scopeAt}
 use Rattle.language.specs.Named.{NamedDomain, NamedSort, NamedEntry, NamedConstraint, NamedStructure}

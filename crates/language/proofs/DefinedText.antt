@@ -3,8 +3,7 @@ use mathlib.Core.Path.{_≡_, refl, _∙_, ap, subst}
 use mathlib.Core.List.{List}
 use Prim.Native.Nat.{ℕ}
 use Rattle.lexer.specs.Text.{tokens}
-use Rattle.language.specs.Outcome.{Outcome, done, refused, _>>=_, after, done-injective, refused-done}
-use Rattle.language.specs.Syntax.{Structure}
+use Rattle.language.specs.Outcome.{Outcome, done, refused, after, done-injective, refused-done}
 use Rattle.language.specs.Reader.{Read}
 use Rattle.language.specs.Grammar.{structure}
 use Rattle.language.specs.Data.{readData}

@@ -1,16 +1,14 @@
 -- Every element of a declared domain of variables has a number: behind a passed domain test, no variable is refused for want of
 -- one. Assumes nothing.
 use mathlib.Core.Path.{_≡_, refl, sym, _∙_, ap, subst}
-use mathlib.Core.Bool.{Bool, true, false, _&&_}
+use mathlib.Core.Bool.{Bool, true, false}
 use mathlib.Core.Logic.{_⊎_, inl, inr}
 use mathlib.Core.Option.{Option, none, some}
 use mathlib.Core.List.{List, [], _∷_, _++_}
 use Prim.Native.Nat.{ℕ, zero, suc, _+_}
 use native.Mathlib.Omega.{arith}
-use lib.Dec.{eqb}
 use lib.IntN.{ℤ, pos, negsuc}
 use borrow.Author.Tests.{eq-eqb}
-use Rattle.value.specs.declared.Value.{Value}
 use Rattle.language.specs.Listed.{At, In, in-nil, in-cons, in-here, in-later, in-left, in-right}
 use Rattle.language.specs.Outcome.{done}
 use Rattle.language.specs.Scope.{Scope, unbound, sameWhole, sameElement}

@@ -1,15 +1,15 @@
 -- In the structure that is read every name stands in the table, with its declared domain and as many subscripts. Assumes nothing.
-use mathlib.Core.Path.{_≡_, refl, subst}
+use mathlib.Core.Path.{subst}
 use mathlib.Core.Bool.{Bool}
-use mathlib.Core.Logic.{_⊎_, inl, inr}
+use mathlib.Core.Logic.{inl, inr}
 use mathlib.Core.List.{List, [], _∷_, _++_}
 use Prim.Native.Nat.{ℕ}
 use Rattle.lexer.specs.Text.{Token}
-use Rattle.language.specs.Listed.{At, at-left}
+use Rattle.language.specs.Listed.{at-left}
 use Rattle.language.specs.Every.{Every, every-at, every-append, every-weaken}
-use Rattle.language.specs.Syntax.{Formula, Formulas, Spans, Form, Term, Side, Constraint, Sort, Name, Structure, datum, minus, plus, times, sum, more, point, span}
+use Rattle.language.specs.Syntax.{Formula, Formulas, Spans, Form, Side, Constraint, Sort, Name, Structure, datum, minus, plus, times, sum, more, point, span}
 use Rattle.language.specs.Syntax
-use Rattle.language.specs.Phrases.{Means, WritesFormula, WritesTerm, WritesPrimary, WritesRun, WritesSubscripts, WritesFormulas, WritesEntry, WritesEntries, WritesDomain, WritesOptionalDomain, WritesVariable, WritesLinearTerm, WritesSigned, WritesForm, WritesSigma, WritesBody, WritesSide, WritesConstraint, WritesConstraints, WritesSubscripted, WritesSort, WritesList, WritesOptionalList, WritesDeclarations, WritesStructure}
+use Rattle.language.specs.Phrases.{Means, WritesFormula, WritesRun, WritesSubscripts, WritesFormulas, WritesEntry, WritesEntries, WritesDomain, WritesOptionalDomain, WritesVariable, WritesForm, WritesSide, WritesConstraint, WritesConstraints, WritesSubscripted, WritesSort, WritesList, WritesOptionalList, WritesDeclarations, WritesStructure}
 use Rattle.language.specs.Phrases
 use Rattle.language.specs.Named.{AsMany, IsDatum, IsVariable, Named, NamedSubscripts, NamedDomain, NamedVariable, NamedForm, NamedTerm, NamedSide, NamedConstraint, NamedSort, NamedEntry, NamedStructure}
 use Rattle.language.proofs.PhrasedModel.{stands}

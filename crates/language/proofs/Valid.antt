@@ -17,7 +17,7 @@ use Rattle.value.specs.Decimal.{Valid, zeroValue, sumOf, productOf, wholeOf}
 use Rattle.value.proofs.Operations.{sum-valid, product-valid, negate-valid, zero-valid, ofWhole-valid}
 use Rattle.language.specs.Ranges.{range, in-range}
 use Rattle.language.specs.Every.{Every, in-every}
-use Rattle.language.specs.Outcome.{Outcome, done, _>>=_, after, after-some, after-whole, some-of, fits-of, done-injective, some-injective, none-some}
+use Rattle.language.specs.Outcome.{Outcome, done, after, after-some, after-whole, some-of, fits-of, done-injective, some-injective, none-some}
 use Rattle.language.specs.Scope.{Binding, Scope, bind, unbound, boundTo}
 use Rattle.language.specs.Syntax.{Formula, Formulas, Spans, datum, minus, plus, times, sum, point, span}
 use Rattle.language.specs.Syntax

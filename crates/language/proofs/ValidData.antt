@@ -1,31 +1,30 @@
 -- A data section that is read from valid literals gives a valid store. Assumes nothing.
 use mathlib.Core.Path.{_≡_, refl, subst}
-use mathlib.Core.Bool.{Bool, true, false, cond, not}
+use mathlib.Core.Bool.{Bool, true, false, cond}
 use mathlib.Core.Option.{Option, none, some}
 use mathlib.Core.List.{List, [], _∷_}
 use Prim.Native.Nat.{ℕ, zero, suc}
 use lib.Dec.{eqb}
-use lib.IntN.{ℤ, negℤ, natAbs}
+use lib.IntN.{ℤ}
 use Rattle.rules.specs.Limits.{byteLimit, nestingLimit}
 use Rattle.rules.specs.declared.Refusal.{Refusal}
-use Rattle.rules.specs.declared.Refusal.the-variants.{Misplaced}
 use Rattle.lexer.specs.Marks.{plusSign, minusSign, comma, opens, closesList, initWord}
 use Rattle.lexer.specs.Text.{Token, Kind, sameBytes}
 use Rattle.lexer.specs.Text
 use Rattle.value.specs.declared.Value.{Value}
-use Rattle.value.specs.Decimal.{Valid, negate}
+use Rattle.value.specs.Decimal.{Valid}
 use Rattle.value.proofs.Integers.{natAbs-neg}
 use Rattle.value.proofs.Operations.{negate-valid}
 use Rattle.language.specs.Every.{Every}
 use Rattle.language.specs.Outcome.{Outcome, done, refused, done-injective, refused-done, some-injective, none-some}
 use Rattle.language.specs.Syntax.{Name, Sort, Spans, point, span}
 use Rattle.language.specs.Syntax
-use Rattle.language.specs.Reader.{Read, Reader, follow, _>>=_, give, refuse, lift, asRead, passed, next, look, isMark, isName, demand, require, expect, bracket, readString, Used, find, found, known, readKnown, readIndex}
+use Rattle.language.specs.Reader.{Read, Reader, follow, _>>=_, give, refuse, lift, passed, next, look, isMark, isName, demand, require, expect, bracket, readString, Used, find, found, known, readKnown, readIndex}
 use Rattle.language.specs.Store.{Store, scopeOf, Portion, portionBy, Bound, setAt, elementOf, positionRun, accept}
 use Rattle.language.specs.Data.{Entry, fixed, marked, digitsOf, withMinus, signedEntry, entryBy, readEntry, entriesOf, marksOf, positionsOf, orderFrom, readOrder, boundOf, valueOf, signedValue, readNumber, eachRead, runs, subscriptedPortion, isPoint, portionOf, portionsOf, Given, readClose, dataOf, readEnd, readData}
 use Rattle.language.specs.Literals.{KindLiteral, TokenLiteral, DomainLiterals, SortLiterals, NameLiterals}
 use Rattle.language.specs.Valid.{Small, SmallElement, ValidStore}
-use Rattle.language.proofs.ValidStore.{scope-valid, accept-valid, SmallIf, SmallBound, setAt-small, elementOf-small, positionRun-valid}
+use Rattle.language.proofs.ValidStore.{scope-valid, accept-valid, SmallBound, setAt-small, elementOf-small, positionRun-valid}
 
 -- ---- readers over tokens whose literals are valid
 

@@ -6,7 +6,7 @@ use mathlib.Core.Option.{Option, none, some}
 use mathlib.Core.List.{List, [], _∷_, _++_, map}
 use Prim.Native.Nat.{ℕ, zero, suc}
 use lib.Dec.{eqb, ltb}
-use lib.ListN.{length, getD, set, replicate}
+use lib.ListN.{length, getD}
 use lib.IntN.{ℤ}
 use Rattle.rules.specs.Limits.{variableLimit}
 use Rattle.rules.specs.declared.Refusal.the-variants.{Full}
@@ -14,7 +14,7 @@ use Rattle.value.specs.declared.Value.{Value}
 use Rattle.value.specs.Decimal.{Valid, zeroValue, oneValue, sumOf, productOf, isAtMost, isZero}
 use Rattle.value.proofs.Operations.{sum-valid, negate-valid, zero-valid}
 use Rattle.language.specs.Every.{Every, every-append, every-getD, every-set, every-replicate, every-map}
-use Rattle.language.specs.Outcome.{Outcome, done, _>>=_, after, after-fits, after-check, done-injective, some-injective, none-some}
+use Rattle.language.specs.Outcome.{done, after, after-fits, after-check, done-injective, some-injective, none-some}
 use Rattle.language.specs.Scope.{Scope, bind}
 use Rattle.language.specs.Syntax.{Name, Sort, Spans, Form, Term, also, factor, variable, sigma, Formula, Constraint, Relation, atMost, atLeast, equal, Side, bare, form}
 use Rattle.language.specs.Syntax
@@ -22,9 +22,9 @@ use Rattle.language.specs.Evaluation.{limitsOf, runOf, eval, over}
 use Rattle.language.specs.Store.{allGiven}
 use Rattle.language.specs.Model.{Model, start, Declaration, asDiscrete, asContinuous, declared, discretes, continuouses}
 use Rattle.language.specs.Numbering.{Variable, addVariable, addVariables, Row, xor, signed, addAt, variableAt, gather, gatherTerm, gathered, Fact, bound, row, Entry, flips, factOf, keep, lessRow, equalRow, rowCount, addEntry, addEntries, boundAt, lowerAt, upperAt, picked, extreme, largest, smallest, isAtLeast, lowerOf, upperOf, Lp, lessRows, equalRows, rows, generate}
-use Rattle.language.specs.Listing.{Line, lpLine, rowLine, varLine, colLine, endLine, rightOf, coefficientsOf, rowLines, varLines, columnLines, colLines, linesOf}
+use Rattle.language.specs.Listing.{colLine, endLine, rightOf, coefficientsOf, rowLines, varLines, columnLines, colLines, linesOf}
 use Rattle.language.specs.Literals.{AllLiterals, DomainLiterals, FormLiterals, TermLiterals, SideLiterals, ConstraintLiterals, SortLiterals, NameLiterals, StructureLiterals}
-use Rattle.language.specs.Valid.{Small, SmallElement, ValidScope, ValidRow, ValidVariable, ValidFact, ValidEntry, ValidProblem, ValidUpper, ValidLine}
+use Rattle.language.specs.Valid.{SmallElement, ValidScope, ValidRow, ValidVariable, ValidFact, ValidEntry, ValidProblem, ValidUpper, ValidLine}
 use Rattle.language.proofs.Valid.{bind-valid, each-keeps, eval-valid, run-valid, over-keeps}
 
 -- ---- declared domains

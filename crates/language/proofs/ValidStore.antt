@@ -3,23 +3,23 @@ use mathlib.Core.Path.{_≡_, subst}
 use mathlib.Core.Bool.{Bool, true, false, _&&_}
 use mathlib.Core.Option.{Option, none, some}
 use mathlib.Core.List.{List, [], _∷_}
-use Prim.Native.Nat.{ℕ, zero, suc, _≤_}
+use Prim.Native.Nat.{ℕ, zero, suc}
 use lib.Dec.{eqb, ltb}
 use lib.ListN.{length}
-use lib.IntN.{ℤ, pos}
+use lib.IntN.{ℤ}
 use Rattle.rules.specs.Limits.{dataLimit}
 use Rattle.rules.specs.declared.Refusal.the-variants.{Missing, Full}
 use Rattle.value.specs.declared.Value.{Value}
 use Rattle.value.specs.Decimal.{Valid}
 use Rattle.value.proofs.Operations.{zero-valid}
 use Rattle.language.specs.Every.{Every}
-use Rattle.language.specs.Outcome.{Outcome, done, _>>=_, after, after-check, done-injective, some-injective, none-some}
+use Rattle.language.specs.Outcome.{done, after, after-check, done-injective, some-injective, none-some}
 use Rattle.language.specs.Syntax.{Spans, point, span}
-use Rattle.language.specs.Scope.{Scope, bind, sameElement}
-use Rattle.language.specs.Evaluation.{limitsOf, runOf, eval, within, isNone}
-use Rattle.language.specs.Store.{Datum, Store, stored, scopeOf, Portion, Bound, setAt, elementOf, bindIf, positionRun, wholeIf, accept}
+use Rattle.language.specs.Scope.{Scope, sameElement}
+use Rattle.language.specs.Evaluation.{limitsOf, eval, within, isNone}
+use Rattle.language.specs.Store.{Store, stored, scopeOf, Portion, Bound, setAt, elementOf, bindIf, positionRun, wholeIf, accept}
 use Rattle.language.specs.Literals.{DomainLiterals}
-use Rattle.language.specs.Valid.{Small, SmallElement, ValidScope, ValidDatum, ValidStore}
+use Rattle.language.specs.Valid.{Small, SmallElement, ValidScope, ValidStore}
 use Rattle.language.proofs.Valid.{bind-valid, run-valid}
 
 stored-valid : (st : Store) (i : ℕ) (e : List ℤ) (v : Value) → ValidStore st → stored st i e ≡ some v → Valid v

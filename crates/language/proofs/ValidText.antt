@@ -5,7 +5,7 @@ use Prim.Native.Nat.{ℕ}
 use Rattle.value.specs.Decimal.{Valid}
 use Rattle.lexer.specs.Text.{tokens}
 use Rattle.language.specs.Every.{Every}
-use Rattle.language.specs.Outcome.{Outcome, done, refused, _>>=_, after, done-injective, refused-done}
+use Rattle.language.specs.Outcome.{Outcome, done, refused, after, done-injective, refused-done}
 use Rattle.language.specs.Reader.{Read}
 use Rattle.language.specs.Grammar.{structure}
 use Rattle.language.specs.Model.{Model, model, whatOf, readModel, start}
@@ -15,7 +15,7 @@ use Rattle.language.specs.Answer.{Accepted, accepted}
 use Rattle.language.specs.Literals.{LiteralTokens, StructureLiterals}
 use Rattle.language.specs.Valid.{ValidScope, ValidStore, ValidProblem, ValidLine}
 use Rattle.language.proofs.ValidStore.{scope-valid}
-use Rattle.language.proofs.ValidData.{Got, Gives, given, then, readData-valid}
+use Rattle.language.proofs.ValidData.{Gives, given, then, readData-valid}
 use Rattle.language.proofs.ValidProblem.{generate-valid, lines-valid}
 
 -- the literals of the trees, and the data

@@ -1,7 +1,6 @@
 -- What is valid: values that fit, and index numbers no larger than a value's, wherever a scope, the data, a problem or a line
 -- holds them. Assumes nothing.
 use mathlib.Core.Path.{_≡_}
-use mathlib.Core.Bool.{Bool}
 use mathlib.Core.Option.{Option, none, some}
 use mathlib.Core.List.{List}
 use Prim.Native.Nat.{ℕ, _≤_}
