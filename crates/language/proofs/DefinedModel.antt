@@ -7,6 +7,7 @@ use mathlib.Core.Option.{Option, none, some}
 use mathlib.Core.List.{List, [], _∷_}
 use Prim.Native.Nat.{ℕ, zero, suc, _+_}
 use native.Mathlib.Omega.{arith}
+use lib.ListN.{length}
 use lib.IntN.{ℤ}
 use Rattle.rules.specs.declared.Refusal.the-variants.{Missing}
 use Rattle.value.specs.declared.Value.{Value}
@@ -165,7 +166,7 @@ defined m p named e =
     after (addVariables (start m) (continuouses m) a) _ p e λ vs then e.
     after (gathered vs (m .structure .objective) (start m)) _ p e λ o gathers e.
     after (addEntries vs (start m) 0 (m .structure .constraints) []) _ p e λ es taken _.
-    let numbered : (j : ℕ) (v : Variable) → At vs j v → Declared m v = variable-numbers m vs (variables-made m a vs first then) .of-number in
+    let numbered : (j : ℕ) (v : Variable) → At vs j v → Declared m v = variable-numbers m vs (length a) (variables-made m a vs first then) .of-number in
     record {
       names = λ i x at. name-defined m u given a first vs then (named .table) i x at (x .sort) refl;
       objective = gathered-defined (m .structure .names) vs (Declared m) numbered (m .structure .objective) (start m) o (named .objective) gathers;

@@ -7,6 +7,7 @@ use mathlib.Core.Option.{Option, none, some}
 use mathlib.Core.List.{List, [], _∷_, _++_}
 use Prim.Native.Nat.{ℕ, zero, suc, _+_}
 use native.Mathlib.Omega.{arith}
+use lib.ListN.{length}
 use lib.IntN.{ℤ, pos, negsuc}
 use borrow.Author.Tests.{eq-eqb}
 use Rattle.language.specs.Listed.{At, In, in-nil, in-cons, in-here, in-later, in-left, in-right}
@@ -22,10 +23,8 @@ use Rattle.language.specs.Written.{InDomain}
 use Rattle.language.specs.Demand3.{Declared}
 use Rattle.language.specs.Named.{IsVariable, NamedVariable}
 use Rattle.language.specs.Defined.{Has}
-use Rattle.language.proofs.Listwise.{collect}
-use Rattle.language.proofs.Collected.{collect-append}
-use Rattle.language.proofs.Entries.{variablesOf, variables-grown}
-use Rattle.language.proofs.Numbered.{allDeclared, variable-numbers}
+use Rattle.language.proofs.Entries.{variables-grown}
+use Rattle.language.proofs.Numbered.{Variables, variable-numbers}
 use Rattle.language.proofs.Defined.{many, within-defined}
 
 -- ---- a variable that stands in the list is found
@@ -94,14 +93,14 @@ variable-declared m i d h = go (h .sort)
         (r .0, omega (arith, r .1), r .2, in-right (declared asDiscrete 0 xs) (declared asContinuous 0 xs) (r .0) (r .3))
 
 module _ (m : Model) (a vs : List Variable) (first : addVariables (start m) (discretes m) [] ≡ done a) (then : addVariables (start m) (continuouses m) a ≡ done vs) where
-  pub variables-made : collect (variablesOf (start m)) (allDeclared m) ≡ done vs
+  pub variables-made : Variables m vs (length a)
   variables-made =
       let u = variables-grown (start m) (discretes m) [] a first in
       let v = variables-grown (start m) (continuouses m) a vs then in
-      collect-append (variablesOf (start m)) (discretes m) (continuouses m) (u .new) (v .new) (u .gives) (v .gives) ∙ ap done (ap (λ l. l ++ v .new) (u .appended) ∙ v .appended)
+      record { discrete = a; continuous = v .new; discrete-made = u .gives ∙ ap done (u .appended); continuous-made = v .gives; joined = v .appended; counted = refl }
 
   pub each-numbered : (v : Variable) → Declared m v → Has (numberOf (v .name) (v .element) vs)
-  each-numbered v d = in-numberOf (v .name) (v .element) vs (variable-numbers m vs variables-made .has-number v d)
+  each-numbered v d = in-numberOf (v .name) (v .element) vs (variable-numbers m vs (length a) variables-made .has-number v d)
 
   -- subscripts that pass the domain test of a variable have a number, whatever indices are bound
   pub never-outside : (i : ℕ) (d : Spans) (fs : Formulas) (p : ℕ) (s : Scope) (ks : List ℤ) (u : Unit {0}) → NamedVariable (m .structure .names) i d fs → s .known ≡ start m .known

@@ -5,11 +5,13 @@ pub mod PhrasedModel
 pub mod Evaluated
 pub mod Gathered
 pub mod Listwise
+pub mod Ordered
 pub mod Collected
 pub mod Elements
 pub mod Bounds
 pub mod Entries
 pub mod Numbered
+pub mod Stated
 pub mod Summed
 pub mod Lines
 pub mod Kept
@@ -24,3 +26,5 @@ pub mod EachNumbered
 pub mod DefinedModel
 pub mod NamedRead
 pub mod DefinedText
+pub mod Cases
+pub mod Shown
