@@ -11,7 +11,6 @@ use lib.Dec.{eqb, leb}
 use lib.IntN.{ℤ, pos, natAbs, _*ℤ_}
 use Rattle.rules.specs.Limits.{mantissaLimit, scaleLimit}
 use Rattle.value.specs.declared.Value.{Value}
-use Rattle.value.specs.declared.Fit.{Fit}
 use Rattle.value.specs.declared.Fit.the-variants.{Fits, TooBig}
 use Rattle.value.specs.Fraction.{Fraction, _≈_}
 use Rattle.value.specs.Decimal.{Valid, tenths, frac, withSign, Lowest, at, none, seek, choose, ten, fitOf}

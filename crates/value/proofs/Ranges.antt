@@ -1,6 +1,6 @@
 -- Laws of `inRange`: what the code tests of its operands. Assumes nothing.
-use mathlib.Core.Path.{_≡_, refl, sym, _∙_, ap}
-use mathlib.Core.Bool.{Bool, true, false, cond, _&&_}
+use mathlib.Core.Path.{_≡_, refl, sym, _∙_}
+use mathlib.Core.Bool.{Bool, true, false, _&&_}
 use Prim.Native.Nat.{ℕ, _<_, _≤_}
 use native.Mathlib.Omega.{arith}
 use borrow.Author.Tests.{le-leb, lt-leb, leb-true}
@@ -11,6 +11,14 @@ use Rattle.value.specs.declared.Value.{Value}
 use Rattle.value.specs.declared.Fit.{Fit}
 use Rattle.value.specs.declared.Fit.the-variants.{TooBig}
 use Rattle.value.specs.Decimal.{Valid, inRange, ifInRange}
+
+pub and-true : (t : Bool) → (t && true) ≡ t
+and-true true = refl
+and-true false = refl
+
+pub and-false : (t : Bool) → (t && false) ≡ false
+and-false true = refl
+and-false false = refl
 
 pub and-left : (a b : Bool) → (a && b) ≡ true → a ≡ true
 and-left true b e = refl
@@ -41,10 +49,18 @@ module _ (v : Value) where
   unfolding inRange
   valid-in-range h = rw (le-leb _ _ (h .small), le-leb _ _ (h .places))
 
+-- two operands in range, as the code tests them
+pub record Both (a b : Value) : Type 0 where
+  pub left : inRange a ≡ true
+  pub right : inRange b ≡ true
+
+pub both-of : (a b : Value) (r : Bool) → r ≡ (inRange a && inRange b) → r ≡ true → Both a b
+both-of a b r e h = record { left = and-left _ _ (sym e ∙ h); right = and-right (inRange a) _ (sym e ∙ h) }
+
 module _ (a b : Value) (r : Fit) where
-  pub both-in-range : true ≡ (inRange a && inRange b) → r ≡ ifInRange a b r
+  pub both-in-range : Both a b → r ≡ ifInRange a b r
   unfolding ifInRange
-  both-in-range e = rw (← e)
+  both-in-range w = rw (w .left, w .right)
 
   pub not-in-range : false ≡ (inRange a && inRange b) → TooBig ≡ ifInRange a b r
   unfolding ifInRange

@@ -1,30 +1,24 @@
 -- Laws of literals (`specs/Literal.antt`). Assumes nothing.
-use mathlib.Core.Path.{_≡_, refl, sym, _∙_, ap, subst}
+use mathlib.Core.Path.{_≡_, refl, _∙_, ap, subst}
 use mathlib.Core.Bool.{Bool, true, false, cond, _&&_}
 use mathlib.Core.List.{List, [], _∷_, _++_, append-nil}
-use Prim.Native.Nat.{ℕ, zero, suc, _+_, _-_, _*_, _^_, _<_, _≤_}
+use Prim.Native.Nat.{ℕ, suc, _+_, _-_, _*_, _^_, _<_, _≤_}
 use native.Mathlib.Omega.{arith}
 use native.Mathlib.Nat.{mul-assoc, mul-comm, mul-left-comm, mul-le-mul-right, pow-suc, one-le-pow, pow-le-pow-right, le-mul-of-pos-right}
 use native.Mathlib.Numerals.{add-one}
 use borrow.Author.Tests.{le-leb, lt-leb, leb-true, eq-eqb, ne-eqb}
 use lib.Dec.{leb, eqb, lit<}
-use lib.ListN.{length, getD, take, drop, length-take, length-drop, drop-of-length-le}
+use lib.ListN.{length, getD, take, drop, length-drop, drop-of-length-le}
 use lib.Seq.{drop-cons, take-all, drop-length}
 use lib.IntN.{pos}
 use Rattle.rules.specs.Limits.{digitLimit}
-use Rattle.value.specs.declared.Fit.{Fit}
 use Rattle.value.specs.declared.Fit.the-variants.{Fits, TooBig}
-use Rattle.value.specs.Decimal.{tenths, fitOf}
+use Rattle.value.specs.declared.Value.{Value}
+use Rattle.value.specs.Decimal.{Valid, tenths, fitOf}
 use Rattle.value.specs.Literal.{isDigit, allDigits, digitOf, numberFrom, before, after, isLiteral, literalOf}
 use Rattle.value.specs.Parts.{partsValue}
-
-and-true : (t : Bool) → (t && true) ≡ t
-and-true true = refl
-and-true false = refl
-
-and-false : (t : Bool) → (t && false) ≡ false
-and-false true = refl
-and-false false = refl
+use Rattle.value.proofs.Fitting.{fitOf-valid}
+use Rattle.value.proofs.Ranges.{and-true, and-false}
 
 -- ---- a digit
 
@@ -204,9 +198,6 @@ module _ (t : List ℕ) (p : ℕ) (at : p ≡ length (before t)) where
   is-after : after t ≡ drop (p + 1) t
   is-after = rw (add-one, at) (after-drop t)
 
-  long-before : length t ≤ p → length (before t) ≡ length t
-  long-before h = ap length is-before ∙ length-take p t ∙ omega arith
-
   long-after : length (after t) ≡ length t - (p + 1)
   long-after = ap length is-after ∙ length-drop (p + 1) t
 
@@ -225,3 +216,13 @@ module _ (t : List ℕ) (p : ℕ) (at : p ≡ length (before t)) where
   unfolding partsValue literalOf isLiteral
   literal-parts h =
       rw (ne-eqb (length t) (length (before t)) (λ e. omega (arith, at)), le-leb 1 (length (after t)) (omega (arith, long-after)), and-true, is-before, is-after)
+
+-- ---- what is read is a value
+
+pub literal-valid : (t : List ℕ) (v : Value) → literalOf t ≡ Fits v → Valid v
+unfolding literalOf
+literal-valid t v e = go (isLiteral t && leb (length (before t) + length (after t)) digitLimit) e
+  where
+    go : (u : Bool) → cond u (fitOf (tenths (pos (numberFrom 0 (before t ++ after t))) (length (after t)))) TooBig ≡ Fits v → Valid v
+    go true h = fitOf-valid _ v h
+    go false h = absurd (let w : _≡_ {A = ℕ} 0 1 = cc in omega arith)

@@ -10,7 +10,7 @@ use lib.IntN.{ℤ, natAbs}
 use Rattle.rules.specs.Limits.{mantissaLimit, scaleLimit}
 use Rattle.value.specs.declared.Fit.{Fit}
 use Rattle.value.specs.declared.Fit.the-variants.{Fits, TooBig}
-use Rattle.value.specs.Decimal.{tenths, at, none, withSign, seek, ten, choose, fitOf}
+use Rattle.value.specs.Decimal.{tenths, at, withSign, seek, ten, choose, fitOf}
 
 pub ten-pos : (k : ℕ) → 0 < 10 ^ k
 ten-pos k = one-le-pow k 10 (lit< tt)

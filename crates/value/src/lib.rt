@@ -3,13 +3,14 @@
 ghost use mathlib.Core.Path.{_≡_};
 ghost use mathlib.Core.Bool.{true, false, cond, _&&_};
 ghost use mathlib.Core.List.{[], _∷_};
-ghost use Prim.Native.Nat.{ℕ, _+_, _*_, _/_, _%_, _^_, _<_, _≤_};
+ghost use Prim.Native.Nat.{_+_, _*_, _/_, _%_, _^_, _<_, _≤_};
 ghost use lib.ListN.{length};
-ghost use lib.IntN.{ℤ, pos, natAbs, _+ℤ_, _-ℤ_, _*ℤ_};
+ghost use lib.IntN.{pos, natAbs, _+ℤ_, _-ℤ_, _*ℤ_};
 ghost use Rattle.rules.specs.Limits.{mantissaLimit, scaleLimit};
 ghost use Rattle.value.specs.Decimal.{tenths, withSign, at, choose, fitOf, inRange, ifInRange, sumOf, differenceOf, productOf, negate, isAtMost, isZero, wholeOf, ofWhole};
-ghost use Rattle.value.specs.Gathering.{millionths, ofMillionths};
+ghost use Rattle.value.specs.Gathering.{millionths, ofMillionths, isCount, Gathered};
 ghost use Rattle.value.specs.Literal.{isDigit, allDigits, digitOf, numberFrom, before, literalOf};
+ghost use Rattle.value.specs.Printed.{widthFrom, digits, minusSign, places, printed, shown, Written};
 ghost use Rattle.value.specs.Parts.{partsValue};
 
 pub struct Value {
@@ -60,7 +61,7 @@ fn power(k: usize) -> u64
     POWERS[k]
 }
 
-// ---- signed numbers: nothing else adds, subtracts or multiplies them
+// ---- signed numbers: all code that adds, subtracts or multiplies them stands here
 
 fn plus(a: i64, b: i64) -> i64
     requires { ⌜ natAbs a + natAbs b < 2 ^ 63 ⌝ }
@@ -136,6 +137,7 @@ fn normalise(z: i64, s: usize) -> Fit
 
 // ---- operations
 
+// Are m and s within the bounds of a value?
 fn in_range(v: Value) -> bool
     ensures { λ r. ⌜ r ≡ inRange v ⌝ }
 {
@@ -162,7 +164,7 @@ fn scaled(m: i64, k: usize) -> i64
     times(m, power(k) as i64)
 }
 
-// A value as a count of millionths, and the value of such a count.
+// A value as a count of millionths.
 fn aligned(v: Value) -> i64
     requires { ⌜ inRange v ≡ true ⌝ }
     ensures { λ r. ⌜ r ≡ millionths v ⌝ }
@@ -171,12 +173,14 @@ fn aligned(v: Value) -> i64
     scaled(v.m, rules::SCALE_LIMIT - s)
 }
 
+// The value of a count of millionths, if it fits.
 pub fn of_millionths(z: i64) -> Fit
     ensures { λ r. ⌜ r ≡ ofMillionths z ⌝ }
 {
     normalise(z, rules::SCALE_LIMIT)
 }
 
+// Sum, difference and product, exact, if they fit; too big where an operand is out of range.
 pub fn add(a: Value, b: Value) -> Fit
     ensures { λ r. ⌜ r ≡ ifInRange a b (sumOf a b) ⌝ }
 {
@@ -206,6 +210,7 @@ pub fn mul(a: Value, b: Value) -> Fit
     Fit::TooBig
 }
 
+// The opposite; what is out of range stays as it is.
 pub fn negated(v: Value) -> Value
     ensures { λ r. ⌜ r ≡ cond (inRange v) (negate v) v ⌝ }
 {
@@ -218,6 +223,7 @@ pub fn negated(v: Value) -> Value
     v
 }
 
+// Is a at most b? Not so where one is out of range.
 pub fn at_most(a: Value, b: Value) -> bool
     ensures { λ r. ⌜ r ≡ cond (inRange a && inRange b) (isAtMost a b) false ⌝ }
 {
@@ -246,6 +252,42 @@ pub fn of_whole(k: i64) -> Value
     ensures { λ r. ⌜ r ≡ ofWhole k ⌝ }
 {
     Value { m: k, s: 0 }
+}
+
+// ---- gathering coefficients
+
+// A count that a value has is below this, either side of zero.
+const COUNT_LIMIT: u64 = 1000000000000000;
+
+fn is_count(z: i64) -> bool
+    ensures { λ r. ⌜ r ≡ isCount z ⌝ }
+{
+    magnitude(z) < COUNT_LIMIT
+}
+
+// Adds v to element k of the sums, which are counts of millionths, and says whether it did: there is such an element, it is
+// a count, v is in range, and the sum fits. Otherwise nothing changes.
+pub fn gather(sums: &mut [i64], k: usize, v: Value) -> bool
+    ensures { λ r. ⌜ Gathered (now (sums .entry)) k v r (now (sums .exit)) ⌝ }
+{
+    if sums.len() <= k {
+        return false;
+    }
+    if !in_range(v) {
+        return false;
+    }
+    let old = sums[k];
+    if !is_count(old) {
+        return false;
+    }
+    let sum = plus(old, aligned(v));
+    match of_millionths(sum) {
+        Fit::Fits(_) => {
+            sums[k] = sum;
+            true
+        }
+        Fit::TooBig => false,
+    }
 }
 
 // ---- reading a literal
@@ -332,6 +374,7 @@ fn read_parts(a: &[u8], b: &[u8]) -> Fit
     normalise(x as i64, f)
 }
 
+// The value of a literal: digits, digits.digits or .digits, at most 18 digits. Too big if t is none, or doesn't fit.
 pub fn literal(t: &[u8]) -> Fit
     ensures { λ r. ⌜ r ≡ literalOf (now (t .entry)) ⌝ }
 {
@@ -348,4 +391,97 @@ pub fn literal(t: &[u8]) -> Fit
         return Fit::TooBig;
     }
     read_parts(&t[..p], &t[q..])
+}
+
+// ---- printing
+
+// Writes b at a place of the output, or past its end nothing; the next place.
+fn put(out: &mut [u8], at: usize, b: u8) -> usize
+    requires { ⌜ at < 2 ^ 62 ⌝ }
+    ensures { λ r. ⌜ Written (now (out .entry)) at (b ∷ []) r (now (out .exit)) ⌝ }
+{
+    if at < out.len() {
+        out[at] = b;
+        return at + 1;
+    }
+    at + 1
+}
+
+fn digit_at(n: u64, k: usize) -> u8
+    requires { ⌜ k < 19 ⌝ }
+    ensures { λ r. ⌜ r ≡ n / 10 ^ k % 10 + 48 ⌝ }
+{
+    (n / power(k) % 10) as u8 + 48
+}
+
+// The lowest k digits of n.
+fn put_digits(out: &mut [u8], at: usize, k: usize, n: u64) -> usize
+    requires { ⌜ (k < 19) × (at < 2 ^ 61) ⌝ }
+    ensures { λ r. ⌜ Written (now (out .entry)) at (digits k n) r (now (out .exit)) ⌝ }
+{
+    let mut i = at;
+    let mut j = k;
+    while 0 < j {
+        j = j - 1;
+        i = put(out, i, digit_at(n, j));
+    }
+    i
+}
+
+// How many digits n has, up to 18.
+fn width_of(n: u64) -> usize
+    ensures { λ r. ⌜ (r ≡ widthFrom 17 1 n) × (r < 19) ⌝ }
+{
+    let mut w = 1;
+    while w < 18 {
+        if n < power(w) {
+            return w;
+        }
+        w = w + 1;
+    }
+    w
+}
+
+fn put_sign(out: &mut [u8], m: i64) -> usize
+    ensures { λ r. ⌜ Written (now (out .entry)) 0 (minusSign m) r (now (out .exit)) ⌝ }
+{
+    if m < 0 {
+        return put(out, 0, b'-');
+    }
+    0
+}
+
+// A point and s digits, or nothing if s is 0.
+fn put_places(out: &mut [u8], at: usize, s: usize, x: u64) -> usize
+    requires { ⌜ (s < 19) × (at < 2 ^ 60) ⌝ }
+    ensures { λ r. ⌜ Written (now (out .entry)) at (places s x) r (now (out .exit)) ⌝ }
+{
+    if s == 0 {
+        return at;
+    }
+    let next = put(out, at, b'.');
+    put_digits(out, next, s, x)
+}
+
+fn put_value(out: &mut [u8], v: Value) -> usize
+    requires { ⌜ inRange v ≡ true ⌝ }
+    ensures { λ r. ⌜ Written (now (out .entry)) 0 (printed v) r (now (out .exit)) ⌝ }
+{
+    let m = v.m;
+    let s = v.s;
+    let x = magnitude(m);
+    let whole = x / power(s);
+    let at = put_sign(out, m);
+    let mid = put_digits(out, at, width_of(whole), whole);
+    put_places(out, mid, s, x)
+}
+
+// Writes a value, as far as the output reaches; the text's length. Nothing for what is out of range.
+pub fn print(v: Value, out: &mut [u8]) -> usize
+    ensures { λ r. ⌜ Written (now (out .entry)) 0 (shown v) r (now (out .exit)) ⌝ }
+{
+    if in_range(v) {
+        return put_value(out, v);
+    }
+    0
 }

@@ -1,5 +1,5 @@
 -- `value::aligned` meets its contract. Assumes nothing.
-use mathlib.Core.Path.{_≡_, sym, _∙_}
+use mathlib.Core.Path.{_∙_}
 use native.Mathlib.Omega.{arith}
 use Rattle.rules.specs.Limits.{mantissaLimit, scaleLimit}
 use Rattle.value.specs.Gathering.{millionths}
@@ -9,7 +9,7 @@ use Rattle.value.proofs.aligned.Statement.{statement}
 use Rattle.value.proofs.aligned.Tie as tie
 
 sub-scaled : tie.Need-sub-scaled
-sub-scaled c = range-places _ (c .pre)
+sub-scaled c = omega (arith, range-places _ (c .pre))
 
 scaled-requires : tie.Need-scaled-requires
 unfolding mantissaLimit scaleLimit

@@ -1,5 +1,5 @@
 -- `value::both_in_range` meets its contract. Assumes nothing.
-use mathlib.Core.Path.{_≡_, sym, _∙_}
+use mathlib.Core.Path.{sym, _∙_}
 use borrow.Author.Needs.{needs}
 use Rattle.value.proofs.both_in_range.Statement.{statement}
 use Rattle.value.proofs.both_in_range.Tie as tie

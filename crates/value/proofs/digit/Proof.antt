@@ -1,6 +1,5 @@
 -- `value::digit` meets its contract. Assumes nothing.
 use mathlib.Core.Path.{sym, _∙_}
-use native.Mathlib.Omega.{arith}
 use Rattle.value.proofs.Reading.{digit-from, digit-value, digit-none}
 use borrow.Author.Needs.{needs}
 use Rattle.value.proofs.digit.Statement.{statement}

@@ -1,5 +1,4 @@
 -- `value::is_zero` meets its contract. Assumes nothing.
-use mathlib.Core.Path.{_≡_, sym, _∙_}
 use Rattle.value.specs.Decimal.{isZero}
 use Rattle.value.proofs.Integers.{back}
 use borrow.Author.Needs.{needs}

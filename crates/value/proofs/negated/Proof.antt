@@ -1,5 +1,5 @@
 -- `value::negated` meets its contract. Assumes nothing.
-use mathlib.Core.Path.{_≡_, sym, _∙_}
+use mathlib.Core.Path.{sym, _∙_}
 use native.Mathlib.Omega.{arith}
 use Rattle.value.proofs.Integers.{back}
 use Rattle.value.proofs.Ranges.{range-small}

@@ -1,5 +1,5 @@
 -- `value::of_millionths` meets its contract. Assumes nothing.
-use mathlib.Core.Path.{_≡_, sym, _∙_}
+use mathlib.Core.Path.{_∙_}
 use Rattle.rules.specs.Limits.{scaleLimit}
 use Rattle.value.specs.Gathering.{ofMillionths}
 use Rattle.value.proofs.Integers.{back}

@@ -1,12 +1,10 @@
 -- `value::read_parts` meets its contract. Assumes nothing.
-use mathlib.Core.Path.{_≡_, sym, _∙_}
-use mathlib.Core.Bool.{true, false}
+use mathlib.Core.Path.{sym, _∙_}
 use Prim.Native.Nat.{_<_, _^_}
 use lib.IntN.{pos}
 use borrow.Author.Tests.{not-true, not-false}
 use mir.Syntax.{w64}
 use mir.Facts.{toZ-pos}
-use Rattle.value.specs.Literal.{allDigits}
 use Rattle.value.proofs.Integers.{sfits}
 use Rattle.value.proofs.Reading.{room-start, room-rest, parts-small, parts-value, parts-long, parts-longer, parts-strange, parts-strange-after}
 use borrow.Author.Needs.{needs}

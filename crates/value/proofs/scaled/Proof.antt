@@ -1,8 +1,8 @@
 -- `value::scaled` meets its contract. Assumes nothing.
-use mathlib.Core.Path.{_≡_, sym, _∙_}
+use mathlib.Core.Path.{_∙_}
 use Prim.Native.Nat.{_<_, _^_}
 use native.Mathlib.Omega.{arith}
-use borrow.Author.Needs.{needs, sfits-of}
+use borrow.Author.Needs.{sfits-of}
 use lib.IntN.{pos}
 use mir.Syntax.{w64}
 use mir.Facts.{toZ-ofZ, toZ-pos}

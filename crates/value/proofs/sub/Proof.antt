@@ -1,12 +1,10 @@
 -- `value::sub` meets its contract. Assumes nothing.
 use mathlib.Core.Path.{_≡_, sym, _∙_}
-use mathlib.Core.Bool.{true, _&&_}
 use native.Mathlib.Omega.{arith}
 use lib.IntN.{_-ℤ_}
-use Rattle.value.specs.Decimal.{inRange}
 use Rattle.value.specs.Gathering.{millionths}
 use Rattle.value.proofs.Integers.{back}
-use Rattle.value.proofs.Ranges.{and-left, and-right, both-in-range, not-in-range}
+use Rattle.value.proofs.Ranges.{Both, both-of, both-in-range, not-in-range}
 use Rattle.value.proofs.Operations.{millionths-small, difference-fit}
 use borrow.Author.Needs.{needs}
 use Rattle.value.proofs.sub.Statement.{statement}
@@ -15,26 +13,20 @@ use Rattle.value.proofs.sub.Tie as tie
 both-in-range-requires : tie.Need-both-in-range-requires
 both-in-range-requires c κs = search needs
 
-both : (c : tie.Then1) → (inRange (c .before .before .args .a) && inRange (c .before .before .args .b)) ≡ true
-both c = sym (c .before .both-in-range .ensures) ∙ c .if1 .taken
-
-left : (c : tie.Then1) → inRange (c .before .before .args .a) ≡ true
-left c = and-left _ _ (both c)
-
-right : (c : tie.Then1) → inRange (c .before .before .args .b) ≡ true
-right c = and-right (inRange (c .before .before .args .a)) _ (both c)
+both : (c : tie.Then1) → Both (c .before .before .args .a) (c .before .before .args .b)
+both c = both-of _ _ _ (c .before .both-in-range .ensures) (c .if1 .taken)
 
 aligned-requires : tie.Need-aligned-requires
-aligned-requires c κs = left c
+aligned-requires c κs = let w = both c in search needs
 
 aligned-requires-2 : tie.Need-aligned-requires-2
-aligned-requires-2 c κs = right (c .before)
+aligned-requires-2 c κs = let w = both (c .before) in search needs
 
 minus-requires : tie.Need-minus-requires
 minus-requires c κs =
     let t = c .before .before in
     rw (back (c .before .aligned .ok), back (c .aligned2 .ok), c .before .aligned .ensures, c .aligned2 .ensures)
-    (omega (arith, millionths-small (t .before .before .args .a) (left t), millionths-small (t .before .before .args .b) (right t)))
+    (omega (arith, millionths-small (t .before .before .args .a) (both t .left), millionths-small (t .before .before .args .b) (both t .right)))
 
 exact : (c : tie.After-minus) → c .minus .result ≡ millionths (c .before .before .before .before .before .args .a) -ℤ millionths (c .before .before .before .before .before .args .b)
 exact c =
@@ -50,7 +42,7 @@ returns c =
     let t = p .before .before .before in
     let s = t .before .before in
     c .of-millionths .ensures
-    ∙ rw (back (p .minus .ok), exact p, difference-fit (s .args .a) (s .args .b) (left t) (right t)) (both-in-range _ _ _ (sym (both t)))
+    ∙ rw (back (p .minus .ok), exact p, difference-fit (s .args .a) (s .args .b) (both t .left) (both t .right)) (both-in-range _ _ _ (both t))
 
 returns-2 : tie.Need-returns-2
 returns-2 c = not-in-range _ _ _ (sym (c .if1 .left) ∙ c .before .both-in-range .ensures)

@@ -1,5 +1,4 @@
 -- `value::whole_of` meets its contract. Assumes nothing.
-use mathlib.Core.Path.{_≡_, sym, _∙_}
 use Rattle.value.proofs.Integers.{back}
 use Rattle.value.proofs.Operations.{whole-number, not-whole}
 use Rattle.value.proofs.whole_of.Statement.{statement}
