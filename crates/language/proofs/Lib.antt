@@ -2,3 +2,4 @@ pub mod Taken
 pub mod Phrased
 pub mod PhrasedLinear
 pub mod PhrasedModel
+pub mod Shapes
