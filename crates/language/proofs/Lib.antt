@@ -3,3 +3,4 @@ pub mod Phrased
 pub mod PhrasedLinear
 pub mod PhrasedModel
 pub mod Shapes
+pub mod Literals
