@@ -2,6 +2,8 @@ pub mod Taken
 pub mod Phrased
 pub mod PhrasedLinear
 pub mod PhrasedModel
+pub mod Shapes
+pub mod Literals
 pub mod Evaluated
 pub mod Gathered
 pub mod Listwise

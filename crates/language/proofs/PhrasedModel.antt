@@ -24,8 +24,7 @@ use Rattle.language.specs.Declarations.{newName, indicesOf, isIn, readDu
 use Rattle.language.specs.Declarations
 use Rattle.language.specs.Grammar.{relationOf, readRelation, constraintOf, constraintsOf, readGoal, structure}
 use Rattle.language.specs.Listed.{At, In, Distinct, at-unique, in-cons, in-here, in-later, in-nil, distinct-nil, distinct-cons}
-use Rattle.language.specs.Phrases
-use Rattle.language.specs.Phrases.{_at_, Means, Unknown, indices, Wrote, Reads, WritesFormula, WritesEntry, WritesEntries, WritesConstraint, WritesConstraints, WritesIndices, WritesSubscripted, WritesSort, WritesList, WritesOptionalList, WritesDeclarations, WritesStructure, relationSign, goalWord, lastEntry, oneEntry, domain, constraint, lastConstraint, oneConstraint, lastIndex, oneIndex, noSubscripts, indexSort, integerSort, realSort, formulaSort, discreteSort, continuousSort, lastName, oneName, noList, aList, with, model}
+use Rattle.language.specs.Phrases.{_at_, Means, Unknown, indices, Wrote, Reads, Writes, entry, entries, constraint, constraints, indexList, declaredDomain, sort, WritesList, WritesOptionalList, WritesDeclarations, WritesStructure, relationSign, goalWord, lastEntry, oneEntry, inParentheses, oneConstraint, lastConstraint, moreConstraints, lastIndex, oneIndex, noSubscripts, withDomain, indexSort, integerSort, realSort, formulaSort, discreteSort, continuousSort, lastName, oneName, noList, aList, sixLists, with, model}
 use Rattle.language.proofs.Taken.{gives, refuses, weaken, either, then, last, then-next, then-look, look-else, look-next, then-require, demand-read, then-demand, then-expect, then-bracket, then-string, then-index, name-read, NameAt, marked, named, some-none, means}
 use Rattle.language.proofs.Phrased.{inside-read, formula-at, entry-read, optional-read}
 use Rattle.language.proofs.PhrasedLinear.{linear-read, side-written}
@@ -91,7 +90,7 @@ goal-read = then-next (λ t. then-require _ _ _ (λ _ e. gives (t .place, ap (λ
 module _ (names : List Name) where
   -- ---- declared domains
 
-  pub indices-read : (n : ℕ) → Reads (indicesOf names n) (λ is l. WritesIndices names is l × (length is ≤ suc n))
+  pub indices-read : (n : ℕ) → Reads (indicesOf names n) (λ is l. Writes names (indexList is) l × (length is ≤ suc n))
   unfolding indicesOf
   indices-read zero = then-index names (λ i s m. then-expect _ (λ q. gives (lastIndex (i .place) q m, omega arith)))
   indices-read (suc n) = then-index names (λ i s m. look-next (isMark comma)
@@ -102,7 +101,7 @@ module _ (names : List Name) where
   IsIndex : ℕ → Type 0
   IsIndex i = (l : List ℕ) × Means names l i Syntax.index
 
-  all-indices : {is : List ℕ} {l : List Token} → WritesIndices names is l → (i : ℕ) → In is i → IsIndex i
+  all-indices : {is : List ℕ} {l : List Token} → Writes names (indexList is) l → (i : ℕ) → In is i → IsIndex i
   unfolding IsIndex
   all-indices (lastIndex {l = s} {i = j} p q m) i h = elim (in-cons j [] i h) [ inl e ↦ (s, subst (λ k. Means names s k Syntax.index) e m) | inr k ↦ absurd (in-nil i k) ]
   all-indices (oneIndex {l = s} {i = j} {is = is} p q m w) i h = elim (in-cons j is i h) [ inl e ↦ (s, subst (λ k. Means names s k Syntax.index) e m) | inr k ↦ all-indices w i k ]
@@ -121,7 +120,7 @@ module _ (names : List Name) where
 
   -- the domain names the indices that are due, none of them named before
   record Due (seen is : List ℕ) (d : Spans) (l : List Token) : Type 0 where
-    entries : WritesEntries names d l
+    entries : Writes names (entries d) l
     same : indices d ≡ is
     distinct : Distinct is
     fresh : (i : ℕ) → In is i → isIn i seen ≡ false
@@ -138,7 +137,7 @@ module _ (names : List Name) where
   abbrev IsDue : ℕ → List ℕ → ℕ → Type 0
   IsDue i seen j = (j ≡ i) × (isIn i seen ≡ false)
 
-  due-one : {i j p : ℕ} {seen is : List ℕ} {f g : Formula} {d : Spans} {l k : List Token} (q : ℕ) → IsDue i seen j → WritesEntry names j f g p l → Due (i ∷ seen) is d k
+  due-one : {i j p : ℕ} {seen is : List ℕ} {f g : Formula} {d : Spans} {l k : List Token} (q : ℕ) → IsDue i seen j → Writes names (entry j f g p) l → Due (i ∷ seen) is d k
       → Due seen (i ∷ is) (span j f g p d) (l ++ (mark comma at q ∷ k))
   due-one {i} {j} {seen} {is} {d} q e w v =
       record {
@@ -148,7 +147,7 @@ module _ (names : List Name) where
         fresh = λ j h. elim (in-cons i is j h) [ inl x ↦ subst (λ k. isIn k seen ≡ false) x (e .1) | inr k ↦ not-in j i seen (v .fresh j k) .1 ];
       }
 
-  due-last : {i j p : ℕ} {seen : List ℕ} {f g : Formula} {l : List Token} (q : ℕ) → IsDue i seen j → WritesEntry names j f g p l → Due seen (i ∷ []) (span j f g p point) (l ++ (mark closes at q ∷ []))
+  due-last : {i j p : ℕ} {seen : List ℕ} {f g : Formula} {l : List Token} (q : ℕ) → IsDue i seen j → Writes names (entry j f g p) l → Due seen (i ∷ []) (span j f g p point) (l ++ (mark closes at q ∷ []))
   due-last {i} {seen} q e w =
       record {
         entries = lastEntry q w;
@@ -157,7 +156,7 @@ module _ (names : List Name) where
         fresh = λ j h. elim (in-cons i [] j h) [ inl x ↦ subst (λ k. isIn k seen ≡ false) x (e .1) | inr k ↦ absurd (in-nil j k) ];
       }
 
-  entry-due : (i : ℕ) (seen is : List ℕ) → ((j : ℕ) → In (i ∷ is) j → IsIndex j) → Reads (entryOf (inDomain names) (readDue names i seen)) (λ e l. WritesEntry names (e .number) (e .lower) (e .upper) (e .place) l × IsDue i seen (e .number))
+  entry-due : (i : ℕ) (seen is : List ℕ) → ((j : ℕ) → In (i ∷ is) j → IsIndex j) → Reads (entryOf (inDomain names) (readDue names i seen)) (λ e l. Writes names (entry (e .number) (e .lower) (e .upper) (e .place)) l × IsDue i seen (e .number))
   entry-due i seen is x = entry-read names _ (inside-read names nestingLimit) (IsDue i seen) (due-read i seen (x i (in-here i is)))
 
   domain-due : (is : List ℕ) (i : ℕ) (seen : List ℕ) → ((j : ℕ) → In (i ∷ is) j → IsIndex j) → Reads (dueOf names (i ∷ is) seen) (Due seen (i ∷ is))
@@ -167,40 +166,40 @@ module _ (names : List Name) where
       then (entry-due i seen (j ∷ is) x) λ e l w. then-expect _ λ q.
       last _ (domain-due is j (i ∷ seen) (λ k h. x k (in-later i (j ∷ is) k h))) (λ d k v. due-one q (w .1) (w .0) v)
 
-  due-all : {is : List ℕ} {l : List Token} → WritesIndices names is l → Reads (dueOf names is []) (Due [] is)
+  due-all : {is : List ℕ} {l : List Token} → Writes names (indexList is) l → Reads (dueOf names is []) (Due [] is)
   due-all (lastIndex {i = i} p q m) = domain-due [] i [] (all-indices (lastIndex p q m))
   due-all (oneIndex {i = i} {is = is} p q m w) = domain-due is i [] (all-indices (oneIndex p q m w))
 
-  subscripted-read : Reads (subscripted names) (WritesSubscripted names)
+  subscripted-read : Reads (subscripted names) (λ x. Writes names (declaredDomain x))
   unfolding subscripted indexLimit
   subscripted-read =
       look-else (isMark opensList)
       (then-bracket _ nestingLimit λ p. then (indices-read (indexLimit - 1)) λ is l w. then-bracket _ nestingLimit λ q.
-      weaken (due-all (w .0)) (λ d k v. Phrases.subscripted {l = l} p (rw (v .same) (w .0)) (rw (v .same) (v .distinct)) (domain q (v .entries) (rw (v .same) (omega (arith, w .1))))))
+      weaken (due-all (w .0)) (λ d k v. withDomain {l = l} p (rw (v .same) (w .0)) (rw (v .same) (v .distinct)) (inParentheses q (v .entries) (rw (v .same) (omega (arith, w .1))))))
       (gives noSubscripts)
 
-  formula-entry : Reads (formulaEntry names) (WritesSort names formulaWord)
+  formula-entry : Reads (formulaEntry names) (λ x. Writes names (sort formulaWord x))
   unfolding formulaEntry
   formula-entry = then-expect _ (λ p. last _ (formula-at names nestingLimit) (λ f l w. formulaSort p w))
 
-  domain-entry : (word : ℕ) (sort : Spans → Sort) → ((d : Spans) (l : List Token) → WritesSubscripted names d l → WritesSort names word (sort d) l) → Reads (domainEntry sort names) (WritesSort names word)
+  domain-entry : (word : ℕ) (of : Spans → Sort) → ((d : Spans) (l : List Token) → Writes names (declaredDomain d) l → Writes names (sort word (of d)) l) → Reads (domainEntry of names) (λ x. Writes names (sort word x))
   unfolding domainEntry
-  domain-entry word sort h = last sort subscripted-read h
+  domain-entry word of h = last of subscripted-read h
 
   -- ---- constraints
 
-  constraint-read : Reads (constraintOf names) (WritesConstraint names)
+  constraint-read : Reads (constraintOf names) (λ x. Writes names (constraint x))
   unfolding constraintOf
   constraint-read =
       then-string λ s. then (linear-read names nestingLimit) λ x a w. then relation-read λ r l m. rw (m .1)
-      (then (formula-at names nestingLimit) λ f b v. last _ (optional-read names) λ d c u. constraint (s .place) (m .0) r (side-written names w) v u)
+      (then (formula-at names nestingLimit) λ f b v. last _ (optional-read names) λ d c u. oneConstraint (s .place) (m .0) r (side-written names w) v u)
 
-  pub constraints-read : (n : ℕ) → Reads (constraintsOf names n) (λ cs l. WritesConstraints names cs l × (length cs ≤ n))
+  pub constraints-read : (n : ℕ) → Reads (constraintsOf names n) (λ cs l. Writes names (constraints cs) l × (length cs ≤ n))
   unfolding constraintsOf
   constraints-read zero = then-look (λ t. refuses)
   constraints-read (suc n) =
       then constraint-read λ c l w. look-else isString
-      (last _ (constraints-read n) (λ cs k v. (oneConstraint w (v .0), omega (arith, v .1))))
+      (last _ (constraints-read n) (λ cs k v. (moreConstraints w (v .0), omega (arith, v .1))))
       (gives (rw append-nil (lastConstraint w), omega arith))
 
 -- ---- declarations
@@ -215,7 +214,7 @@ new-name names =
     unknown l none e f = record { missed = e }
     unknown l (some u) e f = let z : _≡_ {A = ℕ} 0 1 = cc in absurd (omega arith)
 
-module _ (word : ℕ) (E : List Name → Reader Sort) (re : (names : List Name) → Reads (E names) (WritesSort names (suc word))) where
+module _ (word : ℕ) (E : List Name → Reader Sort) (re : (names : List Name) → Reads (E names) (λ x. Writes names (sort (suc word) x))) where
   entries-read : (n : ℕ) (names : List Name) → Reads (entriesFrom E n names) (WritesList (suc word) names)
   unfolding entriesFrom
   entries-read zero names = refuses
@@ -238,7 +237,7 @@ declarations-read =
     then (list-read _ formulaEntry formula-entry w) λ x d wd.
     then (list-read _ (domainEntry Syntax.discrete) (λ names. domain-entry names _ Syntax.discrete (λ d l w. discreteSort w)) x) λ y e we.
     weaken (list-read _ (domainEntry Syntax.continuous) (λ names. domain-entry names _ Syntax.continuous (λ d l w. continuousSort w)) y) λ z f wf.
-    Phrases.declarations wa wb wc wd we wf
+    sixLists wa wb wc wd we wf
 
 -- ---- the whole
 
