@@ -22,7 +22,7 @@ use Rattle.language.specs.Scope.{Binding, Scope, bind, unbound, boundTo}
 use Rattle.language.specs.Syntax.{Formula, Formulas, Spans, datum, minus, plus, times, sum, point, span}
 use Rattle.language.specs.Syntax
 use Rattle.language.specs.Evaluation.{Limits, limitsOf, wholeAt, runOf, each, addTo, eval, evalAll, within, over}
-use Rattle.language.specs.Literals.{AllLiterals, SubscriptLiterals, DomainLiterals}
+use Rattle.language.specs.Literals.{AllFormula, AllFormulas, AllSpans}
 use Rattle.language.proofs.Evaluated.{limits-read, run-done}
 use Rattle.language.specs.Valid.{Small, SmallElement, SmallBinding, ValidScope}
 
@@ -95,7 +95,7 @@ unbound-valid s h = record { known = h .known; bound = tt }
 
 -- ---- formulas and domains
 
-pub eval-valid : (f : Formula) (s : Scope) (v : Value) → AllLiterals Valid f → ValidScope s → eval f s ≡ done v → Valid v
+pub eval-valid : (f : Formula) (s : Scope) (v : Value) → AllFormula Valid f → ValidScope s → eval f s ≡ done v → Valid v
 unfolding eval
 eval-valid (Syntax.literal u) s v a h e = subst Valid (done-injective e) a
 eval-valid (Syntax.index i p) s v a h e =
@@ -125,12 +125,12 @@ eval-valid (sum i f g b p) s v a h e =
     zero-valid e
 
 -- the run of an index between two formulas
-pub run-valid : (f g : Formula) (i : ℕ) (s : Scope) (p : ℕ) (l : Limits) (ks : List ℤ) → AllLiterals Valid f → AllLiterals Valid g → ValidScope s
+pub run-valid : (f g : Formula) (i : ℕ) (s : Scope) (p : ℕ) (l : Limits) (ks : List ℤ) → AllFormula Valid f → AllFormula Valid g → ValidScope s
     → limitsOf (eval f s) (eval g s) p ≡ done l → runOf l i s p ≡ done ks → SmallElement ks
 run-valid f g i s p l ks a b h e r =
     run-small l i s p ks (limits-small (eval f s) (eval g s) p l (λ u d. eval-valid f s u a h d) (λ u d. eval-valid g s u b h d) e) r
 
-pub evalAll-valid : (fs : Formulas) (s : Scope) (p : ℕ) (ks : List ℤ) → SubscriptLiterals Valid fs → ValidScope s → evalAll fs s p ≡ done ks → SmallElement ks
+pub evalAll-valid : (fs : Formulas) (s : Scope) (p : ℕ) (ks : List ℤ) → AllFormulas Valid fs → ValidScope s → evalAll fs s p ≡ done ks → SmallElement ks
 unfolding evalAll wholeAt
 evalAll-valid Syntax.none s p ks a h e = subst SmallElement (done-injective e) tt
 evalAll-valid (Syntax.more f fs) s p ks a h e =
@@ -140,7 +140,7 @@ evalAll-valid (Syntax.more f fs) s p ks a h e =
     subst SmallElement (done-injective e) (small-whole v k (eval-valid f s v (a .0) h fv) vk, evalAll-valid fs s p l (a .1) h fl)
 
 -- a property that the step at each element of a domain keeps: the scope there is valid and the element small
-pub over-keeps : {A : Type 0} (P : A → Type 0) (d : Spans) (s : Scope) (f : Scope → List ℤ → A → Outcome A) → DomainLiterals Valid d → ValidScope s
+pub over-keeps : {A : Type 0} (P : A → Type 0) (d : Spans) (s : Scope) (f : Scope → List ℤ → A → Outcome A) → AllSpans Valid d → ValidScope s
     → ((t : Scope) (e : List ℤ) (a b : A) → ValidScope t → SmallElement e → P a → f t e a ≡ done b → P b)
     → (a b : A) → P a → over d s f a ≡ done b → P b
 unfolding over

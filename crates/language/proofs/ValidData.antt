@@ -22,7 +22,7 @@ use Rattle.language.specs.Syntax
 use Rattle.language.specs.Reader.{Read, Reader, follow, _>>=_, give, refuse, lift, passed, next, look, isMark, isName, demand, require, expect, bracket, readString, Used, find, found, known, readKnown, readIndex}
 use Rattle.language.specs.Store.{Store, scopeOf, Portion, portionBy, Bound, setAt, elementOf, positionRun, accept}
 use Rattle.language.specs.Data.{Entry, fixed, marked, digitsOf, withMinus, signedEntry, entryBy, readEntry, entriesOf, marksOf, positionsOf, orderFrom, readOrder, boundOf, valueOf, signedValue, readNumber, eachRead, runs, subscriptedPortion, isPoint, portionOf, portionsOf, Given, readClose, dataOf, readEnd, readData}
-use Rattle.language.specs.Literals.{KindLiteral, TokenLiteral, DomainLiterals, SortLiterals, NameLiterals}
+use Rattle.language.specs.Literals.{KindLiteral, TokenLiteral, AllSpans, AllSort, AllNames}
 use Rattle.language.specs.Valid.{Small, SmallElement, ValidStore}
 use Rattle.language.proofs.ValidStore.{scope-valid, accept-valid, SmallBound, setAt-small, elementOf-small, positionRun-valid}
 
@@ -121,10 +121,10 @@ unfolding readString
 string-read = then next-valid (λ t _. then (demanded {Q = Any} _ _ (λ _ _. tt)) (λ _ _. given tt))
 
 abbrev UsedLiterals : Used → Type 0
-UsedLiterals u = SortLiterals Valid (u .sort)
+UsedLiterals u = AllSort Valid (u .sort)
 
-module _ (names : List Name) (table : Every (NameLiterals Valid) names) where
-  found-valid : (l : List ℕ) (xs : List Name) (i p : ℕ) (u : Used) → Every (NameLiterals Valid) xs → find l xs i p ≡ some u → UsedLiterals u
+module _ (names : List Name) (table : AllNames Valid names) where
+  found-valid : (l : List ℕ) (xs : List Name) (i p : ℕ) (u : Used) → AllNames Valid xs → find l xs i p ≡ some u → UsedLiterals u
   unfolding find
   found-valid l [] i p u h e = absurd (none-some e)
   found-valid l (x ∷ xs) i p u h e = go (sameBytes l (x .spelling)) e (found-valid l xs (suc i) p u (h .1))
@@ -174,7 +174,7 @@ signedEntry-small : (m : Bool) → Gives (signedEntry m) SmallEntry
 unfolding signedEntry
 signedEntry-small m = then next-valid (λ t ht. then (demanded _ _ (λ k e. digits-small (t .kind) k ht e)) (λ k hk. given (withMinus-small m k hk)))
 
-module _ (names : List Name) (table : Every (NameLiterals Valid) names) where
+module _ (names : List Name) (table : AllNames Valid names) where
   entryBy-small : (p : ℕ) (k : Kind) → KindLiteral Valid k → Gives (entryBy names p k) SmallEntry
   unfolding entryBy
   entryBy-small p (Text.mark c) h = choice (eqb c plusSign) (signedEntry-small false) (choice (eqb c minusSign) (signedEntry-small true) refusing)
@@ -248,7 +248,7 @@ unfolding eachRead
 eachRead-valid P f keeps [] a h pa = given pa
 eachRead-valid P f keeps (k ∷ ks) a h pa = then (keeps k a (h .0) pa) (λ b pb. eachRead-valid P f keeps ks b (h .1) pb)
 
-runs-valid : (x : Portion) (js : List ℕ) (b : Bound) (st : Store) → DomainLiterals Valid (x .domain) → SmallBound b → ValidStore st → Gives (runs x js b st) ValidStore
+runs-valid : (x : Portion) (js : List ℕ) (b : Bound) (st : Store) → AllSpans Valid (x .domain) → SmallBound b → ValidStore st → Gives (runs x js b st) ValidStore
 unfolding runs
 runs-valid x [] b st d hb h = readNumber-valid x (elementOf b) st (elementOf-small b hb) h
 runs-valid x (j ∷ js) b st d hb h =
@@ -257,9 +257,9 @@ runs-valid x (j ∷ js) b st d hb h =
     eachRead-valid ValidStore (λ k st. runs x js (setAt j k b) st) (λ k st hk hst. runs-valid x js (setAt j k b) st d (setAt-small j k b hk hb) hst) ks st hks h))
 
 abbrev PortionLiterals : Portion → Type 0
-PortionLiterals x = DomainLiterals Valid (x .domain)
+PortionLiterals x = AllSpans Valid (x .domain)
 
-portionBy-valid : (i p : ℕ) (s : Sort) (x : Portion) → SortLiterals Valid s → portionBy i p s ≡ some x → PortionLiterals x
+portionBy-valid : (i p : ℕ) (s : Sort) (x : Portion) → AllSort Valid s → portionBy i p s ≡ some x → PortionLiterals x
 unfolding portionBy
 portionBy-valid i p Syntax.index x h e = absurd (none-some e)
 portionBy-valid i p (Syntax.integer d) x h e = subst PortionLiterals (some-injective e) h
@@ -273,7 +273,7 @@ portionBy-valid i p (Syntax.continuous d) x h e = absurd (none-some e)
 abbrev pub ValidGiven : Given → Type 0
 ValidGiven g = ValidStore (g .store)
 
-module _ (names : List Name) (table : Every (NameLiterals Valid) names) where
+module _ (names : List Name) (table : AllNames Valid names) where
   subscripted-valid : (x : Portion) (st : Store) → PortionLiterals x → ValidStore st → Gives (subscriptedPortion names x st) ValidStore
   unfolding subscriptedPortion
   subscripted-valid x st hx h =

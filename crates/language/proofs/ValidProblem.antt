@@ -23,17 +23,17 @@ use Rattle.language.specs.Store.{allGiven}
 use Rattle.language.specs.Model.{Model, start, Declaration, asDiscrete, asContinuous, declared, discretes, continuouses}
 use Rattle.language.specs.Numbering.{Variable, addVariable, addVariables, Row, xor, signed, addAt, variableAt, gather, gatherTerm, gathered, Fact, bound, row, Entry, flips, factOf, keep, lessRow, equalRow, rowCount, addEntry, addEntries, boundAt, lowerAt, upperAt, picked, extreme, largest, smallest, isAtLeast, lowerOf, upperOf, Lp, lessRows, equalRows, rows, generate}
 use Rattle.language.specs.Listing.{colLine, endLine, rightOf, coefficientsOf, rowLines, varLines, columnLines, colLines, linesOf}
-use Rattle.language.specs.Literals.{AllLiterals, DomainLiterals, FormLiterals, TermLiterals, SideLiterals, ConstraintLiterals, SortLiterals, NameLiterals, StructureLiterals}
+use Rattle.language.specs.Literals.{AllFormula, AllSpans, AllForm, AllTerm, AllSide, AllConstraint, AllSort, AllNames, AllLiterals}
 use Rattle.language.specs.Valid.{SmallElement, ValidScope, ValidRow, ValidVariable, ValidFact, ValidEntry, ValidProblem, ValidUpper, ValidLine}
 use Rattle.language.proofs.Valid.{bind-valid, each-keeps, eval-valid, run-valid, over-keeps}
 
 -- ---- declared domains
 
 abbrev pub DeclaredLiterals : Declaration → Type 0
-DeclaredLiterals d = DomainLiterals Valid (d .domain)
+DeclaredLiterals d = AllSpans Valid (d .domain)
 
-declared-literals : (f : Sort → Option Spans) → ((s : Sort) (d : Spans) → SortLiterals Valid s → f s ≡ some d → DomainLiterals Valid d)
-    → (i : ℕ) (xs : List Name) → Every (NameLiterals Valid) xs → Every DeclaredLiterals (declared f i xs)
+declared-literals : (f : Sort → Option Spans) → ((s : Sort) (d : Spans) → AllSort Valid s → f s ≡ some d → AllSpans Valid d)
+    → (i : ℕ) (xs : List Name) → AllNames Valid xs → Every DeclaredLiterals (declared f i xs)
 unfolding declared
 declared-literals f from i [] h = tt
 declared-literals f from i (x ∷ xs) h = go (f (x .sort)) refl (declared-literals f from (suc i) xs (h .1))
@@ -43,23 +43,23 @@ declared-literals f from i (x ∷ xs) h = go (f (x .sort)) refl (declared-litera
     go (some d) e ih = (from (x .sort) d (h .0) e, ih)
     go none e ih = ih
 
-discrete-literals : (s : Sort) (d : Spans) → SortLiterals Valid s → asDiscrete s ≡ some d → DomainLiterals Valid d
+discrete-literals : (s : Sort) (d : Spans) → AllSort Valid s → asDiscrete s ≡ some d → AllSpans Valid d
 unfolding asDiscrete
 discrete-literals Syntax.index d h e = absurd (none-some e)
 discrete-literals (Syntax.integer c) d h e = absurd (none-some e)
 discrete-literals (Syntax.real c) d h e = absurd (none-some e)
 discrete-literals (Syntax.formula f) d h e = absurd (none-some e)
-discrete-literals (Syntax.discrete c) d h e = subst (DomainLiterals Valid) (some-injective e) h
+discrete-literals (Syntax.discrete c) d h e = subst (AllSpans Valid) (some-injective e) h
 discrete-literals (Syntax.continuous c) d h e = absurd (none-some e)
 
-continuous-literals : (s : Sort) (d : Spans) → SortLiterals Valid s → asContinuous s ≡ some d → DomainLiterals Valid d
+continuous-literals : (s : Sort) (d : Spans) → AllSort Valid s → asContinuous s ≡ some d → AllSpans Valid d
 unfolding asContinuous
 continuous-literals Syntax.index d h e = absurd (none-some e)
 continuous-literals (Syntax.integer c) d h e = absurd (none-some e)
 continuous-literals (Syntax.real c) d h e = absurd (none-some e)
 continuous-literals (Syntax.formula f) d h e = absurd (none-some e)
 continuous-literals (Syntax.discrete c) d h e = absurd (none-some e)
-continuous-literals (Syntax.continuous c) d h e = subst (DomainLiterals Valid) (some-injective e) h
+continuous-literals (Syntax.continuous c) d h e = subst (AllSpans Valid) (some-injective e) h
 
 -- ---- bounds
 
@@ -209,13 +209,13 @@ module _ (vs : List Variable) where
   mutual
     unfolding gather
 
-    gather-valid : (f : Form) (s : Scope) (c : Value) (m : Bool) (r q : Row) → FormLiterals Valid f → ValidScope s → ValidRow r → gather vs f s c m r ≡ done q → ValidRow q
+    gather-valid : (f : Form) (s : Scope) (c : Value) (m : Bool) (r q : Row) → AllForm Valid f → ValidScope s → ValidRow r → gather vs f s c m r ≡ done q → ValidRow q
     gather-valid Syntax.end s c m r q l hs h e = subst ValidRow (done-injective e) h
     gather-valid (also n t f) s c m r q l hs h e =
         after (gatherTerm vs t s c (xor m n) r) _ q e λ u tu e.
         gather-valid f s c m u q (l .1) hs (gatherTerm-valid t s c (xor m n) r u (l .0) hs h tu) e
 
-    gatherTerm-valid : (t : Term) (s : Scope) (c : Value) (m : Bool) (r q : Row) → TermLiterals Valid t → ValidScope s → ValidRow r → gatherTerm vs t s c m r ≡ done q → ValidRow q
+    gatherTerm-valid : (t : Term) (s : Scope) (c : Value) (m : Bool) (r q : Row) → AllTerm Valid t → ValidScope s → ValidRow r → gatherTerm vs t s c m r ≡ done q → ValidRow q
     gatherTerm-valid (factor f p t) s c m r q l hs h e =
         after (eval f s) _ q e λ v _ e.
         after-fits p (productOf c v) _ q e λ w _ e.
@@ -230,7 +230,7 @@ module _ (vs : List Variable) where
         (λ k u w hk hu e. gather-valid b (bind i k s) c m u w (l .2) (bind-valid i k s hk hs) hu e)
         ks r q (run-valid f g i s p x ks (l .0) (l .1) hs fg ru) h e
 
-  pub gathered-valid : (f : Form) (s : Scope) (r : Row) → FormLiterals Valid f → ValidScope s → gathered vs f s ≡ done r → ValidRow r
+  pub gathered-valid : (f : Form) (s : Scope) (r : Row) → AllForm Valid f → ValidScope s → gathered vs f s ≡ done r → ValidRow r
   unfolding gathered
   gathered-valid f s r l hs e = gather-valid f s oneValue false _ r l hs (every-replicate Valid (length vs) zeroValue zero-valid) e
 
@@ -241,7 +241,7 @@ module _ (vs : List Variable) where
   signedRow-valid : (m : Bool) (r : Row) → ValidRow r → ValidRow (map (signed m) r)
   signedRow-valid m r h = every-map Valid Valid (signed m) (signed-valid m) r h
 
-  factOf-valid : (l : Side) (r : Relation) (g : Formula) (s : Scope) (f : Fact) → SideLiterals Valid l → AllLiterals Valid g → ValidScope s → factOf vs l r g s ≡ done f → ValidFact f
+  factOf-valid : (l : Side) (r : Relation) (g : Formula) (s : Scope) (f : Fact) → AllSide Valid l → AllFormula Valid g → ValidScope s → factOf vs l r g s ≡ done f → ValidFact f
   unfolding factOf
   factOf-valid (bare i d fs p) r g s f l h hs e =
       after (variableAt vs i d fs p s) _ f e λ j _ e.
@@ -253,28 +253,28 @@ module _ (vs : List Variable) where
       subst ValidFact (done-injective e)
       (signedRow-valid (flips r) cs (gathered-valid x s cs l hs xc), signed-valid (flips r) v (eval-valid g s v h hs gv))
 
-  addEntry-valid : (n : ℕ) (c : Constraint) (s : Scope) (e : List ℤ) (es fs : List Entry) → ConstraintLiterals Valid c → ValidScope s → SmallElement e → Every ValidEntry es
+  addEntry-valid : (n : ℕ) (c : Constraint) (s : Scope) (e : List ℤ) (es fs : List Entry) → AllConstraint Valid c → ValidScope s → SmallElement e → Every ValidEntry es
       → addEntry vs n c s e es ≡ done fs → Every ValidEntry fs
   unfolding addEntry
   addEntry-valid n c s e es fs l hs he h a =
       after (factOf vs (c .left) (c .relation) (c .right) s) _ fs a λ f cf a.
       after (rowCount f (c .place) es) _ fs a λ _ _ a.
       subst (Every ValidEntry) (done-injective a)
-      (every-append ValidEntry es _ h (record { element = he; fact = factOf-valid (c .left) (c .relation) (c .right) s f (l .left) (l .right) hs cf }, tt))
+      (every-append ValidEntry es _ h (record { element = he; fact = factOf-valid (c .left) (c .relation) (c .right) s f (l .0) (l .1) hs cf }, tt))
 
-  pub addEntries-valid : (s : Scope) (n : ℕ) (cs : List Constraint) (es fs : List Entry) → ValidScope s → Every (ConstraintLiterals Valid) cs → Every ValidEntry es
+  pub addEntries-valid : (s : Scope) (n : ℕ) (cs : List Constraint) (es fs : List Entry) → ValidScope s → Every (AllConstraint Valid) cs → Every ValidEntry es
       → addEntries vs s n cs es ≡ done fs → Every ValidEntry fs
   unfolding addEntries
   addEntries-valid s n [] es fs hs l h e = subst (Every ValidEntry) (done-injective e) h
   addEntries-valid s n (c ∷ cs) es fs hs l h e =
       after (over (c .domain) s (addEntry vs n c) es) _ fs e λ gs o e.
       addEntries-valid s (suc n) cs gs fs hs (l .1)
-      (over-keeps (Every ValidEntry) (c .domain) s (addEntry vs n c) (l .0 .domain) hs
+      (over-keeps (Every ValidEntry) (c .domain) s (addEntry vs n c) (l .0 .2) hs
       (λ t x a b ht hx ha e. addEntry-valid n c t x a b (l .0) ht hx ha e) es gs h o) e
 
 -- ---- the problem
 
-pub generate-valid : (m : Model) (p : Lp) → StructureLiterals Valid (m .structure) → ValidScope (start m) → generate m ≡ done p → ValidProblem p
+pub generate-valid : (m : Model) (p : Lp) → AllLiterals Valid (m .structure) → ValidScope (start m) → generate m ≡ done p → ValidProblem p
 unfolding generate discretes continuouses
 generate-valid m p l hs e =
     after (allGiven 0 (m .structure .names) (start m)) _ p e λ _ _ e.
@@ -285,8 +285,8 @@ generate-valid m p l hs e =
     subst ValidProblem (done-injective e)
     (record {
       variables =
-          addVariables-valid (start m) (continuouses m) a b hs (declared-literals asContinuous continuous-literals 0 (m .structure .names) (l .names))
-          (addVariables-valid (start m) (discretes m) [] a hs (declared-literals asDiscrete discrete-literals 0 (m .structure .names) (l .names)) tt da) cb;
-      entries = addEntries-valid b (start m) 0 (m .structure .constraints) [] es hs (l .constraints) tt ce;
-      objective = signedRow-valid b (m .structure .minimize) o (gathered-valid b (m .structure .objective) (start m) o (l .objective) hs ob);
+          addVariables-valid (start m) (continuouses m) a b hs (declared-literals asContinuous continuous-literals 0 (m .structure .names) (l .0))
+          (addVariables-valid (start m) (discretes m) [] a hs (declared-literals asDiscrete discrete-literals 0 (m .structure .names) (l .0)) tt da) cb;
+      entries = addEntries-valid b (start m) 0 (m .structure .constraints) [] es hs (l .2) tt ce;
+      objective = signedRow-valid b (m .structure .minimize) o (gathered-valid b (m .structure .objective) (start m) o (l .1) hs ob);
     })

@@ -18,7 +18,7 @@ use Rattle.language.specs.Syntax.{Spans, point, span}
 use Rattle.language.specs.Scope.{Scope, sameElement}
 use Rattle.language.specs.Evaluation.{limitsOf, eval, within, isNone}
 use Rattle.language.specs.Store.{Store, stored, scopeOf, Portion, Bound, setAt, elementOf, bindIf, positionRun, wholeIf, accept}
-use Rattle.language.specs.Literals.{DomainLiterals}
+use Rattle.language.specs.Literals.{AllSpans}
 use Rattle.language.specs.Valid.{Small, SmallElement, ValidScope, ValidStore}
 use Rattle.language.proofs.Valid.{bind-valid, run-valid}
 
@@ -69,7 +69,7 @@ bindIf-valid : (i : ℕ) (x : Option ℤ) (s : Scope) → SmallIf x → ValidSco
 bindIf-valid i none s hx h = h
 bindIf-valid i (some k) s hx h = bind-valid i k s hx h
 
-pub positionRun-valid : (d : Spans) (b : Bound) (j : ℕ) (s : Scope) (ks : List ℤ) → DomainLiterals Valid d → SmallBound b → ValidScope s → positionRun d b j s ≡ done ks → SmallElement ks
+pub positionRun-valid : (d : Spans) (b : Bound) (j : ℕ) (s : Scope) (ks : List ℤ) → AllSpans Valid d → SmallBound b → ValidScope s → positionRun d b j s ≡ done ks → SmallElement ks
 unfolding positionRun
 positionRun-valid point b j s ks a hb h e = subst SmallElement (done-injective e) tt
 positionRun-valid (span i f g p d) [] j s ks a hb h e = subst SmallElement (done-injective e) tt

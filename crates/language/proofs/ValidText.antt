@@ -12,7 +12,7 @@ use Rattle.language.specs.Model.{Model, model, whatOf, readModel, start}
 use Rattle.language.specs.Numbering.{Lp, generate}
 use Rattle.language.specs.Listing.{linesOf}
 use Rattle.language.specs.Answer.{Accepted, accepted}
-use Rattle.language.specs.Literals.{LiteralTokens, StructureLiterals}
+use Rattle.language.specs.Literals.{LiteralTokens, AllLiterals}
 use Rattle.language.specs.Valid.{ValidScope, ValidStore, ValidProblem, ValidLine}
 use Rattle.language.proofs.ValidStore.{scope-valid}
 use Rattle.language.proofs.ValidData.{Gives, given, then, readData-valid}
@@ -20,7 +20,7 @@ use Rattle.language.proofs.ValidProblem.{generate-valid, lines-valid}
 
 -- the literals of the trees, and the data
 pub record ValidModel (m : Model) : Type 0 where
-  pub structure : StructureLiterals Valid (m .structure)
+  pub structure : AllLiterals Valid (m .structure)
   pub store : ValidStore (m .given .store)
 
 pub start-valid : (m : Model) → ValidModel m → ValidScope (start m)
@@ -31,10 +31,10 @@ pub problem-valid : (m : Model) (p : Lp) → ValidModel m → generate m ≡ don
 problem-valid m p h e = generate-valid m p (h .structure) (start-valid m h) e
 
 -- the literals in the structure that is read are those of its tokens
-module _ (structure-valid : Gives structure (StructureLiterals Valid)) where
+module _ (structure-valid : Gives structure (AllLiterals Valid)) where
   model-read : Gives model ValidModel
   unfolding model
-  model-read = then structure-valid (λ s hs. then (readData-valid (s .names) (hs .names)) (λ g hg. given (record { structure = hs; store = hg })))
+  model-read = then structure-valid (λ s hs. then (readData-valid (s .names) (hs .0)) (λ g hg. given (record { structure = hs; store = hg })))
 
   pub model-valid : (text : List ℕ) (m : Model) → LiteralTokens Valid text → readModel text ≡ done m → ValidModel m
   unfolding readModel

@@ -29,54 +29,54 @@ module _ (P : Value → Type 0) where
   -- ---- trees
 
   abbrev mutual
-    pub AllLiterals : Formula → Type 0
-    AllLiterals (Syntax.literal v) = P v
-    AllLiterals (Syntax.index i p) = Unit
-    AllLiterals (datum i d fs p) = DomainLiterals d × SubscriptLiterals fs
-    AllLiterals (minus f) = AllLiterals f
-    AllLiterals (plus f g p) = AllLiterals f × AllLiterals g
-    AllLiterals (times f g p) = AllLiterals f × AllLiterals g
-    AllLiterals (sum i f g h p) = AllLiterals f × AllLiterals g × AllLiterals h
+    pub AllFormula : Formula → Type 0
+    AllFormula (Syntax.literal v) = P v
+    AllFormula (Syntax.index i p) = Unit
+    AllFormula (datum i d fs p) = AllSpans d × AllFormulas fs
+    AllFormula (minus f) = AllFormula f
+    AllFormula (plus f g p) = AllFormula f × AllFormula g
+    AllFormula (times f g p) = AllFormula f × AllFormula g
+    AllFormula (sum i f g h p) = AllFormula f × AllFormula g × AllFormula h
 
-    pub SubscriptLiterals : Formulas → Type 0
-    SubscriptLiterals Syntax.none = Unit
-    SubscriptLiterals (more f fs) = AllLiterals f × SubscriptLiterals fs
+    pub AllFormulas : Formulas → Type 0
+    AllFormulas Syntax.none = Unit
+    AllFormulas (more f fs) = AllFormula f × AllFormulas fs
 
-    pub DomainLiterals : Spans → Type 0
-    DomainLiterals point = Unit
-    DomainLiterals (span i f g p d) = AllLiterals f × AllLiterals g × DomainLiterals d
+    pub AllSpans : Spans → Type 0
+    AllSpans point = Unit
+    AllSpans (span i f g p d) = AllFormula f × AllFormula g × AllSpans d
 
   abbrev mutual
-    pub FormLiterals : Form → Type 0
-    FormLiterals Syntax.end = Unit
-    FormLiterals (also m t f) = TermLiterals t × FormLiterals f
+    pub AllForm : Form → Type 0
+    AllForm Syntax.end = Unit
+    AllForm (also m t f) = AllTerm t × AllForm f
 
-    pub TermLiterals : Term → Type 0
-    TermLiterals (factor f p t) = AllLiterals f × TermLiterals t
-    TermLiterals (variable i d fs p) = DomainLiterals d × SubscriptLiterals fs
-    TermLiterals (sigma i f g h p) = AllLiterals f × AllLiterals g × FormLiterals h
+    pub AllTerm : Term → Type 0
+    AllTerm (factor f p t) = AllFormula f × AllTerm t
+    AllTerm (variable i d fs p) = AllSpans d × AllFormulas fs
+    AllTerm (sigma i f g h p) = AllFormula f × AllFormula g × AllForm h
 
-  abbrev pub SideLiterals : Side → Type 0
-  SideLiterals (bare i d fs p) = DomainLiterals d × SubscriptLiterals fs
-  SideLiterals (form f) = FormLiterals f
+  abbrev pub AllSide : Side → Type 0
+  AllSide (bare i d fs p) = AllSpans d × AllFormulas fs
+  AllSide (form f) = AllForm f
 
-  pub record ConstraintLiterals (c : Constraint) : Type 0 where
-    pub left : SideLiterals (c .left)
-    pub right : AllLiterals (c .right)
-    pub domain : DomainLiterals (c .domain)
+  abbrev pub AllConstraint : Constraint → Type 0
+  AllConstraint c = AllSide (c .left) × AllFormula (c .right) × AllSpans (c .domain)
 
-  abbrev pub SortLiterals : Sort → Type 0
-  SortLiterals Syntax.index = Unit
-  SortLiterals (Syntax.integer d) = DomainLiterals d
-  SortLiterals (Syntax.real d) = DomainLiterals d
-  SortLiterals (Syntax.formula f) = AllLiterals f
-  SortLiterals (Syntax.discrete d) = DomainLiterals d
-  SortLiterals (Syntax.continuous d) = DomainLiterals d
+  abbrev pub AllSort : Sort → Type 0
+  AllSort Syntax.index = Unit
+  AllSort (Syntax.integer d) = AllSpans d
+  AllSort (Syntax.real d) = AllSpans d
+  AllSort (Syntax.formula f) = AllFormula f
+  AllSort (Syntax.discrete d) = AllSpans d
+  AllSort (Syntax.continuous d) = AllSpans d
 
-  abbrev pub NameLiterals : Name → Type 0
-  NameLiterals x = SortLiterals (x .sort)
+  abbrev pub AllName : Name → Type 0
+  AllName x = AllSort (x .sort)
 
-  pub record StructureLiterals (s : Structure) : Type 0 where
-    pub names : Every NameLiterals (s .names)
-    pub objective : FormLiterals (s .objective)
-    pub constraints : Every ConstraintLiterals (s .constraints)
+  abbrev pub AllNames : List Name → Type 0
+  AllNames names = Every AllName names
+
+  -- every literal of a structure
+  abbrev pub AllLiterals : Structure → Type 0
+  AllLiterals s = AllNames (s .names) × AllForm (s .objective) × Every AllConstraint (s .constraints)
