@@ -4,3 +4,4 @@ pub mod PhrasedLinear
 pub mod PhrasedModel
 pub mod Shapes
 pub mod Literals
+pub mod Facts
