@@ -5,3 +5,5 @@ pub mod PhrasedModel
 pub mod Shapes
 pub mod Literals
 pub mod Facts
+pub mod Counted
+pub mod Turns
