@@ -4,6 +4,9 @@ pub mod PhrasedLinear
 pub mod PhrasedModel
 pub mod Shapes
 pub mod Literals
+pub mod Facts
+pub mod Counted
+pub mod Turns
 pub mod Evaluated
 pub mod Gathered
 pub mod Listwise

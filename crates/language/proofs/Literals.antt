@@ -7,11 +7,10 @@ use Rattle.value.specs.declared.Value.{Value}
 use Rattle.lexer.specs.Text.{Token, Kind}
 use Rattle.language.specs.Syntax.{Formula, Formulas, Spans, Form, Term, Side, Constraint, Sort, Name, Structure, plus, minus, times, datum, sum, more, point, span, also, factor, variable, sigma, bare, form}
 use Rattle.language.specs.Syntax
-use Rattle.language.specs.Listed.{At}
 use Rattle.language.specs.Phrases
 use Rattle.language.specs.Phrases.{Means, Phrase, formula, primary, run, subscripts, formulas, entry, entries, domain, anyDomain, formTerm, signedTerms, linearForm, body, side, constraint, constraints, indexList, declaredDomain, sort, Writes, oneTerm, plusTerm, minusTerm, addition, difference, onePrimary, product, integer, real, declared, sumOver, nested, runOver, unsubscripted, inBrackets, lastFormula, oneFormula, between, lastEntry, oneEntry, inParentheses, noDomain, aDomain, unsigned, signed, noTerm, plusNext, minusNext, multiple, aVariable, aSigma, discrete, continuous, sigmaOver, innerSigma, innerForm, oneConstraint, alone, withSign, withFactor, withSigma, withSecond, lastConstraint, moreConstraints, noSubscripts, withDomain, lastIndex, oneIndex, indexSort, integerSort, realSort, formulaSort, discreteSort, continuousSort}
 use Rattle.language.proofs.PhrasedModel.{stands}
-use Rattle.language.proofs.Shapes.{All, all-left, all-right, Shaped, AllShaped}
+use Rattle.language.proofs.Shapes.{All, all-at, AllShaped, shaped-left, shaped-right}
 
 module _ (P : Value → Type 0) where
   abbrev mutual
@@ -89,71 +88,60 @@ module _ (P : Value → Type 0) where
   AllPhrase (declaredDomain d) = AllSpans d
   AllPhrase (sort w s) = AllSort s
 
-  all-at : (names : List Name) (i : ℕ) (x : Name) → At names i x → AllNames names → AllSort (x .sort)
-  all-at [] i x a h = absurd a
-  all-at (y ∷ names) zero x a h = subst (λ z. AllSort (z .sort)) a (h .0)
-  all-at (y ∷ names) (suc i) x a h = all-at names i x a (h .1)
-
   module _ (names : List Name) (known : AllNames names) where
     meant : {l : List ℕ} {i : ℕ} {s : Sort} → Means names l i s → AllSort s
-    meant {i} m = let x = stands m in subst AllSort (x .sorted) (all-at names i (x .entry) (x .placed) known)
-
-    front : (l k : List Token) → AllShaped P (l ++ k) → AllShaped P l
-    front l k a = all-left (λ t. Shaped P (t .kind)) l k a
-
-    back : (l k : List Token) → AllShaped P (l ++ k) → AllShaped P k
-    back l k a = all-right (λ t. Shaped P (t .kind)) l k a
+    meant {i} m = let x = stands m in subst AllSort (x .sorted) (all-at (λ y. AllSort (y .sort)) names i (x .entry) (x .placed) known)
 
     -- by the rule that made the phrase
     pub phrase-all : {x : Phrase} {l : List Token} → Writes names x l → AllShaped P l → AllPhrase x
     phrase-all (oneTerm w) a = phrase-all w a
     phrase-all (plusTerm p w) a = phrase-all w (a .1)
     phrase-all (minusTerm p w) a = phrase-all w (a .1)
-    phrase-all (addition {l = l} p v w) a = (phrase-all v (front l _ a), phrase-all w (back l _ a .1))
-    phrase-all (difference {l = l} p v w) a = (phrase-all v (front l _ a), phrase-all w (back l _ a .1))
+    phrase-all (addition {l = l} p v w) a = (phrase-all v (shaped-left P l _ a), phrase-all w (shaped-right P l _ a .1))
+    phrase-all (difference {l = l} p v w) a = (phrase-all v (shaped-left P l _ a), phrase-all w (shaped-right P l _ a .1))
     phrase-all (onePrimary w) a = phrase-all w a
-    phrase-all (product {l = l} p v w) a = (phrase-all v (front l _ a), phrase-all w (back l _ a .1))
+    phrase-all (product {l = l} p v w) a = (phrase-all v (shaped-left P l _ a), phrase-all w (shaped-right P l _ a .1))
     phrase-all (Phrases.literal b v p) a = a .0
     phrase-all (Phrases.index p m) a = tt
     phrase-all (integer p m w) a = (meant m, phrase-all w (a .1))
     phrase-all (real p m w) a = (meant m, phrase-all w (a .1))
     phrase-all (declared p m) a = meant m
-    phrase-all (sumOver {l = l} {k = k} p q v w) a = let r = phrase-all v (front l _ (a .1)) in (r .0, r .1, phrase-all w (front k _ (back l _ (a .1))))
-    phrase-all (nested {l = l} p q w) a = phrase-all w (front l _ (a .1))
-    phrase-all (runOver {a = k} {b = j} p q r s t m v w) a = (phrase-all v (front k _ (a .1 .1 .1)), phrase-all w (front j _ (back k _ (a .1 .1 .1) .1)))
+    phrase-all (sumOver {l = l} {k = k} p q v w) a = let r = phrase-all v (shaped-left P l _ (a .1)) in (r .0, r .1, phrase-all w (shaped-left P k _ (shaped-right P l _ (a .1))))
+    phrase-all (nested {l = l} p q w) a = phrase-all w (shaped-left P l _ (a .1))
+    phrase-all (runOver {a = k} {b = j} p q r s t m v w) a = (phrase-all v (shaped-left P k _ (a .1 .1 .1)), phrase-all w (shaped-left P j _ (shaped-right P k _ (a .1 .1 .1) .1)))
     phrase-all unsubscripted a = tt
     phrase-all (inBrackets p w) a = phrase-all w (a .1)
-    phrase-all (lastFormula {l = l} p w) a = (phrase-all w (front l _ a), tt)
-    phrase-all (oneFormula {l = l} p v w) a = (phrase-all v (front l _ a), phrase-all w (back l _ a .1))
-    phrase-all (between {a = k} p q r v m w) a = (phrase-all v (front k _ a), phrase-all w (back k _ a .1 .1 .1))
-    phrase-all (lastEntry {l = l} q w) a = let r = phrase-all w (front l _ a) in (r .0, r .1, tt)
-    phrase-all (oneEntry {l = l} q v w) a = let r = phrase-all v (front l _ a) in (r .0, r .1, phrase-all w (back l _ a .1))
+    phrase-all (lastFormula {l = l} p w) a = (phrase-all w (shaped-left P l _ a), tt)
+    phrase-all (oneFormula {l = l} p v w) a = (phrase-all v (shaped-left P l _ a), phrase-all w (shaped-right P l _ a .1))
+    phrase-all (between {a = k} p q r v m w) a = (phrase-all v (shaped-left P k _ a), phrase-all w (shaped-right P k _ a .1 .1 .1))
+    phrase-all (lastEntry {l = l} q w) a = let r = phrase-all w (shaped-left P l _ a) in (r .0, r .1, tt)
+    phrase-all (oneEntry {l = l} q v w) a = let r = phrase-all v (shaped-left P l _ a) in (r .0, r .1, phrase-all w (shaped-right P l _ a .1))
     phrase-all (inParentheses p w n) a = phrase-all w (a .1)
     phrase-all noDomain a = tt
     phrase-all (aDomain w) a = phrase-all w a
-    phrase-all (unsigned {l = l} v w) a = (phrase-all v (front l _ a), phrase-all w (back l _ a))
+    phrase-all (unsigned {l = l} v w) a = (phrase-all v (shaped-left P l _ a), phrase-all w (shaped-right P l _ a))
     phrase-all (signed w) a = phrase-all w a
     phrase-all noTerm a = tt
-    phrase-all (plusNext {l = l} p v w) a = (phrase-all v (front l _ (a .1)), phrase-all w (back l _ (a .1)))
-    phrase-all (minusNext {l = l} p v w) a = (phrase-all v (front l _ (a .1)), phrase-all w (back l _ (a .1)))
-    phrase-all (multiple {l = l} p v w) a = (phrase-all v (front l _ a), phrase-all w (back l _ a .1))
+    phrase-all (plusNext {l = l} p v w) a = (phrase-all v (shaped-left P l _ (a .1)), phrase-all w (shaped-right P l _ (a .1)))
+    phrase-all (minusNext {l = l} p v w) a = (phrase-all v (shaped-left P l _ (a .1)), phrase-all w (shaped-right P l _ (a .1)))
+    phrase-all (multiple {l = l} p v w) a = (phrase-all v (shaped-left P l _ a), phrase-all w (shaped-right P l _ a .1))
     phrase-all (aVariable w) a = phrase-all w a
     phrase-all (aSigma w) a = phrase-all w a
     phrase-all (discrete p m w) a = (meant m, phrase-all w (a .1))
     phrase-all (continuous p m w) a = (meant m, phrase-all w (a .1))
-    phrase-all (sigmaOver {l = l} {k = k} p q v w) a = let r = phrase-all v (front l _ (a .1)) in (r .0, r .1, phrase-all w (front k _ (back l _ (a .1))))
+    phrase-all (sigmaOver {l = l} {k = k} p q v w) a = let r = phrase-all v (shaped-left P l _ (a .1)) in (r .0, r .1, phrase-all w (shaped-left P k _ (shaped-right P l _ (a .1))))
     phrase-all (innerSigma w) a = (phrase-all w a, tt)
     phrase-all (innerForm w) a = phrase-all w a
-    phrase-all (oneConstraint {a = l} {b = k} p q r u v w) a = let b = back l _ (a .1) .1 in (phrase-all u (front l _ (a .1)), phrase-all v (front k _ b), phrase-all w (back k _ b))
+    phrase-all (oneConstraint {a = l} {b = k} p q r u v w) a = let b = shaped-right P l _ (a .1) .1 in (phrase-all u (shaped-left P l _ (a .1)), phrase-all v (shaped-left P k _ b), phrase-all w (shaped-right P k _ b))
     phrase-all (alone w) a = phrase-all w a
     phrase-all (withSign w) a = phrase-all w a
     phrase-all (withFactor w) a = phrase-all w a
     phrase-all (withSigma w) a = phrase-all w a
     phrase-all (withSecond w) a = phrase-all w a
     phrase-all (lastConstraint w) a = (phrase-all w a, tt)
-    phrase-all (moreConstraints {l = l} v w) a = (phrase-all v (front l _ a), phrase-all w (back l _ a))
+    phrase-all (moreConstraints {l = l} v w) a = (phrase-all v (shaped-left P l _ a), phrase-all w (shaped-right P l _ a))
     phrase-all noSubscripts a = tt
-    phrase-all (withDomain {l = l} p v d w) a = phrase-all w (back l _ (a .1))
+    phrase-all (withDomain {l = l} p v d w) a = phrase-all w (shaped-right P l _ (a .1))
     phrase-all (lastIndex p q m) a = tt
     phrase-all (oneIndex p q m w) a = tt
     phrase-all indexSort a = tt

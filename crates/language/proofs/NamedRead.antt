@@ -173,6 +173,6 @@ declarations-named (Phrases.sixLists a b c d e f) =
     optional-list-named f (optional-list-named e (optional-list-named d (optional-list-named c (optional-list-named b (optional-list-named a tt)))))
 
 pub structure-named : {s : Structure} {l : List Token} → WritesStructure s l → NamedStructure s
-structure-named (Phrases.model {names = names} p q r t minimize w v u few) =
+structure-named (Phrases.wholeModel {names = names} p q r t minimize w v u few) =
     let table = declarations-named w in
     record { table = table; objective = phrase-named names table v; constraints = phrase-named names table u }

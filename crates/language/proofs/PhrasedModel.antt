@@ -24,7 +24,7 @@ use Rattle.language.specs.Declarations.{newName, indicesOf, isIn, readDu
 use Rattle.language.specs.Declarations
 use Rattle.language.specs.Grammar.{relationOf, readRelation, constraintOf, constraintsOf, readGoal, structure}
 use Rattle.language.specs.Listed.{At, In, Distinct, at-unique, in-cons, in-here, in-later, in-nil, distinct-nil, distinct-cons}
-use Rattle.language.specs.Phrases.{_at_, Means, Unknown, indices, Wrote, Reads, Writes, entry, entries, constraint, constraints, indexList, declaredDomain, sort, WritesList, WritesOptionalList, WritesDeclarations, WritesStructure, relationSign, goalWord, lastEntry, oneEntry, inParentheses, oneConstraint, lastConstraint, moreConstraints, lastIndex, oneIndex, noSubscripts, withDomain, indexSort, integerSort, realSort, formulaSort, discreteSort, continuousSort, lastName, oneName, noList, aList, sixLists, with, model}
+use Rattle.language.specs.Phrases.{_at_, Means, Unknown, indices, Wrote, Reads, Writes, entry, entries, constraint, constraints, indexList, declaredDomain, sort, WritesList, WritesOptionalList, WritesDeclarations, WritesStructure, relationSign, goalWord, lastEntry, oneEntry, inParentheses, oneConstraint, lastConstraint, moreConstraints, lastIndex, oneIndex, noSubscripts, withDomain, indexSort, integerSort, realSort, formulaSort, discreteSort, continuousSort, lastName, oneName, noList, aList, sixLists, with, wholeModel}
 use Rattle.language.proofs.Taken.{gives, refuses, weaken, either, then, last, then-next, then-look, look-else, look-next, then-require, demand-read, then-demand, then-expect, then-bracket, then-string, then-index, name-read, NameAt, marked, named, some-none, means}
 use Rattle.language.proofs.Phrased.{inside-read, formula-at, entry-read, optional-read}
 use Rattle.language.proofs.PhrasedLinear.{linear-read, side-written}
@@ -245,7 +245,7 @@ pub structure-read : Reads structure WritesStructure
 unfolding structure
 structure-read =
     then-expect _ λ p. then-string λ s. then declarations-read λ names a w. then goal-read λ m g h. rw (h .1)
-    (then-expect _ λ t. then (linear-read names nestingLimit) λ x b v. last _ (constraints-read names constraintLimit) λ cs c u. model p (s .place) (h .0) t m w v (u .0) (u .1))
+    (then-expect _ λ t. then (linear-read names nestingLimit) λ x b v. last _ (constraints-read names constraintLimit) λ cs c u. wholeModel p (s .place) (h .0) t m w v (u .0) (u .1))
 
 -- a text whose structure was read begins with a phrase of it
 pub structure-written : (text : List ℕ) (r : Read Structure) → structure (tokens text) ≡ done r → Wrote WritesStructure (tokens text) r

@@ -17,6 +17,7 @@ use Rattle.value.specs.declared.Fit.{Fit}
 use Rattle.value.specs.declared.Fit.the-variants.{Fits, TooBig}
 use Rattle.value.specs.Literal.{isDigit, literalOf}
 use Rattle.lexer.specs.Marks.{Word, capitalWords, smallWords, atMost, atLeast}
+use Rattle.language.specs.Listed.{At, In, in-here, in-later}
 use Rattle.lexer.specs.Text.{Kind, Token, Step, mark, name, literal, string, end, wrong, step, front, behind, sameBytes, isBlank, isSmall, inName, among, nameStep, isCapital, wordStep, isSign, orderStep, literalKind, valued, pointed, literalStep, noBrace, inString, strange, wellShaped, stringStep, stepAt, isWrong, tokensFrom, uncounted, counted, tokens}
 
 -- ---- all entries of a list
@@ -33,6 +34,15 @@ module _ {A : Type 0} (P : A → Type 0) where
   pub all-right : (l k : List A) → All (l ++ k) → All k
   all-right [] k h = h
   all-right (a ∷ l) k h = all-right l k (h .1)
+
+  pub all-with : (l : List A) (a : A) → All l → P a → All (l ++ (a ∷ []))
+  all-with [] a h p = (p, tt)
+  all-with (b ∷ l) a h p = (h .0, all-with l a (h .1) p)
+
+  pub all-at : (l : List A) (i : ℕ) (a : A) → At l i a → All l → P a
+  all-at [] i a x h = absurd x
+  all-at (b ∷ l) zero a x h = subst P x (h .0)
+  all-at (b ∷ l) (suc i) a x h = all-at l i a x (h .1)
 
 -- ---- shapes
 
@@ -59,6 +69,13 @@ Shaped P (wrong n) = Unit {0}
 abbrev pub AllShaped : (Value → Type 0) → List Token → Type 0
 AllShaped P ts = All (λ t. Shaped P (t .kind)) ts
 
+module _ (P : Value → Type 0) (l k : List Token) where
+  pub shaped-left : AllShaped P (l ++ k) → AllShaped P l
+  shaped-left a = all-left (λ t. Shaped P (t .kind)) l k a
+
+  pub shaped-right : AllShaped P (l ++ k) → AllShaped P k
+  shaped-right a = all-right (λ t. Shaped P (t .kind)) l k a
+
 -- the places rise, from p on
 abbrev pub Rising : ℕ → List Token → Type 0
 Rising p [] = Unit {0}
@@ -67,6 +84,10 @@ Rising p (t ∷ ts) = (p ≤ t .place) × Rising (suc (t .place)) ts
 pub rising-from : (p q : ℕ) (ts : List Token) → p ≤ q → Rising q ts → Rising p ts
 rising-from p q [] h r = tt
 rising-from p q (t ∷ ts) h r = (omega (arith, r .0), r .1)
+
+pub rising-before : (p : ℕ) (l ts : List Token) → Rising p (l ++ ts) → Rising p l
+rising-before p [] ts r = tt
+rising-before p (t ∷ l) ts r = (r .0, rising-before (suc (t .place)) l ts (r .1))
 
 pub rising-behind : (p : ℕ) (l ts : List Token) → Rising p (l ++ ts) → Rising p ts
 rising-behind p [] ts r = r
@@ -251,3 +272,19 @@ tokens-rise text = lexed-text (λ _. Unit {0}) (λ _ _ _. tt) text .rising
 -- a text has at most as many tokens as bytes, and an end
 pub tokens-few : (text : List ℕ) → length (tokens text) ≤ suc (length text)
 tokens-few text = lexed-text (λ _. Unit {0}) (λ _ _ _. tt) text .short
+
+-- what holds of every literal token of a text
+pub literals-shaped : (P : Value → Type 0) (text : List ℕ) → ((w : Bool) (v : Value) (p : ℕ) → In (tokens text) (record { kind = literal w v; place = p }) → P v) → AllShaped P (tokens text)
+literals-shaped P text h = go (tokens text) (λ w v p i. h w v p i) (tokens-shaped (λ _. Unit {0}) (λ _ _ _. tt) text)
+  where
+    one : (k : Kind) (p : ℕ) (ts : List Token) → ((w : Bool) (v : Value) (q : ℕ) → In (record { kind = k; place = p } ∷ ts) (record { kind = literal w v; place = q }) → P v) → Shaped (λ _. Unit {0}) k → Shaped P k
+    one (mark c) p ts h s = s
+    one (name l) p ts h s = s
+    one (literal w v) p ts h s = h w v p (in-here _ ts)
+    one (string l) p ts h s = s
+    one end p ts h s = s
+    one (wrong n) p ts h s = s
+
+    go : (ts : List Token) → ((w : Bool) (v : Value) (p : ℕ) → In ts (record { kind = literal w v; place = p }) → P v) → AllShaped (λ _. Unit {0}) ts → AllShaped P ts
+    go [] h s = tt
+    go (t ∷ ts) h s = (one (t .kind) (t .place) ts h (s .0), go ts (λ w v p i. h w v p (in-later t ts _ i)) (s .1))

@@ -75,16 +75,17 @@ passed-is (string l) t ts r e = done-injective e
 passed-is end t ts r e = done-injective e
 passed-is (wrong n) t ts r e = absurd (refused-done e)
 
+pub next-read : Reads next (λ t l. l ≡ t ∷ [])
+unfolding next
+next-read = record { reads = go }
+  where
+    go : (ts : List Token) (r : Read Token) → next ts ≡ done r → Wrote (λ t l. l ≡ t ∷ []) ts r
+    go [] r e = absurd (refused-done e)
+    go (t ∷ ts) r e = let z = passed-is (t .kind) t ts r e in record { phrase = t ∷ []; taken = ap (λ x. t ∷ x .rest) z; writes = ap (λ x. x .what ∷ []) z }
+
 module _ {B : Type 0} {W : B → List Token → Type 0} where
   pub then-next : {f : Token → Reader B} → ((t : Token) → Reads (f t) (λ b k. W b (t ∷ k))) → Reads (next >>= f) W
-  unfolding next
-  then-next {f} h = record { reads = go }
-    where
-      go : (ts : List Token) (r : Read B) → follow (next ts) f ≡ done r → Wrote W ts r
-      go [] r e = absurd (refused-done e)
-      go (t ∷ ts) r e = after-read (passed (t .kind) t ts) f r e λ x ex e.
-          let u = h t .reads ts r (subst (λ (x : Read Token). f (x .what) (x .rest) ≡ done r) (sym (passed-is (t .kind) t ts x ex)) e) in
-          record { phrase = t ∷ u .phrase; taken = ap (λ l. t ∷ l) (u .taken); writes = u .writes }
+  then-next h = then next-read (λ t l e. rw e (h t))
 
   pub then-look : {f : Token → Reader B} → ((t : Token) → Reads (f t) W) → Reads (look >>= f) W
   unfolding look
@@ -171,7 +172,7 @@ unfolding bracket
 bracket-read c zero = then (expect-read c) (λ p l w. refuses)
 bracket-read c (suc n) = expect-read c
 
-string-read : Reads readString (λ s l. l ≡ string (s .title) at s .place ∷ [])
+pub string-read : Reads readString (λ s l. l ≡ string (s .title) at s .place ∷ [])
 unfolding readString
 string-read = then-next (λ t. then-demand _ _ (λ l e. gives (ap (λ t. t ∷ []) (of-kind t (string l) (string-of _ l e)))))
 

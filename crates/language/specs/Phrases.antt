@@ -169,7 +169,7 @@ goalWord false = maximizeWord
 goalWord true = minimizeWord
 
 pub data WritesStructure : Structure → List Token → Type 0 where
-  model : {s : List ℕ} {names : List Name} {sign : Bool} {objective : Form} {cs : List Constraint} {a b c : List Token} (p q r t : ℕ) (minimize : Bool)
+  wholeModel : {s : List ℕ} {names : List Name} {sign : Bool} {objective : Form} {cs : List Constraint} {a b c : List Token} (p q r t : ℕ) (minimize : Bool)
       → WritesDeclarations names a → Writes names (linearForm true sign objective) b → Writes names (constraints cs) c → length cs ≤ constraintLimit
       → WritesStructure (record { title = s; names = names; minimize = minimize; objective = objective; constraints = cs }) (mark openWord at p ∷ string s at q ∷ a ++ (mark (goalWord minimize) at r ∷ mark colon at t ∷ b ++ c))
 
