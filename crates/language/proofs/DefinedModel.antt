@@ -12,7 +12,7 @@ use lib.IntN.{ℤ}
 use Rattle.rules.specs.declared.Refusal.the-variants.{Missing}
 use Rattle.value.specs.declared.Value.{Value}
 use Rattle.language.specs.Listed.{At, In, in-nil, in-cons}
-use Rattle.language.specs.Every.{Every, every-at, every-in}
+use Rattle.language.specs.All.{All, all-at, all-in}
 use Rattle.language.specs.Outcome.{done, check, after, refused-done}
 use Rattle.language.specs.Scope.{Scope, bind}
 use Rattle.language.specs.Syntax.{Name, Sort, Spans, point, span, Constraint}
@@ -109,11 +109,11 @@ addEntries-at vs s n (x ∷ cs) es fs e c h =
     go gs o (inr k) ih = ih k
 
 module _ (m : Model) (vs : List Variable) (fs : List Entry) (taken : addEntries vs (start m) 0 (m .structure .constraints) [] ≡ done fs)
-    (named : Every (NamedConstraint (m .structure .names)) (m .structure .constraints)) where
+    (named : All (NamedConstraint (m .structure .names)) (m .structure .constraints)) where
   domain-defined : (c : Constraint) → In (m .structure .constraints) c → DefinedDomain (c .domain) (start m)
   domain-defined c n =
       let o = addEntries-at vs (start m) 0 (m .structure .constraints) [] fs taken c n in
-      over-defined (m .structure .names) (c .domain) (start m) (addEntry vs (o .0) c) (o .1) (o .2) (every-in (NamedConstraint (m .structure .names)) (m .structure .constraints) c named n .domain) (o .3)
+      over-defined (m .structure .names) (c .domain) (start m) (addEntry vs (o .0) c) (o .1) (o .2) (all-in (NamedConstraint (m .structure .names)) (m .structure .constraints) c n named .domain) (o .3)
 
   sides-defined : (P : Variable → Type 0) → ((j : ℕ) (v : Variable) → At vs j v → P v) → (o : Source) → Written m o
       → DefinedSide P (o .constraint .left) (scopeAt m o) × Defined (o .constraint .right) (scopeAt m o)
@@ -121,7 +121,7 @@ module _ (m : Model) (vs : List Variable) (fs : List Entry) (taken : addEntries 
   sides-defined P numbered o w =
       let c = o .constraint in
       let n : In (m .structure .constraints) c = record { place = o .ordinal; at = w .listed } in
-      let h = every-in (NamedConstraint (m .structure .names)) (m .structure .constraints) c named n in
+      let h = all-in (NamedConstraint (m .structure .names)) (m .structure .constraints) c n named in
       let t = addEntries-at vs (start m) 0 (m .structure .constraints) [] fs taken c n in
       let x = over-at (c .domain) (start m) (addEntry vs (t .0) c) (t .1) (t .2) (t .3) (o .element) (w .inside) in
       after (factOf vs (c .left) (c .relation) (c .right) (bindAll (c .domain) (o .element) (start m))) _ (x .1) (x .2) λ f cf _.
@@ -131,7 +131,7 @@ module _ (m : Model) (vs : List Variable) (fs : List Entry) (taken : addEntries 
 
 module _ (m : Model) (u : Unit {0}) (given : allGiven 0 (m .structure .names) (start m) ≡ done u)
     (a : List Variable) (first : addVariables (start m) (declared asDiscrete 0 (m .structure .names)) [] ≡ done a)
-    (vs : List Variable) (then : addVariables (start m) (declared asContinuous 0 (m .structure .names)) a ≡ done vs) (named : Every (NamedEntry (m .structure .names)) (m .structure .names)) where
+    (vs : List Variable) (then : addVariables (start m) (declared asContinuous 0 (m .structure .names)) a ≡ done vs) (named : All (NamedEntry (m .structure .names)) (m .structure .names)) where
   given-at : (i : ℕ) (x : Name) → At (m .structure .names) i x → (s : Sort) → x .sort ≡ s → (w : Unit {0}) × (givenBy i (x .place) s (start m) ≡ done w)
   given-at i x at s is =
       let r = allGiven-at 0 (m .structure .names) (start m) u given i x at in
@@ -139,7 +139,7 @@ module _ (m : Model) (u : Unit {0}) (given : allGiven 0 (m .structure .names) (s
       (r .0, subst (λ s. givenBy i (x .place) s (start m) ≡ done (r .0)) is (subst (λ n. givenBy n (x .place) (x .sort) (start m) ≡ done (r .0)) z (r .1)))
 
   named-at : (i : ℕ) (x : Name) → At (m .structure .names) i x → (s : Sort) → x .sort ≡ s → NamedSort (m .structure .names) s
-  named-at i x at s is = subst (NamedSort (m .structure .names)) is (every-at (NamedEntry (m .structure .names)) (m .structure .names) i x named at)
+  named-at i x at s is = subst (NamedSort (m .structure .names)) is (all-at (NamedEntry (m .structure .names)) (m .structure .names) i x at named)
 
   name-defined : (i : ℕ) (x : Name) → At (m .structure .names) i x → (s : Sort) → x .sort ≡ s → DefinedSort i s (start m)
   unfolding givenBy asDiscrete asContinuous

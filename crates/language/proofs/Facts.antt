@@ -23,11 +23,13 @@ use Rattle.language.specs.Grammar.{structure}
 use Rattle.language.specs.Data.{Given, portionsOf, readClose, dataOf, readEnd, readData}
 use Rattle.language.specs.Model.{Model, model, readModel, whatOf}
 use Rattle.language.specs.Listed.{At, In, Distinct, distinct-nil, distinct-cons, distinct-append, in-cons, in-nil}
+use Rattle.language.specs.All.{All, all-with}
+use Rattle.language.specs.Literals.{AllSort, AllNames, AllConstraint, AllLiterals}
 use Rattle.language.specs.Phrases.{_at_, Unknown, Wrote, Writes, constraint, constraints, oneConstraint, lastConstraint, moreConstraints, with, WritesList, lastName, oneName, WritesOptionalList, noList, aList, WritesDeclarations, sixLists, WritesStructure, wholeModel}
 use Rattle.language.proofs.Taken.{after-read, next-read, string-read}
 use Rattle.language.proofs.PhrasedModel.{structure-written}
-use Rattle.language.proofs.Shapes.{All, all-with, AllShaped, shaped-left, shaped-right, Spelled, Printable, Rising, rising-before, rising-behind, literals-shaped, tokens-rise}
-use Rattle.language.proofs.Literals.{AllSort, AllNames, AllConstraint, AllLiterals, phrase-all}
+use Rattle.language.proofs.Shapes.{AllShaped, shaped-left, shaped-right, Spelled, Printable, Rising, rising-before, rising-behind, literals-shaped, tokens-rise}
+use Rattle.language.proofs.Literals.{phrase-all}
 
 -- ---- names
 

@@ -1,96 +1,48 @@
 -- Every literal of a tree is a literal of the tokens that write it: what holds of all of these holds of all of those. Declared
 -- formulas and domains, which stand in the tree where their names were read, are the names' own. Assumes nothing.
-use mathlib.Core.Path.{_≡_, refl, sym, subst}
-use mathlib.Core.List.{List, [], _∷_, _++_}
-use Prim.Native.Nat.{ℕ, zero, suc}
+use mathlib.Core.Path.{subst}
+use mathlib.Core.List.{List}
+use Prim.Native.Nat.{ℕ}
 use Rattle.value.specs.declared.Value.{Value}
-use Rattle.lexer.specs.Text.{Token, Kind}
-use Rattle.language.specs.Syntax.{Formula, Formulas, Spans, Form, Term, Side, Constraint, Sort, Name, Structure, plus, minus, times, datum, sum, more, point, span, also, factor, variable, sigma, bare, form}
+use Rattle.lexer.specs.Text.{Token}
+use Rattle.language.specs.Syntax.{Sort, Name, variable, sigma}
 use Rattle.language.specs.Syntax
+use Rattle.language.specs.All.{All, all-at}
+use Rattle.language.specs.Literals.{AllFormula, AllFormulas, AllSpans, AllForm, AllTerm, AllSide, AllConstraint, AllSort, AllName, AllNames}
 use Rattle.language.specs.Phrases
 use Rattle.language.specs.Phrases.{Means, Phrase, formula, primary, run, subscripts, formulas, entry, entries, domain, anyDomain, formTerm, signedTerms, linearForm, body, side, constraint, constraints, indexList, declaredDomain, sort, Writes, oneTerm, plusTerm, minusTerm, addition, difference, onePrimary, product, integer, real, declared, sumOver, nested, runOver, unsubscripted, inBrackets, lastFormula, oneFormula, between, lastEntry, oneEntry, inParentheses, noDomain, aDomain, unsigned, signed, noTerm, plusNext, minusNext, multiple, aVariable, aSigma, discrete, continuous, sigmaOver, innerSigma, innerForm, oneConstraint, alone, withSign, withFactor, withSigma, withSecond, lastConstraint, moreConstraints, noSubscripts, withDomain, lastIndex, oneIndex, indexSort, integerSort, realSort, formulaSort, discreteSort, continuousSort}
 use Rattle.language.proofs.PhrasedModel.{stands}
-use Rattle.language.proofs.Shapes.{All, all-at, AllShaped, shaped-left, shaped-right}
+use Rattle.language.proofs.Shapes.{AllShaped, shaped-left, shaped-right}
 
 module _ (P : Value → Type 0) where
-  abbrev mutual
-    pub AllFormula : Formula → Type 0
-    AllFormula (Syntax.literal v) = P v
-    AllFormula (Syntax.index i p) = Unit {0}
-    AllFormula (datum i d fs p) = AllSpans d × AllFormulas fs
-    AllFormula (minus f) = AllFormula f
-    AllFormula (plus f g p) = AllFormula f × AllFormula g
-    AllFormula (times f g p) = AllFormula f × AllFormula g
-    AllFormula (sum i f g h p) = AllFormula f × AllFormula g × AllFormula h
-
-    pub AllFormulas : Formulas → Type 0
-    AllFormulas Syntax.none = Unit {0}
-    AllFormulas (more f fs) = AllFormula f × AllFormulas fs
-
-    pub AllSpans : Spans → Type 0
-    AllSpans point = Unit {0}
-    AllSpans (span i f g p d) = AllFormula f × AllFormula g × AllSpans d
-
-  abbrev mutual
-    pub AllForm : Form → Type 0
-    AllForm Syntax.end = Unit {0}
-    AllForm (also m t f) = AllTerm t × AllForm f
-
-    pub AllTerm : Term → Type 0
-    AllTerm (factor f p t) = AllFormula f × AllTerm t
-    AllTerm (variable i d fs p) = AllSpans d × AllFormulas fs
-    AllTerm (sigma i f g h p) = AllFormula f × AllFormula g × AllForm h
-
-  abbrev pub AllSide : Side → Type 0
-  AllSide (bare i d fs p) = AllSpans d × AllFormulas fs
-  AllSide (form f) = AllForm f
-
-  abbrev pub AllConstraint : Constraint → Type 0
-  AllConstraint c = AllSide (c .left) × AllFormula (c .right) × AllSpans (c .domain)
-
-  abbrev pub AllSort : Sort → Type 0
-  AllSort Syntax.index = Unit {0}
-  AllSort (Syntax.integer d) = AllSpans d
-  AllSort (Syntax.real d) = AllSpans d
-  AllSort (Syntax.formula f) = AllFormula f
-  AllSort (Syntax.discrete d) = AllSpans d
-  AllSort (Syntax.continuous d) = AllSpans d
-
-  abbrev pub AllNames : List Name → Type 0
-  AllNames names = All (λ x. AllSort (x .sort)) names
-
-  -- every literal of a structure has P
-  abbrev pub AllLiterals : Structure → Type 0
-  AllLiterals s = AllNames (s .names) × AllForm (s .objective) × All AllConstraint (s .constraints)
-
   -- of all that a phrase writes
   abbrev pub AllPhrase : Phrase → Type 0
-  AllPhrase (formula f) = AllFormula f
-  AllPhrase (Phrases.term f) = AllFormula f
-  AllPhrase (primary f) = AllFormula f
-  AllPhrase (run i f g) = AllFormula f × AllFormula g
-  AllPhrase (subscripts d fs) = AllFormulas fs
-  AllPhrase (formulas d fs) = AllFormulas fs
-  AllPhrase (entry i f g p) = AllFormula f × AllFormula g
-  AllPhrase (entries d) = AllSpans d
-  AllPhrase (domain d) = AllSpans d
-  AllPhrase (anyDomain d) = AllSpans d
-  AllPhrase (Phrases.variable i d fs p) = AllSpans d × AllFormulas fs
-  AllPhrase (formTerm b t) = AllTerm t
-  AllPhrase (signedTerms b f) = AllForm f
-  AllPhrase (linearForm a b f) = AllForm f
-  AllPhrase (Phrases.sigma t) = AllTerm t
-  AllPhrase (body f) = AllForm f
-  AllPhrase (side s) = AllSide s
-  AllPhrase (constraint c) = AllConstraint c
-  AllPhrase (constraints cs) = All AllConstraint cs
+  AllPhrase (formula f) = AllFormula P f
+  AllPhrase (Phrases.term f) = AllFormula P f
+  AllPhrase (primary f) = AllFormula P f
+  AllPhrase (run i f g) = AllFormula P f × AllFormula P g
+  AllPhrase (subscripts d fs) = AllFormulas P fs
+  AllPhrase (formulas d fs) = AllFormulas P fs
+  AllPhrase (entry i f g p) = AllFormula P f × AllFormula P g
+  AllPhrase (entries d) = AllSpans P d
+  AllPhrase (domain d) = AllSpans P d
+  AllPhrase (anyDomain d) = AllSpans P d
+  AllPhrase (Phrases.variable i d fs p) = AllSpans P d × AllFormulas P fs
+  AllPhrase (formTerm b t) = AllTerm P t
+  AllPhrase (signedTerms b f) = AllForm P f
+  AllPhrase (linearForm a b f) = AllForm P f
+  AllPhrase (Phrases.sigma t) = AllTerm P t
+  AllPhrase (body f) = AllForm P f
+  AllPhrase (side s) = AllSide P s
+  AllPhrase (constraint c) = AllConstraint P c
+  AllPhrase (constraints cs) = All (AllConstraint P) cs
   AllPhrase (indexList is) = Unit {0}
-  AllPhrase (declaredDomain d) = AllSpans d
-  AllPhrase (sort w s) = AllSort s
+  AllPhrase (declaredDomain d) = AllSpans P d
+  AllPhrase (sort w s) = AllSort P s
 
-  module _ (names : List Name) (known : AllNames names) where
-    meant : {l : List ℕ} {i : ℕ} {s : Sort} → Means names l i s → AllSort s
-    meant {i} m = let x = stands m in subst AllSort (x .sorted) (all-at (λ y. AllSort (y .sort)) names i (x .entry) (x .placed) known)
+  module _ (names : List Name) (known : AllNames P names) where
+    meant : {l : List ℕ} {i : ℕ} {s : Sort} → Means names l i s → AllSort P s
+    meant {i} m = let x = stands m in subst (AllSort P) (x .sorted) (all-at (AllName P) names i (x .entry) (x .placed) known)
 
     -- by the rule that made the phrase
     pub phrase-all : {x : Phrase} {l : List Token} → Writes names x l → AllShaped P l → AllPhrase x

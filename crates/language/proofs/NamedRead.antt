@@ -5,7 +5,7 @@ use mathlib.Core.List.{List, [], _∷_, _++_}
 use Prim.Native.Nat.{ℕ}
 use Rattle.lexer.specs.Text.{Token}
 use Rattle.language.specs.Listed.{at-left}
-use Rattle.language.specs.Every.{Every, every-at, every-append, every-weaken}
+use Rattle.language.specs.All.{All, all-at, all-append, all-weaken}
 use Rattle.language.specs.Syntax.{Formula, Formulas, Spans, Sort, Name, Structure, datum, minus, plus, times, sum, more, point, span}
 use Rattle.language.specs.Syntax
 use Rattle.language.specs.Phrases.{Means, Phrase, Writes, WritesList, WritesOptionalList, WritesDeclarations, WritesStructure}
@@ -48,12 +48,12 @@ module _ (names rest : List Name) where
   sort-grows (Syntax.continuous d) h = domain-grows d h
 
 abbrev Table : List Name → Type 0
-Table names = Every (NamedEntry names) names
+Table names = All (NamedEntry names) names
 
 table-grows : (names : List Name) (x : Name) → Table names → NamedEntry names x → Table (names ++ (x ∷ []))
 table-grows names x h k =
     let all = names ++ (x ∷ []) in
-    every-append (NamedEntry all) names (x ∷ []) (every-weaken (NamedEntry names) (NamedEntry all) (λ y. sort-grows names (x ∷ []) (y .sort)) names h) (sort-grows names (x ∷ []) (x .sort) k, tt)
+    all-append (NamedEntry all) names (x ∷ []) (all-weaken (NamedEntry names) (NamedEntry all) (λ y. sort-grows names (x ∷ []) (y .sort)) names h) (sort-grows names (x ∷ []) (x .sort) k, tt)
 
 -- ---- phrases
 
@@ -77,14 +77,14 @@ NamedPhrase names (Phrases.sigma t) = NamedTerm names t
 NamedPhrase names (Phrases.body f) = NamedForm names f
 NamedPhrase names (Phrases.side s) = NamedSide names s
 NamedPhrase names (Phrases.constraint c) = NamedConstraint names c
-NamedPhrase names (Phrases.constraints cs) = Every (NamedConstraint names) cs
+NamedPhrase names (Phrases.constraints cs) = All (NamedConstraint names) cs
 NamedPhrase names (Phrases.indexList is) = Unit
 NamedPhrase names (Phrases.declaredDomain d) = NamedDomain names d
 NamedPhrase names (Phrases.sort w s) = NamedSort names s
 
 module _ (names : List Name) (table : Table names) where
   means-named : {l : List ℕ} {i : ℕ} (s : Sort) → Means names l i s → NamedSort names s
-  means-named {l} {i} s m = let x = stands m in subst (NamedSort names) (x .sorted) (every-at (NamedEntry names) names i (x .entry) table (x .placed))
+  means-named {l} {i} s m = let x = stands m in subst (NamedSort names) (x .sorted) (all-at (NamedEntry names) names i (x .entry) (x .placed) table)
 
   integer-is : {l : List ℕ} {i : ℕ} {d : Spans} → Means names l i (Syntax.integer d) → IsDatum names i d
   integer-is m = let x = stands m in record { entry = x .entry; at = x .placed; sort = inl (x .sorted) }

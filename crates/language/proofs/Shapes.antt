@@ -17,32 +17,9 @@ use Rattle.value.specs.declared.Fit.{Fit}
 use Rattle.value.specs.declared.Fit.the-variants.{Fits, TooBig}
 use Rattle.value.specs.Literal.{isDigit, literalOf}
 use Rattle.lexer.specs.Marks.{Word, capitalWords, smallWords, atMost, atLeast}
-use Rattle.language.specs.Listed.{At, In, in-here, in-later}
+use Rattle.language.specs.Listed.{In, in-here, in-later}
+use Rattle.language.specs.All.{All, all-left, all-right}
 use Rattle.lexer.specs.Text.{Kind, Token, Step, mark, name, literal, string, end, wrong, step, front, behind, sameBytes, isBlank, isSmall, inName, among, nameStep, isCapital, wordStep, isSign, orderStep, literalKind, valued, pointed, literalStep, noBrace, inString, strange, wellShaped, stringStep, stepAt, isWrong, tokensFrom, uncounted, counted, tokens}
-
--- ---- all entries of a list
-
-module _ {A : Type 0} (P : A → Type 0) where
-  abbrev pub All : List A → Type 0
-  All [] = Unit {0}
-  All (a ∷ l) = P a × All l
-
-  pub all-left : (l k : List A) → All (l ++ k) → All l
-  all-left [] k h = tt
-  all-left (a ∷ l) k h = (h .0, all-left l k (h .1))
-
-  pub all-right : (l k : List A) → All (l ++ k) → All k
-  all-right [] k h = h
-  all-right (a ∷ l) k h = all-right l k (h .1)
-
-  pub all-with : (l : List A) (a : A) → All l → P a → All (l ++ (a ∷ []))
-  all-with [] a h p = (p, tt)
-  all-with (b ∷ l) a h p = (h .0, all-with l a (h .1) p)
-
-  pub all-at : (l : List A) (i : ℕ) (a : A) → At l i a → All l → P a
-  all-at [] i a x h = absurd x
-  all-at (b ∷ l) zero a x h = subst P x (h .0)
-  all-at (b ∷ l) (suc i) a x h = all-at l i a x (h .1)
 
 -- ---- shapes
 

@@ -1,4 +1,4 @@
--- Every value that evaluation gives is valid, and every number of a run or an element is small, where the literals and the
+-- All value that evaluation gives is valid, and every number of a run or an element is small, where the literals and the
 -- data are valid. Assumes nothing.
 use mathlib.Core.Path.{_≡_, subst}
 use mathlib.Core.Bool.{Bool, true, false, cond}
@@ -16,7 +16,7 @@ use Rattle.value.specs.Integer.{up, down, le-parts}
 use Rattle.value.specs.Decimal.{Valid, zeroValue, sumOf, productOf, wholeOf}
 use Rattle.value.proofs.Operations.{sum-valid, product-valid, negate-valid, zero-valid, ofWhole-valid}
 use Rattle.language.specs.Ranges.{range, in-range}
-use Rattle.language.specs.Every.{Every, in-every}
+use Rattle.language.specs.All.{All, in-all}
 use Rattle.language.specs.Outcome.{Outcome, done, after, after-some, after-whole, some-of, fits-of, done-injective, some-injective, none-some}
 use Rattle.language.specs.Scope.{Binding, Scope, bind, unbound, boundTo}
 use Rattle.language.specs.Syntax.{Formula, Formulas, Spans, datum, minus, plus, times, sum, point, span}
@@ -47,7 +47,7 @@ small-between a b (pos n) ha hb l r = omega (arith, natAbs-parts b, le-parts (po
 small-between a b (negsuc n) ha hb l r = omega (arith, natAbs-parts a, le-parts a (negsuc n) l)
 
 range-small : (a b : ℤ) → Small a → Small b → SmallElement (range a b)
-range-small a b ha hb = in-every Small (range a b) (λ k n. let h = in-range a b k n in small-between a b k ha hb (h .0) (h .1))
+range-small a b ha hb = in-all Small (range a b) (λ k n. let h = in-range a b k n in small-between a b k ha hb (h .0) (h .1))
 
 pub record SmallLimits (l : Limits) : Type 0 where
   pub lower : Small (l .lower)
@@ -76,7 +76,7 @@ each-keeps P f keeps (k ∷ ks) a b h pa e =
 
 -- ---- scopes
 
-pub bound-small : (i : ℕ) (l : List Binding) (k : ℤ) → Every SmallBinding l → boundTo i l ≡ some k → Small k
+pub bound-small : (i : ℕ) (l : List Binding) (k : ℤ) → All SmallBinding l → boundTo i l ≡ some k → Small k
 unfolding boundTo
 bound-small i [] k h e = absurd (none-some e)
 bound-small i (b ∷ l) k h e = go (eqb i (b .name)) e (bound-small i l k (h .1))

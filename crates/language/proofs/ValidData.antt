@@ -15,21 +15,25 @@ use Rattle.value.specs.declared.Value.{Value}
 use Rattle.value.specs.Decimal.{Valid}
 use Rattle.value.proofs.Integers.{natAbs-neg}
 use Rattle.value.proofs.Operations.{negate-valid}
-use Rattle.language.specs.Every.{Every}
+use Rattle.language.specs.All.{All}
 use Rattle.language.specs.Outcome.{Outcome, done, refused, done-injective, refused-done, some-injective, none-some}
 use Rattle.language.specs.Syntax.{Name, Sort, Spans, point, span}
 use Rattle.language.specs.Syntax
 use Rattle.language.specs.Reader.{Read, Reader, follow, _>>=_, give, refuse, lift, passed, next, look, isMark, isName, demand, require, expect, bracket, readString, Used, find, found, known, readKnown, readIndex}
 use Rattle.language.specs.Store.{Store, scopeOf, Portion, portionBy, Bound, setAt, elementOf, positionRun, accept}
 use Rattle.language.specs.Data.{Entry, fixed, marked, digitsOf, withMinus, signedEntry, entryBy, readEntry, entriesOf, marksOf, positionsOf, orderFrom, readOrder, boundOf, valueOf, signedValue, readNumber, eachRead, runs, subscriptedPortion, isPoint, portionOf, portionsOf, Given, readClose, dataOf, readEnd, readData}
-use Rattle.language.specs.Literals.{KindLiteral, TokenLiteral, AllSpans, AllSort, AllNames}
+use Rattle.language.specs.Literals.{AllSpans, AllSort, AllNames}
 use Rattle.language.specs.Valid.{Small, SmallElement, ValidStore}
+use Rattle.language.proofs.Shapes.{Shaped, AllShaped}
 use Rattle.language.proofs.ValidStore.{scope-valid, accept-valid, SmallBound, setAt-small, elementOf-small, positionRun-valid}
 
 -- ---- readers over tokens whose literals are valid
 
 abbrev pub ValidTokens : List Token → Type 0
-ValidTokens ts = Every (TokenLiteral Valid) ts
+ValidTokens ts = AllShaped Valid ts
+
+abbrev ValidToken : Token → Type 0
+ValidToken t = Shaped Valid (t .kind)
 
 -- what is read has Q, and the tokens left are valid
 pub record Got {A : Type 0} (Q : A → Type 0) (r : Read A) : Type 0 where
@@ -44,7 +48,7 @@ abbrev Any : {A : Type 0} → A → Type 0
 Any a = Unit
 
 module _ {A : Type 0} {Q : A → Type 0} where
-  pub given : {a : A} → Q a → Gives (give a) Q
+  given : {a : A} → Q a → Gives (give a) Q
   given {a} q = record { gives = λ ts r h e. subst (Got Q) (done-injective e) (record { what = q; rest = h }) }
 
   refusing : {n : Refusal} {p : ℕ} → Gives (refuse {A = A} n p) Q
@@ -68,7 +72,7 @@ module _ {A : Type 0} {Q : A → Type 0} where
   choice false a b = b
 
 module _ {A B : Type 0} {Q : A → Type 0} {R : B → Type 0} where
-  pub then : {m : Reader A} {f : A → Reader B} → Gives m Q → ((a : A) → Q a → Gives (f a) R) → Gives (m >>= f) R
+  then : {m : Reader A} {f : A → Reader B} → Gives m Q → ((a : A) → Q a → Gives (f a) R) → Gives (m >>= f) R
   then {m} {f} gm gf = record { gives = λ ts r h e. go ts r h (m ts) refl e }
     where
       go : (ts : List Token) (r : Read B) → ValidTokens ts → (o : Outcome (Read A)) → m ts ≡ o → follow o f ≡ done r → Got R r
@@ -77,28 +81,28 @@ module _ {A B : Type 0} {Q : A → Type 0} {R : B → Type 0} where
 
 -- ---- one token, one name
 
-passed-valid : (k : Kind) (t : Token) (ts : List Token) (r : Read Token) → TokenLiteral Valid t → ValidTokens ts → passed k t ts ≡ done r → Got (TokenLiteral Valid) r
+passed-valid : (k : Kind) (t : Token) (ts : List Token) (r : Read Token) → ValidToken t → ValidTokens ts → passed k t ts ≡ done r → Got ValidToken r
 unfolding passed
-passed-valid (Text.mark c) t ts r ht h e = subst (Got (TokenLiteral Valid)) (done-injective e) (record { what = ht; rest = h })
-passed-valid (Text.name l) t ts r ht h e = subst (Got (TokenLiteral Valid)) (done-injective e) (record { what = ht; rest = h })
-passed-valid (Text.literal w v) t ts r ht h e = subst (Got (TokenLiteral Valid)) (done-injective e) (record { what = ht; rest = h })
-passed-valid (Text.string l) t ts r ht h e = subst (Got (TokenLiteral Valid)) (done-injective e) (record { what = ht; rest = h })
-passed-valid Text.end t ts r ht h e = subst (Got (TokenLiteral Valid)) (done-injective e) (record { what = ht; rest = h })
+passed-valid (Text.mark c) t ts r ht h e = subst (Got ValidToken) (done-injective e) (record { what = ht; rest = h })
+passed-valid (Text.name l) t ts r ht h e = subst (Got ValidToken) (done-injective e) (record { what = ht; rest = h })
+passed-valid (Text.literal w v) t ts r ht h e = subst (Got ValidToken) (done-injective e) (record { what = ht; rest = h })
+passed-valid (Text.string l) t ts r ht h e = subst (Got ValidToken) (done-injective e) (record { what = ht; rest = h })
+passed-valid Text.end t ts r ht h e = subst (Got ValidToken) (done-injective e) (record { what = ht; rest = h })
 passed-valid (Text.wrong n) t ts r ht h e = absurd (refused-done e)
 
-next-valid : Gives next (TokenLiteral Valid)
+next-valid : Gives next ValidToken
 unfolding next
 next-valid = record { gives = go }
   where
-    go : (ts : List Token) (r : Read Token) → ValidTokens ts → next ts ≡ done r → Got (TokenLiteral Valid) r
+    go : (ts : List Token) (r : Read Token) → ValidTokens ts → next ts ≡ done r → Got ValidToken r
     go [] r h e = absurd (refused-done e)
     go (t ∷ ts) r h e = passed-valid (t .kind) t ts r (h .0) (h .1) e
 
-look-valid : Gives look (TokenLiteral Valid)
+look-valid : Gives look ValidToken
 unfolding look
 look-valid = record { gives = go }
   where
-    go : (ts : List Token) (r : Read Token) → ValidTokens ts → look ts ≡ done r → Got (TokenLiteral Valid) r
+    go : (ts : List Token) (r : Read Token) → ValidTokens ts → look ts ≡ done r → Got ValidToken r
     go [] r h e = absurd (refused-done e)
     go (t ∷ ts) r h e = passed-valid (t .kind) t (t ∷ ts) r (h .0) h e
 
@@ -156,7 +160,7 @@ abbrev SmallEntry : Entry → Type 0
 SmallEntry (fixed k) = Small k
 SmallEntry (marked i) = Unit
 
-digits-small : (k : Kind) (z : ℤ) → KindLiteral Valid k → digitsOf k ≡ some z → Small z
+digits-small : (k : Kind) (z : ℤ) → Shaped Valid k → digitsOf k ≡ some z → Small z
 unfolding digitsOf
 digits-small (Text.mark c) z h e = absurd (none-some e)
 digits-small (Text.name l) z h e = absurd (none-some e)
@@ -175,7 +179,7 @@ unfolding signedEntry
 signedEntry-small m = then next-valid (λ t ht. then (demanded _ _ (λ k e. digits-small (t .kind) k ht e)) (λ k hk. given (withMinus-small m k hk)))
 
 module _ (names : List Name) (table : AllNames Valid names) where
-  entryBy-small : (p : ℕ) (k : Kind) → KindLiteral Valid k → Gives (entryBy names p k) SmallEntry
+  entryBy-small : (p : ℕ) (k : Kind) → Shaped Valid k → Gives (entryBy names p k) SmallEntry
   unfolding entryBy
   entryBy-small p (Text.mark c) h = choice (eqb c plusSign) (signedEntry-small false) (choice (eqb c minusSign) (signedEntry-small true) refusing)
   entryBy-small p (Text.name l) h = then (known-valid names table l p) (λ u _. then (required _ _ _) (λ _ _. given tt))
@@ -188,7 +192,7 @@ module _ (names : List Name) (table : AllNames Valid names) where
   unfolding readEntry
   readEntry-small = then next-valid (λ t ht. entryBy-small (t .place) (t .kind) ht)
 
-  entriesOf-small : (d : Spans) → Gives (entriesOf names d) (Every SmallEntry)
+  entriesOf-small : (d : Spans) → Gives (entriesOf names d) (All SmallEntry)
   unfolding entriesOf
   entriesOf-small point = given tt
   entriesOf-small (span i f g p point) = then readEntry-small (λ e he. then (expected closesList) (λ _ _. given (he, tt)))
@@ -211,7 +215,7 @@ module _ (names : List Name) (table : AllNames Valid names) where
       (then (bracketed opens nestingLimit) (λ _ _. then (orderFrom-valid byteLimit) (λ _ _. then (required _ _ _) (λ _ _. given tt))))
       (given tt))
 
-boundOf-small : (es : List Entry) → Every SmallEntry es → SmallBound (boundOf es)
+boundOf-small : (es : List Entry) → All SmallEntry es → SmallBound (boundOf es)
 unfolding boundOf
 boundOf-small [] h = tt
 boundOf-small (fixed k ∷ es) h = (h .0, boundOf-small es (h .1))
@@ -219,7 +223,7 @@ boundOf-small (marked i ∷ es) h = (tt, boundOf-small es (h .1))
 
 -- ---- the numbers of a portion
 
-valueOf-valid : (k : Kind) (v : Value) → KindLiteral Valid k → valueOf k ≡ some v → Valid v
+valueOf-valid : (k : Kind) (v : Value) → Shaped Valid k → valueOf k ≡ some v → Valid v
 unfolding valueOf
 valueOf-valid (Text.mark c) v h e = absurd (none-some e)
 valueOf-valid (Text.name l) v h e = absurd (none-some e)

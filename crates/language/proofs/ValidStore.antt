@@ -12,7 +12,7 @@ use Rattle.rules.specs.declared.Refusal.the-variants.{Missing, Full}
 use Rattle.value.specs.declared.Value.{Value}
 use Rattle.value.specs.Decimal.{Valid}
 use Rattle.value.proofs.Operations.{zero-valid}
-use Rattle.language.specs.Every.{Every}
+use Rattle.language.specs.All.{All}
 use Rattle.language.specs.Outcome.{done, after, after-check, done-injective, some-injective, none-some}
 use Rattle.language.specs.Syntax.{Spans, point, span}
 use Rattle.language.specs.Scope.{Scope, sameElement}
@@ -51,7 +51,7 @@ SmallIf none = Unit
 SmallIf (some k) = Small k
 
 abbrev pub SmallBound : Bound → Type 0
-SmallBound b = Every SmallIf b
+SmallBound b = All SmallIf b
 
 pub setAt-small : (j : ℕ) (k : ℤ) (b : Bound) → Small k → SmallBound b → SmallBound (setAt j k b)
 unfolding setAt

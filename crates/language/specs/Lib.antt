@@ -7,7 +7,7 @@ pub mod Declarations
 pub mod Grammar
 pub mod Phrases
 pub mod Listed
-pub mod Every
+pub mod All
 pub mod Ranges
 pub mod Scope
 pub mod Evaluation

@@ -1,33 +1,11 @@
--- A property P of all literals: in the trees that are read, and in the tokens that they are read from. Assumes nothing.
+-- A property P of all literals in the trees that are read. Assumes nothing.
 use mathlib.Core.List.{List}
-use Prim.Native.Nat.{ℕ}
 use Rattle.value.specs.declared.Value.{Value}
-use Rattle.lexer.specs.Text.{Token, Kind, tokens}
-use Rattle.lexer.specs.Text
 use Rattle.language.specs.Syntax.{Formula, Formulas, Spans, Form, Term, Side, Constraint, Sort, Name, Structure, datum, minus, plus, times, sum, more, point, span, also, factor, variable, sigma, bare, form}
 use Rattle.language.specs.Syntax
-use Rattle.language.specs.Every.{Every}
+use Rattle.language.specs.All.{All}
 
 module _ (P : Value → Type 0) where
-  -- ---- tokens
-
-  abbrev pub KindLiteral : Kind → Type 0
-  KindLiteral (Text.mark c) = Unit
-  KindLiteral (Text.name l) = Unit
-  KindLiteral (Text.literal w v) = P v
-  KindLiteral (Text.string l) = Unit
-  KindLiteral Text.end = Unit
-  KindLiteral (Text.wrong r) = Unit
-
-  abbrev pub TokenLiteral : Token → Type 0
-  TokenLiteral t = KindLiteral (t .kind)
-
-  -- every literal token of a text
-  abbrev pub LiteralTokens : List ℕ → Type 0
-  LiteralTokens text = Every TokenLiteral (tokens text)
-
-  -- ---- trees
-
   abbrev mutual
     pub AllFormula : Formula → Type 0
     AllFormula (Syntax.literal v) = P v
@@ -75,8 +53,8 @@ module _ (P : Value → Type 0) where
   AllName x = AllSort (x .sort)
 
   abbrev pub AllNames : List Name → Type 0
-  AllNames names = Every AllName names
+  AllNames names = All AllName names
 
   -- every literal of a structure
   abbrev pub AllLiterals : Structure → Type 0
-  AllLiterals s = AllNames (s .names) × AllForm (s .objective) × Every AllConstraint (s .constraints)
+  AllLiterals s = AllNames (s .names) × AllForm (s .objective) × All AllConstraint (s .constraints)

@@ -7,7 +7,7 @@ use Prim.Native.Nat.{ℕ}
 use Rattle.language.specs.Syntax.{Formula, Formulas, Spans, Form, Term, Side, Constraint, Sort, Name, Structure, datum, minus, plus, times, sum, more, point, span, also, factor, variable, sigma, bare, form}
 use Rattle.language.specs.Syntax
 use Rattle.language.specs.Listed.{At}
-use Rattle.language.specs.Every.{Every}
+use Rattle.language.specs.All.{All}
 
 -- as many formulas as the domain has indices
 abbrev pub AsMany : Spans → Formulas → Type 0
@@ -81,6 +81,6 @@ module _ (names : List Name) where
   NamedEntry x = NamedSort (x .sort)
 
 pub record NamedStructure (s : Structure) : Type 0 where
-  pub table : Every (NamedEntry (s .names)) (s .names)
+  pub table : All (NamedEntry (s .names)) (s .names)
   pub objective : NamedForm (s .names) (s .objective)
-  pub constraints : Every (NamedConstraint (s .names)) (s .constraints)
+  pub constraints : All (NamedConstraint (s .names)) (s .constraints)

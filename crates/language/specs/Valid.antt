@@ -8,7 +8,7 @@ use lib.IntN.{ℤ, natAbs}
 use Rattle.rules.specs.Limits.{mantissaLimit}
 use Rattle.value.specs.declared.Value.{Value}
 use Rattle.value.specs.Decimal.{Valid}
-use Rattle.language.specs.Every.{Every}
+use Rattle.language.specs.All.{All}
 use Rattle.language.specs.Scope.{Binding, Scope}
 use Rattle.language.specs.Store.{Datum, Store}
 use Rattle.language.specs.Numbering.{Variable, Row, Fact, bound, row, Entry, Lp}
@@ -19,7 +19,7 @@ abbrev pub Small : ℤ → Type 0
 Small k = natAbs k ≤ mantissaLimit
 
 abbrev pub SmallElement : List ℤ → Type 0
-SmallElement e = Every Small e
+SmallElement e = All Small e
 
 -- ---- what formulas are read under
 
@@ -28,19 +28,19 @@ SmallBinding b = Small (b .at)
 
 pub record ValidScope (s : Scope) : Type 0 where
   pub known : (i : ℕ) (e : List ℤ) (v : Value) → s .known i e ≡ some v → Valid v
-  pub bound : Every SmallBinding (s .bound)
+  pub bound : All SmallBinding (s .bound)
 
 pub record ValidDatum (x : Datum) : Type 0 where
   pub value : Valid (x .value)
   pub element : SmallElement (x .element)
 
 abbrev pub ValidStore : Store → Type 0
-ValidStore st = Every ValidDatum st
+ValidStore st = All ValidDatum st
 
 -- ---- what is generated
 
 abbrev pub ValidRow : Row → Type 0
-ValidRow r = Every Valid r
+ValidRow r = All Valid r
 
 abbrev pub ValidVariable : Variable → Type 0
 ValidVariable v = SmallElement (v .element)
@@ -54,8 +54,8 @@ pub record ValidEntry (e : Entry) : Type 0 where
   pub fact : ValidFact (e .fact)
 
 pub record ValidProblem (p : Lp) : Type 0 where
-  pub variables : Every ValidVariable (p .variables)
-  pub entries : Every ValidEntry (p .entries)
+  pub variables : All ValidVariable (p .variables)
+  pub entries : All ValidEntry (p .entries)
   pub objective : ValidRow (p .objective)
 
 -- ---- what is listed
