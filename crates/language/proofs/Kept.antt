@@ -20,7 +20,7 @@ use Rattle.language.specs.Model.{Model, start, discretes, continuouses}
 use Rattle.language.specs.Store.{allGiven}
 use Rattle.language.specs.Numbering.{Variable, Row, signed, gathered, addVariables, addEntries, Source, Entry, Fact, flips, isEqual, factOf, lowerOf, upperOf, Lp, lessRows, equalRows, rows, generate}
 use Rattle.language.specs.Listing.{Line, rowLine, varLine, rightOf, coefficientsOf, linesOf}
-use Rattle.language.specs.Demand3.{Holds, RowMet, Written, Declared, States, StatesLower, Lower, Upper, Names, sideValue, scopeAt, leftValue, rightValue, rowValue, BelowUpper, Feasible, byNumber, RowLine, VariableLine, IsLower, IsUpper, Meets, Keeps, OneToOne, IsForm}
+use Rattle.language.specs.Demand3.{Holds, RowMet, Written, Declared, States, Lower, Upper, Names, sideValue, scopeAt, leftValue, rightValue, rowValue, BelowUpper, Feasible, byNumber, RowLine, VariableLine, IsLower, IsUpper, Meets, Keeps, OneToOne, IsForm}
 use Rattle.value.proofs.Numbers.{exactly-zero}
 use Rattle.language.proofs.Gathered.{dot, gathered-done, gathered-long}
 use Rattle.language.proofs.Elements.{walk}
@@ -28,7 +28,7 @@ use Rattle.language.proofs.Entries.{dot-signed, met, of-form, entries, 
 use Rattle.language.proofs.Numbered.{Variables, rowsOf, in-table, variable-numbers, variable-order, discrete-first, row-numbers, row-order, less-first, in-rows, rows-in, row-form, form-row}
 use Rattle.language.proofs.Stated.{names-bound, lower-bound, upper-bound}
 use Rattle.language.proofs.Summed.{by-number, row-lines, objective-lines}
-use Rattle.language.proofs.Lines.{every-line, in-order, row-line, var-line, variable-line, objective-line}
+use Rattle.language.proofs.Lines.{every-line, in-order, lp-line, end-line, row-line, var-line, variable-line, objective-line}
 
 -- ---- one constraint at one element
 
@@ -133,7 +133,7 @@ module _ (m : Model) (vs : List Variable) (n : ℕ) (variables-made : Variables 
           | inl (o, t, e) ↦ subst₂ _⊑_ e (names-value x (o .constraint .left) (scopeAt m o) v (t .names))
               (keeps-lower _ _ (o .constraint .relation) (t .kind) (h .constraints o (t .written)))
           | inr (unstated, e) ↦ subst (λ q. q ⊑ x v) (sym (ap exactly e ∙ exactly-zero))
-              (h .at-least-0 v d (λ t. unstated (t .source) (record { written = t .written; kind = t .lower; names = t .names })))
+              (h .at-least-0 v d unstated)
         ]
 
         below : (v : Variable) (u : Option Value) → IsUpper m v u → BelowUpper u (x v)
@@ -154,9 +154,9 @@ module _ (m : Model) (vs : List Variable) (n : ℕ) (variables-made : Variables 
               least v (lowerOf es (n .place)) unstated (h .above-lower (n .place) v (n .at)) (lower-is (n .place) v (n .at));
         }
       where
-        least : (v : Variable) (l : Value) → (StatesLower m v → ⊥) → exactly l ⊑ x v → IsLower m v l → 𝟎 ⊑ x v
+        least : (v : Variable) (l : Value) → ((o : Source) → States Lower m v o → ⊥) → exactly l ⊑ x v → IsLower m v l → 𝟎 ⊑ x v
         least v l unstated k b = elim (b .stated) [
-          | inl (o, t, e) ↦ absurd (unstated (record { source = o; written = t .written; lower = t .kind; names = t .names }))
+          | inl (o, t, e) ↦ absurd (unstated o t)
           | inr (unsaid, e) ↦ subst (λ q. q ⊑ x v) (ap exactly e ∙ exactly-zero) k
         ]
 
@@ -270,6 +270,8 @@ of-parts m p parts =
     record {
       every-line = every-line m p (table m p parts);
       in-order = in-order m p;
+      lp-line = lp-line m p;
+      end-line = end-line m p;
       row-line = row-line m p;
       variable-line = variable-line m p;
       objective-line = objective-line m p;

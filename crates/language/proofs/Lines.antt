@@ -306,6 +306,12 @@ module _ (m : Model) (p : Lp) where
     in-lines _ (in-right lpPart _ _ (in-right rowPart _ _ (in-right varPart _ _ (in-left colPart _ _ (col-part .objective i (omega arith) (omega arith)))))),
   )
 
+  pub lp-line : In (linesOf m p) (lpLine (p .discrete) (length (p .variables)) (length (lessRows p)) (length (rows p)) (m .structure .title) (m .given .title))
+  lp-line = in-lines _ (in-here _ _)
+
+  pub end-line : In (linesOf m p) endLine
+  end-line = in-lines _ (in-right lpPart _ _ (in-right rowPart _ _ (in-right varPart _ _ (in-right colPart _ _ (in-here endLine [])))))
+
   -- every line says what it must, where each variable's name stands in the table
   pub every-line : ((j : ℕ) (v : Variable) → At (p .variables) j v → (x : Name) × At names (v .name) x) → (l : Line) → In (linesOf m p) l → Says m p l
   every-line table l h =

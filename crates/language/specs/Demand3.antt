@@ -69,16 +69,16 @@ abbrev pub Names : Side → Scope → Variable → Type 0
 Names (bare i d fs p) s v = record { name = i; element = subscripts fs s } ≡ v
 Names (form f) s v = ⊥
 
-pub record StatesLower (m : Model) (v : Variable) : Type 0 where
-  pub source : Source
-  pub written : Written m source
-  pub lower : Lower (source .constraint .relation)
-  pub names : Names (source .constraint .left) (scopeAt m source) v
+-- o states a bound of the kind K for v
+pub record States (K : Relation → Type 0) (m : Model) (v : Variable) (o : Source) : Type 0 where
+  pub written : Written m o
+  pub kind : K (o .constraint .relation)
+  pub names : Names (o .constraint .left) (scopeAt m o) v
 
 -- the assignments that the text allows: every constraint is met, and what has no stated lower bound is at least 0
 pub record Meets (m : Model) (x : Variable → ℚ) : Type 0 where
   pub constraints : (o : Source) → Written m o → Holds (o .constraint .relation) (leftValue m x o) (rightValue m o)
-  pub at-least-0 : (v : Variable) → Declared m v → (StatesLower m v → ⊥) → 𝟎 ⊑ x v
+  pub at-least-0 : (v : Variable) → Declared m v → ((o : Source) → States Lower m v o → ⊥) → 𝟎 ⊑ x v
 
 -- ---- what is listed; y is the number assigned to the variable of a printed number
 
@@ -222,12 +222,6 @@ Upper atMost = Unit
 Upper atLeast = ⊥
 Upper equal = Unit
 
--- o states a bound of the kind K for v
-pub record States (K : Relation → Type 0) (m : Model) (v : Variable) (o : Source) : Type 0 where
-  pub written : Written m o
-  pub kind : K (o .constraint .relation)
-  pub names : Names (o .constraint .left) (scopeAt m o) v
-
 pub record IsLower (m : Model) (v : Variable) (l : Value) : Type 0 where
   pub least : (o : Source) → States Lower m v o → rightValue m o ⊑ exactly l
   pub stated : ((o : Source) × States Lower m v o × (rightValue m o ≡ exactly l)) ⊎ (((o : Source) → States Lower m v o → ⊥) × (l ≡ zeroValue))
@@ -260,9 +254,12 @@ abbrev pub negatedRow : Entry → Bool
 negatedRow e = flips (e .source .constraint .relation)
 
 pub record Keeps (m : Model) (p : Lp) : Type 0 where
-  -- every line says what it must, in order; each row and each variable has its line, and its coefficient in row M+1
+  -- every line says what it must, in order; `lp`, `end`, each row and each variable have their line, and each variable its
+  -- coefficient in row M+1
   pub every-line : (l : Line) → In (linesOf m p) l → Says m p l
   pub in-order : Rising EarlierLine (linesOf m p)
+  pub lp-line : In (linesOf m p) (lpLine (p .discrete) (length (p .variables)) (length (lessRows p)) (length (rows p)) (m .structure .title) (m .given .title))
+  pub end-line : In (linesOf m p) endLine
   pub row-line : (i : ℕ) (e : Entry) → At (rows p) i e
       → In (linesOf m p) (rowLine (suc i) (isEqual (e .source .constraint .relation)) (rightOf (e .fact)) (e .source .constraint .title) (e .source .element))
   pub variable-line : (i : ℕ) (v : Variable) (x : Name) → At (p .variables) i v → At (m .structure .names) (v .name) x
