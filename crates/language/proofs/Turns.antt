@@ -7,19 +7,19 @@ use Prim.Native.Nat.{ℕ, zero, suc, _+_, _<_, _≤_}
 use native.Mathlib.Omega.{arith}
 use lib.ListN.{length, length-append}
 use Rattle.rules.specs.Limits.{byteLimit, tokenLimit}
-use Rattle.lexer.specs.Marks.{timesSign, minusSign, comma}
+use Rattle.lexer.specs.Marks.{timesSign, minusSign, comma, openWord}
 use Rattle.lexer.specs.Text.{Token, Kind, mark, uncounted, tokens}
 use Rattle.language.specs.Outcome.{Outcome, done, refused}
 use Rattle.language.specs.Syntax.{Formula, Name, Sort, Term, Form, plus, times, factor, also}
 use Rattle.language.specs.Syntax
 use Rattle.language.specs.Reader.{Read, Reader, follow, _>>=_, give, passed, next, look, isMark, expect}
 use Rattle.language.specs.Formulas.{factors, termOf, isSum, negated, summands, Signed, readSign, formulaOf, insideAt, primaryBy, subscriptsOf}
-use Rattle.language.specs.Linear.{Head, headBy, linearTerm, linearTerms}
+use Rattle.language.specs.Linear.{Head, headBy, linearTerm, linearTerms, linearOf}
 use Rattle.language.specs.Linear
 use Rattle.language.specs.Declarations.{newName, entriesFrom}
-use Rattle.language.specs.Phrases.{_at_, Reads, Writes, term, primary, formTerm, sort, with}
+use Rattle.language.specs.Phrases.{_at_, Reads, Phrase, Writes, term, primary, formTerm, sort, with}
 use Rattle.language.proofs.Taken.{passed-is, expect-read, marked}
-use Rattle.language.proofs.Phrased.{signMark, sign-is, primary-by, inside-read}
+use Rattle.language.proofs.Phrased.{signMark, sign-is, SignOf, noSign, aSign, sign-read, primary-by, inside-read}
 use Rattle.language.proofs.PhrasedModel.{new-name}
 use Rattle.language.proofs.Counted.{live, live-cons, live-tokens, Counted, nil, cons, phrase-counts}
 
@@ -78,6 +78,13 @@ sign-counts false = refl
 
 sign-takes : (t : Token) (us : List Token) → isSum t ≡ true → live (t ∷ us) ≡ suc (live us)
 sign-takes t us e = token-takes _ (t .place) t us (sign-counts (isMark minusSign t)) (sign-is t e)
+
+sign-steady : (ts : List Token) (r : Read Signed) → readSign ts ≡ done r → live (r .rest) ≤ live ts
+sign-steady ts r e = omega (arith, leaves sign-read (λ s l w. counts w) ts r e .2)
+  where
+    counts : {s : Signed} {l : List Token} → SignOf s l → Counted l
+    counts noSign = nil
+    counts (aSign m p) = cons (sign-counts m) nil
 
 module _ (names : List Name) where
   -- ---- factors: each turn takes a `*`
@@ -160,3 +167,43 @@ module _ (word : ℕ) (E : List Name → Reader Sort) (re : (names : List Name) 
           let q = leaves (re names) (λ s l w. phrase-counts w) (x .rest) s es .2 in
           let r = ap live e ∙ token-takes comma (t .place) t us refl (marked _ t c) in
           entries-turns n k (with names (x .what .title) (x .what .place) (s .what)) us (omega arith) (omega arith)
+
+-- ---- in a text the loops are entered with fewer tokens that count than they have turns
+
+-- no reader of a phrase leaves more tokens that count than it finds
+pub steady : {A : Type 0} {names : List Name} {m : Reader A} {x : A → Phrase} → Reads m (λ a. Writes names (x a)) → (ts : List Token) (r : Read A) → m ts ≡ done r → live (r .rest) ≤ live ts
+steady rm ts r e = omega (arith, leaves rm (λ a l w. phrase-counts w) ts r e .2)
+
+-- a text has at most as many as a loop has turns, and its `OPEN` is one of them
+pub behind-open : (text : List ℕ) (r : Read ℕ) → expect openWord (tokens text) ≡ done r → live (r .rest) < tokenLimit
+unfolding uncounted
+behind-open text r e = omega (arith, live-tokens text, expect-takes _ refl (tokens text) r e)
+
+-- so each loop of the definition gives what it gives with any greater number of turns
+module _ (names : List Name) (ts : List Token) (fits : live ts < tokenLimit) (n : ℕ) (more : live ts < n) where
+  pub any-factors : (P : Reader Formula) → Reads P (λ f. Writes names (primary f)) → termOf P ts ≡ (P >>= factors P n) ts
+  unfolding termOf
+  any-factors P rp = same-then (P ts) _ _ λ x e. let a = steady rp ts x e in factors-turns names P rp tokenLimit n (x .what) (x .rest) (omega arith) (omega arith)
+
+  pub any-summands : (T : Reader Formula) → Reads T (λ f. Writes names (term f)) → formulaOf T ts ≡ (readSign >>= λ s. T >>= λ f. summands T n (negated (s .negative) f)) ts
+  unfolding formulaOf
+  any-summands T rt =
+      same-then (readSign ts) _ _ λ s es. same-then (T (s .rest)) _ _ λ x e.
+          let a = sign-steady ts s es in
+          let b = steady rt (s .rest) x e in
+          summands-turns names T rt tokenLimit n (negated (s .what .negative) (x .what)) (x .rest) (omega arith) (omega arith)
+
+  pub any-terms : (T : Reader Term) (sigmas : Bool) → Reads T (λ t. Writes names (formTerm sigmas t))
+      → linearOf T ts ≡ (readSign >>= λ s. T >>= λ u. linearTerms T n >>= λ f. give (record { signed = s .written; form = also (s .negative) u f })) ts
+  unfolding linearOf
+  any-terms T sigmas rt =
+      same-then (readSign ts) _ _ λ s es. same-then (T (s .rest)) _ _ λ x e.
+          let a = sign-steady ts s es in
+          let b = steady rt (s .rest) x e in
+          ap (λ o. follow o (λ f. give (record { signed = s .what .written; form = also (s .what .negative) (x .what) f }))) (terms-turns names T sigmas rt tokenLimit n (x .rest) (omega arith) (omega arith))
+
+  pub any-factored : (S : ℕ → Reader Term) (sigmas : Bool) (d : ℕ) → linearTerm names S sigmas d tokenLimit ts ≡ linearTerm names S sigmas d n ts
+  any-factored S sigmas d = term-turns names S sigmas d tokenLimit n ts fits more
+
+  pub any-entries : (word : ℕ) (E : List Name → Reader Sort) → ((names : List Name) → Reads (E names) (λ s. Writes names (sort word s))) → entriesFrom E tokenLimit names ts ≡ entriesFrom E n names ts
+  any-entries word E re = entries-turns word E re tokenLimit n names ts fits more
