@@ -178,11 +178,11 @@ module _ (names : List Name) where
       weaken (due-all (w .0)) (λ d k v. withDomain {l = l} p (rw (v .same) (w .0)) (rw (v .same) (v .distinct)) (inParentheses q (v .entries) (rw (v .same) (omega (arith, w .1))))))
       (gives noSubscripts)
 
-  formula-entry : Reads (formulaEntry names) (λ x. Writes names (sort formulaWord x))
+  pub formula-entry : Reads (formulaEntry names) (λ x. Writes names (sort formulaWord x))
   unfolding formulaEntry
   formula-entry = then-expect _ (λ p. last _ (formula-at names nestingLimit) (λ f l w. formulaSort p w))
 
-  domain-entry : (word : ℕ) (of : Spans → Sort) → ((d : Spans) (l : List Token) → Writes names (declaredDomain d) l → Writes names (sort word (of d)) l) → Reads (domainEntry of names) (λ x. Writes names (sort word x))
+  pub domain-entry : (word : ℕ) (of : Spans → Sort) → ((d : Spans) (l : List Token) → Writes names (declaredDomain d) l → Writes names (sort word (of d)) l) → Reads (domainEntry of names) (λ x. Writes names (sort word x))
   unfolding domainEntry
   domain-entry word of h = last of subscripted-read h
 
@@ -204,7 +204,7 @@ module _ (names : List Name) where
 
 -- ---- declarations
 
-new-name : (names : List Name) → Reads (newName names) (λ x l. (l ≡ name (x .title) at x .place ∷ []) × Unknown names (x .title) × (length names < nameLimit))
+pub new-name : (names : List Name) → Reads (newName names) (λ x l. (l ≡ name (x .title) at x .place ∷ []) × Unknown names (x .title) × (length names < nameLimit))
 unfolding newName
 new-name names =
     then-next λ t. then-demand _ _ λ l e. then-require _ _ _ λ _ u. then-require _ _ _ λ _ f.

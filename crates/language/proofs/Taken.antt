@@ -66,7 +66,7 @@ module _ {B : Type 0} {W : B → List Token → Type 0} where
 
 -- ---- one token
 
-passed-is : (k : Kind) (t : Token) (ts : List Token) (r : Read Token) → passed k t ts ≡ done r → record { what = t; rest = ts } ≡ r
+pub passed-is : (k : Kind) (t : Token) (ts : List Token) (r : Read Token) → passed k t ts ≡ done r → record { what = t; rest = ts } ≡ r
 unfolding passed
 passed-is (mark c) t ts r e = done-injective e
 passed-is (name l) t ts r e = done-injective e
@@ -163,7 +163,7 @@ string-of (wrong n) l e = absurd (some-none e)
 
 -- ---- an expected sign, a bracket, a string
 
-expect-read : (c : ℕ) → Reads (expect (suc c)) (λ p l. l ≡ mark (suc c) at p ∷ [])
+pub expect-read : (c : ℕ) → Reads (expect (suc c)) (λ p l. l ≡ mark (suc c) at p ∷ [])
 unfolding expect
 expect-read c = then-next (λ t. then-require _ _ _ (λ u e. gives (ap (λ t. t ∷ []) (marked c t e))))
 
