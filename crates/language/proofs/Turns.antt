@@ -51,9 +51,9 @@ module _ {B : Type 0} where
       → follow {B = B} (look ts) (λ t. elim (test t) as (λ _. Reader B) [ true ↦ next >>= λ _. f t | false ↦ k ]) ≡ follow {B = B} (look ts) (λ t. elim (test t) as (λ _. Reader B) [ true ↦ next >>= λ _. g t | false ↦ k ])
   same-taken test f g k ts h =
       same-look _ _ ts λ t us e. same-either (test t) _ _ k ts λ b. same-next (λ _. f t) (λ _. g t) ts λ u vs x.
-          let z : t ∷ us ≡ u ∷ vs = sym e ∙ x in
-          let y : us ≡ vs = cc in
-          subst (λ us. f t us ≡ g t us) y (h t us e b)
+      let z : t ∷ us ≡ u ∷ vs = sym e ∙ x in
+      let y : us ≡ vs = cc in
+      subst (λ us. f t us ≡ g t us) y (h t us e b)
 
 -- ---- what a reader leaves
 
@@ -95,11 +95,11 @@ module _ (names : List Name) where
   factors-turns P rp (suc n) zero f ts h j = absurd (omega arith)
   factors-turns P rp (suc n) (suc k) f ts h j =
       same-look _ _ ts λ t us e. same-either (isMark timesSign t) _ _ _ ts λ _.
-          same-then (expect timesSign ts) _ _ λ x ex.
-              same-then (P (x .rest)) _ _ λ y ey.
-                  let a = expect-takes _ refl ts x ex in
-                  let b = leaves rp (λ f l w. phrase-counts w) (x .rest) y ey .2 in
-                  factors-turns P rp n k (times f (y .what) (x .what)) (y .rest) (omega arith) (omega arith)
+      same-then (expect timesSign ts) _ _ λ x ex.
+      same-then (P (x .rest)) _ _ λ y ey.
+      let a = expect-takes _ refl ts x ex in
+      let b = leaves rp (λ f l w. phrase-counts w) (x .rest) y ey .2 in
+      factors-turns P rp n k (times f (y .what) (x .what)) (y .rest) (omega arith) (omega arith)
 
   -- ---- summands: each turn takes a `+` or `-`
 
@@ -109,9 +109,9 @@ module _ (names : List Name) where
   summands-turns T rt (suc n) zero f ts h j = absurd (omega arith)
   summands-turns T rt (suc n) (suc k) f ts h j =
       same-taken isSum _ _ _ ts λ t us e s. same-then (T us) _ _ λ y ey.
-          let a = ap live e ∙ sign-takes t us s in
-          let b = leaves rt (λ f l w. phrase-counts w) us y ey .2 in
-          summands-turns T rt n k (plus f (negated (isMark minusSign t) (y .what)) (t .place)) (y .rest) (omega arith) (omega arith)
+      let a = ap live e ∙ sign-takes t us s in
+      let b = leaves rt (λ f l w. phrase-counts w) us y ey .2 in
+      summands-turns T rt n k (plus f (negated (isMark minusSign t) (y .what)) (t .place)) (y .rest) (omega arith) (omega arith)
 
   -- ---- linear terms: each turn takes the `*` behind a factor
 
@@ -139,10 +139,10 @@ module _ (names : List Name) where
       go (Linear.aVariable i c) t us e ih = refl
       go Linear.aPrimary t us e ih =
           same-then (primaryBy names d (insideAt names d) (t .place) (t .kind) us) _ _ λ x ex. same-then (expect timesSign (x .rest)) _ _ λ y ey.
-              let w = primary-by names _ (inside-read names d) d (t .place) (t .kind) .reads us x ex in
-              let a : live ts ≡ suc (length (w .phrase)) + live (x .rest) = ap live (e ∙ ap (λ l. t ∷ l) (w .taken)) ∙ phrase-counts (w .writes) .passed (x .rest) in
-              let b = expect-takes _ refl (x .rest) y ey in
-              ap (λ o. follow o (λ r. give (factor (x .what) (y .what) r))) (ih (y .rest) (omega arith) (omega arith))
+          let w = primary-by names _ (inside-read names d) d (t .place) (t .kind) .reads us x ex in
+          let a : live ts ≡ suc (length (w .phrase)) + live (x .rest) = ap live (e ∙ ap (λ l. t ∷ l) (w .taken)) ∙ phrase-counts (w .writes) .passed (x .rest) in
+          let b = expect-takes _ refl (x .rest) y ey in
+          ap (λ o. follow o (λ r. give (factor (x .what) (y .what) r))) (ih (y .rest) (omega arith) (omega arith))
 
   pub terms-turns : (T : Reader Term) (sigmas : Bool) → Reads T (λ t. Writes names (formTerm sigmas t)) → (n k : ℕ) (ts : List Token) → live ts < n → live ts < k → linearTerms T n ts ≡ linearTerms T k ts
   unfolding linearTerms
@@ -150,9 +150,9 @@ module _ (names : List Name) where
   terms-turns T sigmas rt (suc n) zero ts h j = absurd (omega arith)
   terms-turns T sigmas rt (suc n) (suc k) ts h j =
       same-taken isSum _ _ _ ts λ t us e s. same-then (T us) _ _ λ y ey.
-          let a = ap live e ∙ sign-takes t us s in
-          let b = leaves rt (λ t l w. phrase-counts w) us y ey .2 in
-          ap (λ o. follow o (λ f. give (also (isMark minusSign t) (y .what) f))) (terms-turns T sigmas rt n k (y .rest) (omega arith) (omega arith))
+      let a = ap live e ∙ sign-takes t us s in
+      let b = leaves rt (λ t l w. phrase-counts w) us y ey .2 in
+      ap (λ o. follow o (λ f. give (also (isMark minusSign t) (y .what) f))) (terms-turns T sigmas rt n k (y .rest) (omega arith) (omega arith))
 
 -- ---- entries of a list: each turn takes a name and the `,` behind its entry
 
@@ -163,10 +163,10 @@ module _ (word : ℕ) (E : List Name → Reader Sort) (re : (names : List Name) 
   entries-turns (suc n) zero names ts h j = absurd (omega arith)
   entries-turns (suc n) (suc k) names ts h j =
       same-then (newName names ts) _ _ λ x ex. same-then (E names (x .rest)) _ _ λ s es. same-next _ _ (s .rest) λ t us e. same-either (isMark comma t) _ _ _ us λ c.
-          let p = leaves (new-name names) (λ x l w. rw (w .0) (cons refl nil)) ts x ex .2 in
-          let q = leaves (re names) (λ s l w. phrase-counts w) (x .rest) s es .2 in
-          let r = ap live e ∙ token-takes comma (t .place) t us refl (marked _ t c) in
-          entries-turns n k (with names (x .what .title) (x .what .place) (s .what)) us (omega arith) (omega arith)
+      let p = leaves (new-name names) (λ x l w. rw (w .0) (cons refl nil)) ts x ex .2 in
+      let q = leaves (re names) (λ s l w. phrase-counts w) (x .rest) s es .2 in
+      let r = ap live e ∙ token-takes comma (t .place) t us refl (marked _ t c) in
+      entries-turns n k (with names (x .what .title) (x .what .place) (s .what)) us (omega arith) (omega arith)
 
 -- ---- in a text the loops are entered with fewer tokens that count than they have turns
 
@@ -189,18 +189,18 @@ module _ (names : List Name) (ts : List Token) (fits : live ts < tokenLimit) (n 
   unfolding formulaOf
   any-summands T rt =
       same-then (readSign ts) _ _ λ s es. same-then (T (s .rest)) _ _ λ x e.
-          let a = sign-steady ts s es in
-          let b = steady rt (s .rest) x e in
-          summands-turns names T rt tokenLimit n (negated (s .what .negative) (x .what)) (x .rest) (omega arith) (omega arith)
+      let a = sign-steady ts s es in
+      let b = steady rt (s .rest) x e in
+      summands-turns names T rt tokenLimit n (negated (s .what .negative) (x .what)) (x .rest) (omega arith) (omega arith)
 
   pub any-terms : (T : Reader Term) (sigmas : Bool) → Reads T (λ t. Writes names (formTerm sigmas t))
       → linearOf T ts ≡ (readSign >>= λ s. T >>= λ u. linearTerms T n >>= λ f. give (record { signed = s .written; form = also (s .negative) u f })) ts
   unfolding linearOf
   any-terms T sigmas rt =
       same-then (readSign ts) _ _ λ s es. same-then (T (s .rest)) _ _ λ x e.
-          let a = sign-steady ts s es in
-          let b = steady rt (s .rest) x e in
-          ap (λ o. follow o (λ f. give (record { signed = s .what .written; form = also (s .what .negative) (x .what) f }))) (terms-turns names T sigmas rt tokenLimit n (x .rest) (omega arith) (omega arith))
+      let a = sign-steady ts s es in
+      let b = steady rt (s .rest) x e in
+      ap (λ o. follow o (λ f. give (record { signed = s .what .written; form = also (s .what .negative) (x .what) f }))) (terms-turns names T sigmas rt tokenLimit n (x .rest) (omega arith) (omega arith))
 
   pub any-factored : (S : ℕ → Reader Term) (sigmas : Bool) (d : ℕ) → linearTerm names S sigmas d tokenLimit ts ≡ linearTerm names S sigmas d n ts
   any-factored S sigmas d = term-turns names S sigmas d tokenLimit n ts fits more

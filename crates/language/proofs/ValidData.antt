@@ -19,11 +19,12 @@ use Rattle.language.specs.All.{All}
 use Rattle.language.specs.Outcome.{Outcome, done, refused, done-injective, refused-done, some-injective, none-some}
 use Rattle.language.specs.Syntax.{Name, Sort, Spans, point, span}
 use Rattle.language.specs.Syntax
-use Rattle.language.specs.Reader.{Read, Reader, follow, _>>=_, give, refuse, lift, passed, next, look, isMark, isName, demand, require, expect, bracket, readString, Used, find, found, known, readKnown, readIndex}
+use Rattle.language.specs.Reader.{Read, Reader, _>>=_, give, refuse, lift, passed, next, look, isMark, isName, demand, require, expect, bracket, readString, Used, find, found, known, readKnown, readIndex}
 use Rattle.language.specs.Store.{Store, scopeOf, Portion, portionBy, Bound, setAt, elementOf, positionRun, accept}
 use Rattle.language.specs.Data.{Entry, fixed, marked, digitsOf, withMinus, signedEntry, entryBy, readEntry, entriesOf, marksOf, positionsOf, orderFrom, readOrder, boundOf, valueOf, signedValue, readNumber, eachRead, runs, subscriptedPortion, isPoint, portionOf, portionsOf, Given, readClose, dataOf, readEnd, readData}
 use Rattle.language.specs.Literals.{AllSpans, AllSort, AllNames}
 use Rattle.language.specs.Valid.{Small, SmallElement, ValidStore}
+use Rattle.language.proofs.Taken.{after-read}
 use Rattle.language.proofs.Shapes.{Shaped, AllShaped}
 use Rattle.language.proofs.ValidStore.{scope-valid, accept-valid, SmallBound, setAt-small, elementOf-small, positionRun-valid}
 
@@ -73,11 +74,8 @@ module _ {A : Type 0} {Q : A → Type 0} where
 
 module _ {A B : Type 0} {Q : A → Type 0} {R : B → Type 0} where
   then : {m : Reader A} {f : A → Reader B} → Gives m Q → ((a : A) → Q a → Gives (f a) R) → Gives (m >>= f) R
-  then {m} {f} gm gf = record { gives = λ ts r h e. go ts r h (m ts) refl e }
-    where
-      go : (ts : List Token) (r : Read B) → ValidTokens ts → (o : Outcome (Read A)) → m ts ≡ o → follow o f ≡ done r → Got R r
-      go ts r h (done x) mx e = let g = gm .gives ts x h mx in gf (x .what) (g .what) .gives (x .rest) r (g .rest) e
-      go ts r h (refused n p) mx e = absurd (refused-done e)
+  then {m} {f} gm gf =
+      record { gives = λ ts r h e. after-read (m ts) f r e λ x mx e. let g = gm .gives ts x h mx in gf (x .what) (g .what) .gives (x .rest) r (g .rest) e }
 
 -- ---- one token, one name
 
