@@ -1,0 +1,73 @@
+-- What is valid: values that fit, and index numbers no larger than a value's, wherever a scope, the data, a problem or a line
+-- holds them. Assumes nothing.
+use mathlib.Core.Path.{_≡_}
+use mathlib.Core.Option.{Option, none, some}
+use mathlib.Core.List.{List}
+use Prim.Native.Nat.{ℕ, _≤_}
+use lib.IntN.{ℤ, natAbs}
+use Rattle.rules.specs.Limits.{mantissaLimit}
+use Rattle.value.specs.declared.Value.{Value}
+use Rattle.value.specs.Decimal.{Valid}
+use Rattle.language.specs.All.{All}
+use Rattle.language.specs.Scope.{Binding, Scope}
+use Rattle.language.specs.Store.{Datum, Store}
+use Rattle.language.specs.Numbering.{Variable, Row, Fact, bound, row, Entry, Lp}
+use Rattle.language.specs.Listing.{Line, lpLine, rowLine, varLine, colLine, endLine}
+
+-- a whole number no larger than a value's
+abbrev pub Small : ℤ → Type 0
+Small k = natAbs k ≤ mantissaLimit
+
+abbrev pub SmallElement : List ℤ → Type 0
+SmallElement e = All Small e
+
+-- ---- what formulas are read under
+
+abbrev pub SmallBinding : Binding → Type 0
+SmallBinding b = Small (b .at)
+
+pub record ValidScope (s : Scope) : Type 0 where
+  pub known : (i : ℕ) (e : List ℤ) (v : Value) → s .known i e ≡ some v → Valid v
+  pub bound : All SmallBinding (s .bound)
+
+pub record ValidDatum (x : Datum) : Type 0 where
+  pub value : Valid (x .value)
+  pub element : SmallElement (x .element)
+
+abbrev pub ValidStore : Store → Type 0
+ValidStore st = All ValidDatum st
+
+-- ---- what is generated
+
+abbrev pub ValidRow : Row → Type 0
+ValidRow r = All Valid r
+
+abbrev pub ValidVariable : Variable → Type 0
+ValidVariable v = SmallElement (v .element)
+
+abbrev pub ValidFact : Fact → Type 0
+ValidFact (bound j v) = Valid v
+ValidFact (row r v) = ValidRow r × Valid v
+
+pub record ValidEntry (e : Entry) : Type 0 where
+  pub element : SmallElement (e .source .element)
+  pub fact : ValidFact (e .fact)
+
+pub record ValidProblem (p : Lp) : Type 0 where
+  pub variables : All ValidVariable (p .variables)
+  pub entries : All ValidEntry (p .entries)
+  pub objective : ValidRow (p .objective)
+
+-- ---- what is listed
+
+-- `inf` is no value
+abbrev pub ValidUpper : Option Value → Type 0
+ValidUpper none = Unit
+ValidUpper (some v) = Valid v
+
+abbrev pub ValidLine : Line → Type 0
+ValidLine (lpLine a b c d s t) = Unit
+ValidLine (rowLine n q v s e) = Valid v × SmallElement e
+ValidLine (varLine n d l u s e) = Valid l × ValidUpper u × SmallElement e
+ValidLine (colLine j i v) = Valid v
+ValidLine endLine = Unit
