@@ -21,8 +21,7 @@ use Rattle.language.specs.Evaluation.{over, isNone}
 use Rattle.language.specs.Store.{isGiven, givenBy, allGiven}
 use Rattle.language.specs.Model.{Model, start, Declaration, asDiscrete, asContinuous, declared, discretes, continuouses}
 use Rattle.language.specs.Numbering.{Variable, addVariable, addVariables, gathered, factOf, Source, Entry, addEntry, addEntries, Lp, generate}
-use Rattle.language.specs.Written.{InDomain, bindAll}
-use Rattle.language.specs.Demand3.{Written, Declared, scopeAt}
+use Rattle.language.specs.Written.{InDomain, bindAll, Written, Declared, scopeAt}
 use Rattle.language.specs.Named.{NamedDomain, NamedSort, NamedEntry, NamedConstraint, NamedStructure}
 use Rattle.language.specs.Defined.{Has, Defined, DefinedDomain, DefinedSide, DefinedSort, DefinedModel}
 use Rattle.language.proofs.Numbered.{variable-numbers}

@@ -19,8 +19,7 @@ use Rattle.language.specs.Evaluation.{evalAll, within}
 use Rattle.language.specs.Store.{scopeOf}
 use Rattle.language.specs.Model.{Model, start, Declaration, asDiscrete, asContinuous, declared, discretes, continuouses}
 use Rattle.language.specs.Numbering.{Variable, addVariables, sameVariable, later, numberOf, variableAt}
-use Rattle.language.specs.Written.{InDomain}
-use Rattle.language.specs.Demand3.{Declared}
+use Rattle.language.specs.Written.{InDomain, Declared}
 use Rattle.language.specs.Named.{IsVariable, NamedVariable}
 use Rattle.language.specs.Defined.{Has}
 use Rattle.language.proofs.Entries.{variables-grown}

@@ -19,10 +19,10 @@ use Rattle.value.specs.declared.Value.{Value}
 use Rattle.language.specs.Scope.{Scope, unbound}
 use Rattle.language.specs.Syntax.{Formula, Formulas, Spans, Form, Constraint, Relation, atMost, atLeast, equal, bare, form}
 use Rattle.language.specs.Evaluation.{eval, evalAll, within, over}
-use Rattle.language.specs.Written.{value, subscripts, formValue, negatedIf}
+use Rattle.language.specs.Written.{value, subscripts, formValue, negatedIf, Written, scopeAt}
 use Rattle.language.specs.Model.{Model, start, Declaration}
 use Rattle.language.specs.Numbering.{Variable, addVariable, addVariables, numberOf, variableAt, Row, signed, gathered, Source, Entry, Fact, bound, row, flips, isEqual, factOf, rowCount, addEntry, addEntries}
-use Rattle.language.specs.Demand3.{Holds, RowMet, Written, scopeAt, Rising}
+use Rattle.language.specs.Demand3.{Holds, RowMet, Rising}
 use Rattle.value.proofs.Numbers.{exactly-negate}
 use Rattle.language.proofs.Evaluated.{eval-done, evalAll-done}
 use Rattle.language.proofs.Gathered.{dot, numberOf-at, gathered-done, gathered-long}

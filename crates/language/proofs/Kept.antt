@@ -15,12 +15,12 @@ use Rattle.value.specs.declared.Value.{Value}
 use Rattle.value.specs.Decimal.{zeroValue}
 use Rattle.language.specs.Scope.{Scope}
 use Rattle.language.specs.Syntax.{Formula, Name, Relation, atMost, atLeast, equal, Side, bare, form}
-use Rattle.language.specs.Written.{value, subscripts, negatedIf}
+use Rattle.language.specs.Written.{value, subscripts, negatedIf, Written, Declared, scopeAt}
 use Rattle.language.specs.Model.{Model, start, discretes, continuouses}
 use Rattle.language.specs.Store.{allGiven}
 use Rattle.language.specs.Numbering.{Variable, Row, signed, gathered, addVariables, addEntries, Source, Entry, Fact, flips, isEqual, factOf, lowerOf, upperOf, Lp, lessRows, equalRows, rows, generate}
 use Rattle.language.specs.Listing.{Line, rowLine, varLine, rightOf, coefficientsOf, linesOf}
-use Rattle.language.specs.Demand3.{Holds, RowMet, Written, Declared, States, Lower, Upper, Names, sideValue, scopeAt, leftValue, rightValue, rowValue, BelowUpper, Feasible, byNumber, RowLine, VariableLine, IsLower, IsUpper, Meets, Keeps, OneToOne, IsForm}
+use Rattle.language.specs.Demand3.{Holds, RowMet, States, Lower, Upper, Names, sideValue, leftValue, rightValue, rowValue, BelowUpper, Feasible, byNumber, RowLine, VariableLine, IsLower, IsUpper, Meets, Keeps, OneToOne, IsForm}
 use Rattle.value.proofs.Numbers.{exactly-zero}
 use Rattle.language.proofs.Gathered.{dot, gathered-done, gathered-long}
 use Rattle.language.proofs.Elements.{walk}

@@ -33,7 +33,6 @@ pub mod NamedRead
 pub mod DefinedText
 pub mod Cases
 pub mod Shown
-pub mod Each
 pub mod Fields
 pub mod Parts
 pub mod Figures

@@ -10,6 +10,7 @@ use native.Mathlib.Decide.{ℕ-discrete}
 use lib.Dec.{ltb}
 use lib.ListN.{length, getD}
 use Rattle.language.specs.Listed.{At, In, at-getD, in-nil, in-cons, in-here, in-later, in-left, in-right}
+use Rattle.language.specs.All.{All, all-in, in-all, all-append, all-weaken}
 use Rattle.value.specs.declared.Value.{Value}
 use Rattle.value.specs.Decimal.{zeroValue, isZero}
 use Rattle.language.specs.Syntax.{Name}
@@ -20,29 +21,6 @@ use Rattle.language.specs.Listing.{Line, lpLine, rowLine, varLine, colLi
 use Rattle.language.specs.Demand3.{Rising, Below, rank, EarlierLine, Says}
 use Rattle.language.proofs.Ordered.{rising-nil, rising-cons, rising-one, rising-append}
 use Rattle.language.proofs.Numbered.{less-in, equal-in}
-
--- P of each line
-record Each (P : Line → Type 0) (ls : List Line) : Type 0 where
-  each : (l : Line) → In ls l → P l
-
-module _ {P : Line → Type 0} where
-  each-nil : Each P []
-  each-nil = record { each = λ l h. absurd (in-nil l h) }
-
-  each-cons : (k : Line) (ls : List Line) → P k → Each P ls → Each P (k ∷ ls)
-  each-cons k ls p e = record { each = λ l h. go l (in-cons k ls l h) }
-    where
-      go : (l : Line) → (k ≡ l) ⊎ In ls l → P l
-      go l (inl s) = subst P s p
-      go l (inr h) = e .each l h
-
-  each-append : (ks ls : List Line) → Each P ks → Each P ls → Each P (ks ++ ls)
-  each-append [] ls e f = f
-  each-append (k ∷ ks) ls e f =
-      each-cons k (ks ++ ls) (e .each k (in-here k ks)) (each-append ks ls (record { each = λ l h. e .each l (in-later k ks l h) }) f)
-
-  each-as : {Q : Line → Type 0} (ls : List Line) → Each P ls → ((l : Line) → P l → Q l) → Each Q ls
-  each-as ls e follows = record { each = λ l h. follows l (e .each l h) }
 
 -- ---- a line for each thing of a list, with numbers from n on
 
@@ -82,14 +60,12 @@ module _ {A : Type 0} (line : ℕ → A → Line) where
       in-later (line n b) (numbered (suc n) l) _ (subst (λ i. In (numbered (suc n) l) (line i a)) z (in-numbered (suc n) l k a h))
 
   -- numbered from 0
-  each-numbered : {P : Line → Type 0} (l : List A) → ((k : ℕ) (a : A) → At l k a → P (line k a)) → Each P (numbered 0 l)
-  each-numbered {P} l p =
-      record {
-        each = λ x h.
-            let r = numbered-in 0 l x h in
-            let z : r .0 ≡ 0 + r .0 = omega arith in
-            subst P (ap (λ i. line i (r .1)) z ∙ r .3) (p (r .0) (r .1) (r .2));
-      }
+  all-numbered : (P : Line → Type 0) (l : List A) → ((k : ℕ) (a : A) → At l k a → P (line k a)) → All P (numbered 0 l)
+  all-numbered P l p =
+      in-all P (numbered 0 l) λ x h.
+      let r = numbered-in 0 l x h in
+      let z : r .0 ≡ 0 + r .0 = omega arith in
+      subst P (ap (λ i. line i (r .1)) z ∙ r .3) (p (r .0) (r .1) (r .2))
 
   has-line : (l : List A) (k : ℕ) (a : A) → At l k a → In (numbered 0 l) (line k a)
   has-line l k a h = let z : 0 + k ≡ k = omega arith in subst (λ i. In (numbered 0 l) (line i a)) z (in-numbered 0 l k a h)
@@ -136,7 +112,7 @@ record OnColumn (j first last : ℕ) (l : Line) : Type 0 where
 
 -- the lines of variable j: w, its coefficient in the objective, is always given
 record Column (j first last : ℕ) (w : Value) (ls : List Line) : Type 0 where
-  lines : Each (OnColumn j first last) ls
+  lines : All (OnColumn j first last) ls
   rising : Rising EarlierLine ls
   objective : In ls (colLine (suc j) last w)
 
@@ -145,8 +121,7 @@ unfolding columnLines rank
 column j n last [] o e =
     let same : n ≡ last = omega arith in
     record {
-      lines =
-          each-cons _ [] (record { row = n; coefficient = _; is = refl; from = omega arith; to = omega arith; no-zero = λ t. absurd (omega arith) }) each-nil;
+      lines = (record { row = n; coefficient = _; is = refl; from = omega arith; to = omega arith; no-zero = λ t. absurd (omega arith) }, tt);
       rising = rising-one (colLine (suc j) n (getD o j zeroValue));
       objective = record { place = 0; at = ap (λ i. colLine (suc j) i (getD o j zeroValue)) same };
     }
@@ -161,19 +136,18 @@ column j n last (d ∷ es) o e = go (isZero v) refl (column j (suc n) last es o 
     OnIt : List Line → Type 0
     OnIt = Column j n last (getD o j zeroValue)
 
-    sooner : (l : Line) → OnColumn j (suc n) last l → OnColumn j n last l
-    sooner l r = record { row = r .row; coefficient = r .coefficient; is = r .is; from = omega (arith, r .from); to = r .to; no-zero = r .no-zero }
+    sooner-all : All (OnColumn j (suc n) last) later → All (OnColumn j n last) later
+    sooner-all = all-weaken (OnColumn j (suc n) last) (OnColumn j n last)
+        (λ l r. record { row = r .row; coefficient = r .coefficient; is = r .is; from = omega (arith, r .from); to = r .to; no-zero = r .no-zero }) later
 
     go : (t : Bool) → isZero v ≡ t → Column j (suc n) last (getD o j zeroValue) later → OnIt (elim t [ true ↦ later | false ↦ colLine (suc j) n v ∷ later ])
-    go true z c = record { lines = each-as later (c .lines) sooner; rising = c .rising; objective = c .objective }
+    go true z c = record { lines = sooner-all (c .lines); rising = c .rising; objective = c .objective }
     go false z c =
         record {
-          lines =
-              each-cons (colLine (suc j) n v) later (record { row = n; coefficient = v; is = refl; from = omega arith; to = omega arith; no-zero = λ t. z })
-              (each-as later (c .lines) sooner);
+          lines = (record { row = n; coefficient = v; is = refl; from = omega arith; to = omega arith; no-zero = λ t. z }, sooner-all (c .lines));
           rising =
               rising-cons (colLine (suc j) n v) later
-              (λ l h. let r = c .lines .each l h in subst (EarlierLine (colLine (suc j) n v)) (r .is) (inr (refl, inr (refl, inl (r .from))))) (c .rising);
+              (λ l h. let r = all-in (OnColumn j (suc n) last) later l h (c .lines) in subst (EarlierLine (colLine (suc j) n v)) (r .is) (inr (refl, inr (refl, inl (r .from))))) (c .rising);
           objective = in-later _ later _ (c .objective);
         }
 
@@ -185,13 +159,13 @@ record OnColumns (k j last : ℕ) (l : Line) : Type 0 where
   on : OnColumn variable 1 last l
 
 record Columns (k j last : ℕ) (o : Row) (ls : List Line) : Type 0 where
-  lines : Each (OnColumns k j last) ls
+  lines : All (OnColumns k j last) ls
   rising : Rising EarlierLine ls
   objective : (i : ℕ) → j ≤ i → i < j + k → In ls (colLine (suc i) last (getD o i zeroValue))
 
 columns : (k j : ℕ) (es : List Entry) (o : Row) → Columns k j (suc (length es)) o (colLines k j es o)
 unfolding colLines rank
-columns zero j es o = record { lines = each-nil; rising = rising-nil; objective = λ i h t. absurd (omega arith) }
+columns zero j es o = record { lines = tt; rising = rising-nil; objective = λ i h t. absurd (omega arith) }
 columns (suc k) j es o = go (column j 1 (suc (length es)) es o (omega arith)) (columns k (suc j) es o)
   where
     first : List Line
@@ -200,17 +174,27 @@ columns (suc k) j es o = go (column j 1 (suc (length es)) es o (omega arith)) (c
     later : List Line
     later = colLines k (suc j) es o
 
-    go : Column j 1 (suc (length es)) (getD o j zeroValue) first → Columns k (suc j) (suc (length es)) o later → Columns (suc k) j (suc (length es)) o (first ++ later)
+    last : ℕ
+    last = suc (length es)
+
+    Later : Line → Type 0
+    Later = OnColumns k (suc j) last
+
+    On : Line → Type 0
+    On = OnColumns (suc k) j last
+
+    go : Column j 1 last (getD o j zeroValue) first → Columns k (suc j) last o later → Columns (suc k) j last o (first ++ later)
     go c cs =
         record {
           lines =
-              each-append first later (each-as first (c .lines) (λ l r. record { variable = j; from = omega arith; to = omega arith; on = r }))
-              (each-as later (cs .lines) (λ l r. record { variable = r .variable; from = omega (arith, r .from); to = omega (arith, r .to); on = r .on }));
+              all-append On first later
+              (all-weaken (OnColumn j 1 last) On (λ l r. record { variable = j; from = omega arith; to = omega arith; on = r }) first (c .lines))
+              (all-weaken Later On (λ l r. record { variable = r .variable; from = omega (arith, r .from); to = omega (arith, r .to); on = r .on }) later (cs .lines));
           rising =
               rising-append first later (c .rising) (cs .rising)
               (λ a b h h′.
-              let x = c .lines .each a h in
-              let y = cs .lines .each b h′ in
+              let x = all-in (OnColumn j 1 last) first a h (c .lines) in
+              let y = all-in Later later b h′ (cs .lines) in
               subst₂ EarlierLine (x .is) (y .on .is) (inr (refl, inl (omega (arith, y .from)))));
           objective = λ i h t. which i h t (ℕ-discrete j i);
         }
@@ -224,19 +208,24 @@ columns (suc k) j es o = go (column j 1 (suc (length es)) es o (omega arith)) (c
 abbrev OfKind : ℕ → Line → Type 0
 OfKind k l = (e : List ℕ) × (rank l ≡ k ∷ e)
 
+abbrev KindFrom : ℕ → Line → Type 0
+KindFrom k l = (i : ℕ) × (k ≤ i) × OfKind i l
+
 -- lines in order, of the kinds from k on
 record From (k : ℕ) (ls : List Line) : Type 0 where
   rising : Rising EarlierLine ls
-  kinds : Each (λ l. (i : ℕ) × (k ≤ i) × OfKind i l) ls
+  kinds : All (KindFrom k) ls
 
 -- lines of kind k, then those of later kinds
-and-then : (k : ℕ) (ks ls : List Line) → Rising EarlierLine ks → Each (OfKind k) ks → From (suc k) ls → From k (ks ++ ls)
+and-then : (k : ℕ) (ks ls : List Line) → Rising EarlierLine ks → All (OfKind k) ks → From (suc k) ls → From k (ks ++ ls)
 and-then k ks ls r kind f =
     record {
       rising =
           rising-append ks ls r (f .rising)
-          (λ a b h h′. let x = kind .each a h in let y = f .kinds .each b h′ in subst₂ Below (sym (x .1)) (sym (y .2 .1)) (inl (y .1)));
-      kinds = each-append ks ls (each-as ks kind (λ l x. (k, omega arith, x))) (each-as ls (f .kinds) (λ l y. (y .0, omega (arith, y .1), y .2)));
+          (λ a b h h′. let x = all-in (OfKind k) ks a h kind in let y = all-in (KindFrom (suc k)) ls b h′ (f .kinds) in subst₂ Below (sym (x .1)) (sym (y .2 .1)) (inl (y .1)));
+      kinds =
+          all-append (KindFrom k) ks ls (all-weaken (OfKind k) (KindFrom k) (λ l x. (k, omega arith, x)) ks kind)
+          (all-weaken (KindFrom (suc k)) (KindFrom k) (λ l y. (y .0, omega (arith, y .1), y .2)) ls (f .kinds));
     }
 
 -- ---- the whole listing
@@ -268,6 +257,9 @@ module _ (m : Model) (p : Lp) where
       ∙ ap (λ l. numbered rowLineOf 0 (lessRows p) ++ l)
       (row-lines (length (lessRows p)) true (equalRows p) (λ e h. equal-in (p .entries) e h .1) ∙ ap (λ n. numbered rowLineOf n (equalRows p)) z)
       ∙ sym (numbered-append rowLineOf 0 (lessRows p) (equalRows p))
+
+  abbrev OnIt : Line → Type 0
+  OnIt = OnColumns (length (p .variables)) 0 (suc (length (rows p)))
 
   col-part : Columns (length (p .variables)) 0 (suc (length (rows p))) (p .objective) colPart
   col-part = columns (length (p .variables)) 0 (rows p) (p .objective)
@@ -315,14 +307,14 @@ module _ (m : Model) (p : Lp) where
   -- every line says what it must, where each variable's name stands in the table
   pub every-line : ((j : ℕ) (v : Variable) → At (p .variables) j v → (x : Name) × At names (v .name) x) → (l : Line) → In (linesOf m p) l → Says m p l
   every-line table l h =
-      let says : Each (Says m p) (lpPart ++ (rowPart ++ (varPart ++ (colPart ++ endPart)))) =
-      each-append lpPart _ (each-cons _ [] (record { discrete-is = refl; variables-is = refl; less-is = refl; rows-is = refl; title-is = refl; data-title-is = refl }) each-nil)
-      (each-append rowPart _
-      (each-numbered rowLineOf (rows p)
-      (λ i e at. record { number = i; entry = e; at = at; number-is = refl; kind-is = refl; right-is = refl; title-is = refl; element-is = refl }))
-      (each-append varPart _ (each-numbered (variableLine names p) (p .variables) of-variable)
-      (each-append colPart _ (each-as colPart (col-part .lines) of-column) (each-cons endLine [] tt each-nil)))) in
-      says .each l (subst (λ ls. In ls l) lines-are h)
+      all-in (Says m p) (lpPart ++ (rowPart ++ (varPart ++ (colPart ++ endPart)))) l (subst (λ ls. In ls l) lines-are h) (
+        record { discrete-is = refl; variables-is = refl; less-is = refl; rows-is = refl; title-is = refl; data-title-is = refl },
+        all-append (Says m p) rowPart _
+            (all-numbered rowLineOf (Says m p) (rows p)
+            (λ i e at. record { number = i; entry = e; at = at; number-is = refl; kind-is = refl; right-is = refl; title-is = refl; element-is = refl }))
+            (all-append (Says m p) varPart _ (all-numbered (variableLine names p) (Says m p) (p .variables) of-variable)
+            (all-append (Says m p) colPart _ (all-weaken OnIt (Says m p) of-column colPart (col-part .lines)) (tt, tt))),
+      )
     where
       of-variable : (j : ℕ) (v : Variable) → At (p .variables) j v → Says m p (variableLine names p j v)
       of-variable j v at =
@@ -341,7 +333,7 @@ module _ (m : Model) (p : Lp) where
             element-is = refl;
           }
 
-      of-column : (l : Line) → OnColumns (length (p .variables)) 0 (suc (length (rows p))) l → Says m p l
+      of-column : (l : Line) → OnIt l → Says m p l
       of-column l c =
           let r = c .on in
           subst (Says m p) (r .is)
@@ -359,10 +351,10 @@ module _ (m : Model) (p : Lp) where
   unfolding rank
   in-order =
       subst (Rising EarlierLine) (sym lines-are)
-      (and-then 0 lpPart _ (rising-one _) (each-cons _ [] ([], refl) each-nil)
-      (and-then 1 rowPart _ (rising-numbered rowLineOf (λ i j a b h. inr (refl, inl (omega arith))) 0 (rows p)) (each-numbered rowLineOf (rows p) (λ i e at. (suc i ∷ [], refl)))
+      (and-then 0 lpPart _ (rising-one _) (([], refl), tt)
+      (and-then 1 rowPart _ (rising-numbered rowLineOf (λ i j a b h. inr (refl, inl (omega arith))) 0 (rows p)) (all-numbered rowLineOf (OfKind 1) (rows p) (λ i e at. (suc i ∷ [], refl)))
       (and-then 2 varPart _ (rising-numbered (variableLine names p) (λ i j a b h. inr (refl, inl (omega arith))) 0 (p .variables))
-      (each-numbered (variableLine names p) (p .variables) (λ j v at. (suc j ∷ [], refl)))
+      (all-numbered (variableLine names p) (OfKind 2) (p .variables) (λ j v at. (suc j ∷ [], refl)))
       (and-then 3 colPart endPart (col-part .rising)
-      (each-as colPart (col-part .lines) (λ l c. subst (OfKind 3) (c .on .is) (_, refl)))
-      (record { rising = rising-one endLine; kinds = each-cons endLine [] (4, omega arith, ([], refl)) each-nil })))) .rising)
+      (all-weaken OnIt (OfKind 3) (λ l c. subst (OfKind 3) (c .on .is) (_, refl)) colPart (col-part .lines))
+      (record { rising = rising-one endLine; kinds = ((4, omega arith, ([], refl)), tt) })))) .rising)

@@ -17,7 +17,8 @@ use Rattle.language.specs.Syntax.{Name, Sort, Spans, Relation, Side, bar
 use Rattle.language.specs.Syntax
 use Rattle.language.specs.Model.{Model, start, Declaration, declared, asDiscrete, asContinuous, discretes, continuouses}
 use Rattle.language.specs.Numbering.{Variable, Source, Entry, Fact, factOf, isRow, isEqual, keep, lessRow, equalRow}
-use Rattle.language.specs.Demand3.{Declared, OneToOne, RowSource, IsForm, sourceOf, Rising, Precedes, Among, EarlierVariable, EarlierRow}
+use Rattle.language.specs.Written.{Declared}
+use Rattle.language.specs.Demand3.{OneToOne, RowSource, IsForm, sourceOf, Rising, Precedes, Among, EarlierVariable, EarlierRow}
 use Rattle.language.specs.Demand3
 use Rattle.language.proofs.Ordered.{rising-nil, rising-cons, rising-head, rising-tail, rising-append, rising-as, distinct-rising, not-itself}
 use Rattle.language.proofs.Collected.{collect-append}

@@ -2,31 +2,32 @@
 use mathlib.Core.Path.{_≡_, refl, sym, _∙_, ap}
 use mathlib.Core.Logic.{_≢_}
 use mathlib.Core.Bool.{Bool, true, false, cond}
-use mathlib.Core.List.{List, [], _∷_, _++_, append-assoc, append-nil, head-eq-of-cons-eq}
+use mathlib.Core.List.{List, [], _∷_, _++_, map, append-assoc, append-nil, head-eq-of-cons-eq}
 use Prim.Native.Nat.{ℕ, zero, suc, _<_}
 use native.Mathlib.Omega.{arith}
 use lib.Dec.{lit<}
 use lib.ListN.{getD, replicate}
-use Rattle.value.specs.Printed.{natural, printed, printedWhole}
+use lib.IntN.{ℤ}
+use Rattle.value.specs.Printed.{printedWhole}
 use Rattle.value.proofs.ReadBack.{printed-unique}
-use Rattle.language.specs.Listing.{Line, lpLine, rowLine, varLine, colLine, endLine, fields, upperField, bytesOf, bytesOfAll}
-use Rattle.language.specs.Proper.{Each, Visible, Text, Proper}
-use Rattle.language.proofs.Each.{each-nil, each-cons, each-head, each-tail, each-append, each-map}
+use Rattle.language.specs.Listing.{Line, lpLine, rowLine, varLine, colLine, endLine, fields, bytesOf, bytesOfAll}
+use Rattle.language.specs.All.{All, all-append}
+use Rattle.language.specs.Proper.{Visible, Text, Proper}
 use Rattle.language.proofs.Parts.{wordOf, fieldsOf, partsOf, bytes-parts}
 use Rattle.language.proofs.Fields.{NoLineFeed, text-line, fields-once, fields-line}
 use Rattle.language.proofs.Figures.{natural-text, printed-text, whole-text, upper-text, natural-once, wholes-once, upper-once}
 
 word-text : (l : Line) → Text (wordOf l)
-word-text (lpLine a b c d s t) = each-cons 108 _ (omega arith) (each-cons 112 _ (omega arith) each-nil)
-word-text (rowLine n q v s e) = each-cons 114 _ (omega arith) (each-cons 111 _ (omega arith) (each-cons 119 _ (omega arith) each-nil))
-word-text (varLine n d l u s e) = each-cons 118 _ (omega arith) (each-cons 97 _ (omega arith) (each-cons 114 _ (omega arith) each-nil))
-word-text (colLine j i v) = each-cons 99 _ (omega arith) (each-cons 111 _ (omega arith) (each-cons 108 _ (omega arith) each-nil))
-word-text endLine = each-cons 101 _ (omega arith) (each-cons 110 _ (omega arith) (each-cons 100 _ (omega arith) each-nil))
+word-text (lpLine a b c d s t) = omega arith
+word-text (rowLine n q v s e) = omega arith
+word-text (varLine n d l u s e) = omega arith
+word-text (colLine j i v) = omega arith
+word-text endLine = omega arith
 
 -- one of two letters
 kind-text : (x y : ℕ) → Visible x → Visible y → (q : Bool) → Text (cond q x y ∷ [])
-kind-text x y hx hy true = each-cons x [] hx each-nil
-kind-text x y hx hy false = each-cons y [] hy each-nil
+kind-text x y hx hy true = (hx, tt)
+kind-text x y hx hy false = (hy, tt)
 
 kind-once : (x y : ℕ) → x ≢ y → (q r : Bool) → cond q x y ∷ [] ≡ cond r x y ∷ [] → q ≡ r
 kind-once x y h true true e = refl
@@ -34,30 +35,27 @@ kind-once x y h true false e = absurd (h (head-eq-of-cons-eq e))
 kind-once x y h false true e = absurd (h (sym (head-eq-of-cons-eq e)))
 kind-once x y h false false e = refl
 
-fields-text : (l : Line) → Proper l → Each Text (fieldsOf l)
-fields-text (lpLine a b c d s t) h =
-    each-cons (natural a) _ (natural-text a) (each-cons (natural b) _ (natural-text b) (each-cons (natural c) _ (natural-text c)
-    (each-cons (natural d) _ (natural-text d) (each-cons s _ (h .title) (each-cons t [] (h .data-title) each-nil)))))
-fields-text (rowLine n q v s e) h =
-    each-cons (natural n) _ (natural-text n) (each-cons _ _ (kind-text 69 76 (omega arith) (omega arith) q) (each-cons (printed v) _ (printed-text v)
-    (each-cons s _ (h .title) (each-map printedWhole e (λ k p. whole-text k) (h .element)))))
-fields-text (varLine n d l u s e) h =
-    each-cons (natural n) _ (natural-text n) (each-cons _ _ (kind-text 68 67 (omega arith) (omega arith) d) (each-cons (printed l) _ (printed-text l)
-    (each-cons (upperField u) _ (upper-text u) (each-cons s _ (h .name) (each-map printedWhole e (λ k p. whole-text k) (h .element))))))
-fields-text (colLine j i v) h =
-    each-cons (natural j) _ (natural-text j) (each-cons (natural i) _ (natural-text i) (each-cons (printed v) [] (printed-text v) each-nil))
-fields-text endLine h = each-nil
+wholes-text : (e : List ℤ) → All Text (map printedWhole e)
+wholes-text [] = tt
+wholes-text (k ∷ e) = (whole-text k, wholes-text e)
 
-parts-text : (l : Line) → Proper l → Each Text (partsOf l)
-parts-text l h = each-cons (wordOf l) (fieldsOf l) (word-text l) (fields-text l h)
+fields-text : (l : Line) → Proper l → All Text (fieldsOf l)
+fields-text (lpLine a b c d s t) h = (natural-text a, (natural-text b, (natural-text c, (natural-text d, (h .title, (h .data-title, tt))))))
+fields-text (rowLine n q v s e) h = (natural-text n, (kind-text 69 76 (omega arith) (omega arith) q, (printed-text v, (h .title, wholes-text e))))
+fields-text (varLine n d l u s e) h = (natural-text n, (kind-text 68 67 (omega arith) (omega arith) d, (printed-text l, (upper-text u, (h .name, wholes-text e)))))
+fields-text (colLine j i v) h = (natural-text j, (natural-text i, (printed-text v, tt)))
+fields-text endLine h = tt
+
+parts-text : (l : Line) → Proper l → All Text (partsOf l)
+parts-text l h = (word-text l, fields-text l h)
 
 -- a line has one line feed, its last byte
-pub line-feed : (l : Line) → Proper l → (s : List ℕ) × (bytesOf l ≡ s ++ (10 ∷ [])) × Each NoLineFeed s
+pub line-feed : (l : Line) → Proper l → (s : List ℕ) × (bytesOf l ≡ s ++ (10 ∷ [])) × All NoLineFeed s
 line-feed l h =
     let k = fields-line (fieldsOf l) (fields-text l h) in (
       wordOf l ++ k .0,
       bytes-parts l ∙ ap (λ r. wordOf l ++ r) (k .1) ∙ sym (append-assoc (wordOf l) (k .0) (10 ∷ [])),
-      each-append (wordOf l) (k .0) (text-line (wordOf l) (word-text l)) (k .2),
+      all-append NoLineFeed (wordOf l) (k .0) (text-line (wordOf l) (word-text l)) (k .2),
     )
 
 -- a line begins with a letter
@@ -136,16 +134,16 @@ line-once k l r t hk hl e =
     (parts-once k l hk hl (p .0), p .1)
 
 -- bytes after the listing are zero
-pub printed-once-filled : (ks ls : List Line) (a b : ℕ) → Each Proper ks → Each Proper ls → bytesOfAll ks ++ replicate a 0 ≡ bytesOfAll ls ++ replicate b 0 → ks ≡ ls
+pub printed-once-filled : (ks ls : List Line) (a b : ℕ) → All Proper ks → All Proper ls → bytesOfAll ks ++ replicate a 0 ≡ bytesOfAll ls ++ replicate b 0 → ks ≡ ls
 unfolding bytesOfAll
 printed-once-filled [] [] a b hk hl e = refl
 printed-once-filled [] (l ∷ ls) a b hk hl e = absurd (not-zeros l (bytesOfAll ls ++ replicate b 0) a (e ∙ append-assoc (bytesOf l) (bytesOfAll ls) (replicate b 0)))
 printed-once-filled (k ∷ ks) [] a b hk hl e = absurd (not-zeros k (bytesOfAll ks ++ replicate a 0) b (sym e ∙ append-assoc (bytesOf k) (bytesOfAll ks) (replicate a 0)))
 printed-once-filled (k ∷ ks) (l ∷ ls) a b hk hl e =
     let e′ = sym (append-assoc (bytesOf k) (bytesOfAll ks) (replicate a 0)) ∙ e ∙ append-assoc (bytesOf l) (bytesOfAll ls) (replicate b 0) in
-    let p = line-once k l _ _ (each-head k ks hk) (each-head l ls hl) e′ in
-    let q = printed-once-filled ks ls a b (each-tail k ks hk) (each-tail l ls hl) (p .1) in
+    let p = line-once k l _ _ (hk .0) (hl .0) e′ in
+    let q = printed-once-filled ks ls a b (hk .1) (hl .1) (p .1) in
     λ i. p .0 i ∷ q i
 
-pub printed-once : (ks ls : List Line) → Each Proper ks → Each Proper ls → bytesOfAll ks ≡ bytesOfAll ls → ks ≡ ls
+pub printed-once : (ks ls : List Line) → All Proper ks → All Proper ls → bytesOfAll ks ≡ bytesOfAll ls → ks ≡ ls
 printed-once ks ls hk hl e = printed-once-filled ks ls 0 0 hk hl (append-nil (bytesOfAll ks) ∙ e ∙ sym (append-nil (bytesOfAll ls)))

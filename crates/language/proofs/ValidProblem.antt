@@ -1,30 +1,31 @@
--- A problem that is generated from valid literals and data has valid values and small index numbers only, and so have its
--- lines. Assumes nothing.
-use mathlib.Core.Path.{_≡_, refl, subst}
+-- A problem that is generated from valid literals and data has valid values and small index numbers only, and no more variables
+-- and rows than the tables take. Assumes nothing.
+use mathlib.Core.Path.{_≡_, refl, ap, subst}
 use mathlib.Core.Bool.{Bool, true, false, cond}
 use mathlib.Core.Option.{Option, none, some}
-use mathlib.Core.List.{List, [], _∷_, _++_, map}
-use Prim.Native.Nat.{ℕ, zero, suc}
+use mathlib.Core.List.{List, [], _∷_, _++_, map, append-nil}
+use Prim.Native.Nat.{ℕ, suc, _≤_}
+use native.Mathlib.Omega.{arith}
 use lib.Dec.{eqb, ltb}
-use lib.ListN.{length, getD}
+use lib.ListN.{length, getD, length-append}
 use lib.IntN.{ℤ}
-use Rattle.rules.specs.Limits.{variableLimit}
+use borrow.Author.Tests.{ltb-true}
+use Rattle.rules.specs.Limits.{variableLimit, rowLimit}
 use Rattle.rules.specs.declared.Refusal.the-variants.{Full}
 use Rattle.value.specs.declared.Value.{Value}
-use Rattle.value.specs.Decimal.{Valid, zeroValue, oneValue, sumOf, productOf, isAtMost, isZero}
+use Rattle.value.specs.Decimal.{Valid, zeroValue, oneValue, sumOf, productOf, isAtMost}
 use Rattle.value.proofs.Operations.{sum-valid, negate-valid, zero-valid}
-use Rattle.language.specs.All.{All, all-append, all-getD, all-set, all-replicate, all-map}
-use Rattle.language.specs.Outcome.{done, after, after-fits, after-check, done-injective, some-injective, none-some}
+use Rattle.language.specs.All.{All, all-with, all-set, all-replicate, all-map}
+use Rattle.language.specs.Outcome.{done, check-of, after, after-fits, after-check, done-injective, some-injective, none-some}
 use Rattle.language.specs.Scope.{Scope, bind}
 use Rattle.language.specs.Syntax.{Name, Sort, Spans, Form, Term, also, factor, variable, sigma, Formula, Constraint, Relation, atMost, atLeast, equal, Side, bare, form}
 use Rattle.language.specs.Syntax
 use Rattle.language.specs.Evaluation.{limitsOf, runOf, eval, over}
 use Rattle.language.specs.Store.{allGiven}
 use Rattle.language.specs.Model.{Model, start, Declaration, asDiscrete, asContinuous, declared, discretes, continuouses}
-use Rattle.language.specs.Numbering.{Variable, addVariable, addVariables, Row, xor, signed, addAt, variableAt, gather, gatherTerm, gathered, Fact, bound, row, Entry, flips, factOf, keep, lessRow, equalRow, rowCount, addEntry, addEntries, boundAt, lowerAt, upperAt, picked, extreme, largest, smallest, isAtLeast, lowerOf, upperOf, Lp, lessRows, equalRows, rows, generate}
-use Rattle.language.specs.Listing.{colLine, endLine, rightOf, coefficientsOf, rowLines, varLines, columnLines, colLines, linesOf}
+use Rattle.language.specs.Numbering.{Variable, addVariable, addVariables, Row, xor, signed, addAt, variableAt, gather, gatherTerm, gathered, Source, Fact, bound, row, Entry, flips, factOf, isRow, isEqual, keep, anyRow, lessRow, equalRow, rowCount, addEntry, addEntries, boundAt, lowerAt, upperAt, picked, extreme, largest, smallest, isAtLeast, lowerOf, upperOf, Lp, lessRows, equalRows, rows, generate}
 use Rattle.language.specs.Literals.{AllFormula, AllSpans, AllForm, AllTerm, AllSide, AllConstraint, AllSort, AllNames, AllLiterals}
-use Rattle.language.specs.Valid.{SmallElement, ValidScope, ValidRow, ValidVariable, ValidFact, ValidEntry, ValidProblem, ValidUpper, ValidLine}
+use Rattle.language.specs.Valid.{SmallElement, ValidScope, ValidRow, ValidVariable, ValidFact, ValidEntry, ValidProblem, ValidUpper}
 use Rattle.language.proofs.Valid.{bind-valid, each-keeps, eval-valid, run-valid, over-keeps}
 
 -- ---- declared domains
@@ -119,84 +120,75 @@ unfolding upperOf
 upper-valid es j h =
     smallest-valid _ (picked-valid (λ e. upperAt (e .source .constraint .relation) (e .fact) j) (λ e v k o. upperAt-valid (e .source .constraint .relation) (e .fact) j v (k .fact) o) es h)
 
--- ---- lines
+-- ---- rows that are kept
 
-kept-valid : {A : Type 0} (P : A → Type 0) (f : A → Bool) (l : List A) → All P l → All P (keep f l)
+pub kept-all : {A : Type 0} (P : A → Type 0) (f : A → Bool) (l : List A) → All P l → All P (keep f l)
 unfolding keep
-kept-valid {A} P f [] h = tt
-kept-valid {A} P f (a ∷ l) h = go (f a) (kept-valid P f l (h .1))
+kept-all {A} P f [] h = tt
+kept-all {A} P f (a ∷ l) h = go (f a) (kept-all P f l (h .1))
   where
     go : (t : Bool) → All P (keep f l) → All P (elim t [ true ↦ a ∷ keep f l | false ↦ keep f l ])
     go true ih = (h .0, ih)
     go false ih = ih
 
-rightOf-valid : (f : Fact) → ValidFact f → Valid (rightOf f)
-rightOf-valid (bound j v) h = zero-valid
-rightOf-valid (row r v) h = h .1
-
-coefficients-valid : (f : Fact) → ValidFact f → ValidRow (coefficientsOf f)
-coefficients-valid (bound j v) h = tt
-coefficients-valid (row r v) h = h .0
-
-rowLines-valid : (n : ℕ) (q : Bool) (es : List Entry) → All ValidEntry es → All ValidLine (rowLines n q es)
-unfolding rowLines
-rowLines-valid n q [] h = tt
-rowLines-valid n q (e ∷ es) h = ((rightOf-valid (e .fact) (h .0 .fact), h .0 .element), rowLines-valid (suc n) q es (h .1))
-
-varLines-valid : (names : List Name) (p : Lp) (j : ℕ) (vs : List Variable) → All ValidEntry (p .entries) → All ValidVariable vs → All ValidLine (varLines names p j vs)
-unfolding varLines
-varLines-valid names p j [] h k = tt
-varLines-valid names p j (v ∷ vs) h k =
-    ((lower-valid (p .entries) j h, upper-valid (p .entries) j h, k .0), varLines-valid names p (suc j) vs h (k .1))
-
-columnLines-valid : (j n : ℕ) (es : List Entry) (o : Row) → All ValidEntry es → ValidRow o → All ValidLine (columnLines j n es o)
-unfolding columnLines
-columnLines-valid j n [] o h k = (all-getD Valid o j zeroValue k zero-valid, tt)
-columnLines-valid j n (e ∷ es) o h k = go (isZero (getD (coefficientsOf (e .fact)) j zeroValue)) (columnLines-valid j (suc n) es o (h .1) k)
+kept-append : {A : Type 0} (f : A → Bool) (l m : List A) → keep f (l ++ m) ≡ keep f l ++ keep f m
+unfolding keep
+kept-append {A} f [] m = refl
+kept-append {A} f (a ∷ l) m = go (f a) (kept-append f l m)
   where
-    go : (t : Bool) → All ValidLine (columnLines j (suc n) es o)
-        → All ValidLine (elim t [ true ↦ columnLines j (suc n) es o | false ↦ colLine (suc j) n (getD (coefficientsOf (e .fact)) j zeroValue) ∷ columnLines j (suc n) es o ])
-    go true ih = ih
-    go false ih = (all-getD Valid (coefficientsOf (e .fact)) j zeroValue (coefficients-valid (e .fact) (h .0 .fact)) zero-valid, ih)
+    go : (t : Bool) → keep f (l ++ m) ≡ keep f l ++ keep f m
+        → _≡_ {A = List A} (elim t [ true ↦ a ∷ keep f (l ++ m) | false ↦ keep f (l ++ m) ]) (elim t as (λ _. List A) [ true ↦ a ∷ keep f l | false ↦ keep f l ] ++ keep f m)
+    go true ih = ap (λ k. a ∷ k) ih
+    go false ih = ih
 
-colLines-valid : (k j : ℕ) (es : List Entry) (o : Row) → All ValidEntry es → ValidRow o → All ValidLine (colLines k j es o)
-unfolding colLines
-colLines-valid zero j es o h v = tt
-colLines-valid (suc k) j es o h v = all-append ValidLine (columnLines j 1 es o) _ (columnLines-valid j 1 es o h v) (colLines-valid k (suc j) es o h v)
+-- each row is from `<=` or `>=`, or from `=`
+rows-counted : (es : List Entry) → length (keep lessRow es ++ keep equalRow es) ≡ length (keep anyRow es)
+unfolding keep
+rows-counted [] = refl
+rows-counted (e ∷ es) = go (isEqual (e .source .constraint .relation)) (isRow (e .fact)) (rows-counted es)
+  where
+    kept : Bool → List Entry → List Entry
+    kept t l = elim t [ true ↦ e ∷ l | false ↦ l ]
 
-pub lines-valid : (m : Model) (p : Lp) → ValidProblem p → All ValidLine (linesOf m p)
-unfolding linesOf lessRows equalRows rows
-lines-valid m p h =
-    let less = kept-valid ValidEntry lessRow (p .entries) (h .entries) in
-    let same = kept-valid ValidEntry equalRow (p .entries) (h .entries) in
-    let all = all-append ValidEntry (lessRows p) (equalRows p) less same in
-    let a = rowLines 1 false (lessRows p) in
-    let b = rowLines (suc (length (lessRows p))) true (equalRows p) in
-    let c = varLines (m .structure .names) p 0 (p .variables) in
-    let d = colLines (length (p .variables)) 0 (rows p) (p .objective) in (
-      tt,
-      all-append ValidLine a (b ++ (c ++ (d ++ (endLine ∷ [])))) (rowLines-valid 1 false (lessRows p) less)
-          (all-append ValidLine b (c ++ (d ++ (endLine ∷ []))) (rowLines-valid (suc (length (lessRows p))) true (equalRows p) same)
-          (all-append ValidLine c (d ++ (endLine ∷ [])) (varLines-valid (m .structure .names) p 0 (p .variables) (h .entries) (h .variables))
-          (all-append ValidLine d (endLine ∷ []) (colLines-valid (length (p .variables)) 0 (rows p) (p .objective) all (h .objective)) (tt, tt)))),
-    )
+    go : (t u : Bool) → length (keep lessRow es ++ keep equalRow es) ≡ length (keep anyRow es)
+        → length (kept (cond t false u) (keep lessRow es) ++ kept (cond t u false) (keep equalRow es)) ≡ length (kept u (keep anyRow es))
+    go true true ih = omega (arith, ih, length-append (keep lessRow es) (keep equalRow es), length-append (keep lessRow es) (e ∷ keep equalRow es))
+    go true false ih = ih
+    go false true ih = ap suc ih
+    go false false ih = ih
 
 -- ---- variables, rows and facts
 
-addVariable-valid : (d : Declaration) (s : Scope) (e : List ℤ) (vs ws : List Variable) → SmallElement e → All ValidVariable vs → addVariable d s e vs ≡ done ws → All ValidVariable ws
+record ValidVariables (vs : List Variable) : Type 0 where
+  all : All ValidVariable vs
+  few : length vs ≤ variableLimit
+
+addVariable-valid : (d : Declaration) (s : Scope) (e : List ℤ) (vs ws : List Variable) → SmallElement e → ValidVariables vs → addVariable d s e vs ≡ done ws → ValidVariables ws
 unfolding addVariable
 addVariable-valid d s e vs ws he h a =
-    after-check Full (d .place) (ltb (length vs) variableLimit) _ ws a λ _ a.
-    subst (All ValidVariable) (done-injective a) (all-append ValidVariable vs _ h (he, tt))
+    after-check Full (d .place) (ltb (length vs) variableLimit) _ ws a λ t a.
+    subst ValidVariables (done-injective a)
+    (record { all = all-with ValidVariable vs _ (h .all) he; few = rw length-append (omega (arith, ltb-true (length vs) variableLimit t)) })
 
-pub addVariables-valid : (s : Scope) (ds : List Declaration) (vs ws : List Variable) → ValidScope s → All DeclaredLiterals ds → All ValidVariable vs
-    → addVariables s ds vs ≡ done ws → All ValidVariable ws
+addVariables-valid : (s : Scope) (ds : List Declaration) (vs ws : List Variable) → ValidScope s → All DeclaredLiterals ds → ValidVariables vs
+    → addVariables s ds vs ≡ done ws → ValidVariables ws
 unfolding addVariables
-addVariables-valid s [] vs ws hs hd h e = subst (All ValidVariable) (done-injective e) h
+addVariables-valid s [] vs ws hs hd h e = subst ValidVariables (done-injective e) h
 addVariables-valid s (d ∷ ds) vs ws hs hd h e =
     after (over (d .domain) s (addVariable d) vs) _ ws e λ us o e.
     addVariables-valid s ds us ws hs (hd .1)
-    (over-keeps (All ValidVariable) (d .domain) s (addVariable d) (hd .0) hs (λ t x a b _ hx ha e. addVariable-valid d t x a b hx ha e) vs us h o) e
+    (over-keeps ValidVariables (d .domain) s (addVariable d) (hd .0) hs (λ t x a b _ hx ha e. addVariable-valid d t x a b hx ha e) vs us h o) e
+
+record ValidEntries (es : List Entry) : Type 0 where
+  all : All ValidEntry es
+  few : length (keep anyRow es) ≤ rowLimit
+
+-- one more entry, which is counted if it is a row
+counted-few : (es : List Entry) (o : Source) (f : Fact) (p : ℕ) (u : Unit {0}) → length (keep anyRow es) ≤ rowLimit → rowCount f p es ≡ done u
+    → length (keep anyRow (es ++ (record { source = o; fact = f } ∷ []))) ≤ rowLimit
+unfolding rowCount keep
+counted-few es o (bound j v) p u h c = rw (kept-append anyRow es, append-nil) h
+counted-few es o (row r v) p u h c = rw (kept-append anyRow es, length-append) (omega (arith, ltb-true (length (keep anyRow es)) rowLimit (check-of Full p _ u c)))
 
 -- each coefficient is 0 or a sum's result
 addAt-valid : (j : ℕ) (v : Value) (p : ℕ) (r q : Row) → ValidRow r → addAt j v p r ≡ done q → ValidRow q
@@ -253,29 +245,32 @@ module _ (vs : List Variable) where
       subst ValidFact (done-injective e)
       (signedRow-valid (flips r) cs (gathered-valid x s cs l hs xc), signed-valid (flips r) v (eval-valid g s v h hs gv))
 
-  addEntry-valid : (n : ℕ) (c : Constraint) (s : Scope) (e : List ℤ) (es fs : List Entry) → AllConstraint Valid c → ValidScope s → SmallElement e → All ValidEntry es
-      → addEntry vs n c s e es ≡ done fs → All ValidEntry fs
+  addEntry-valid : (n : ℕ) (c : Constraint) (s : Scope) (e : List ℤ) (es fs : List Entry) → AllConstraint Valid c → ValidScope s → SmallElement e → ValidEntries es
+      → addEntry vs n c s e es ≡ done fs → ValidEntries fs
   unfolding addEntry
   addEntry-valid n c s e es fs l hs he h a =
       after (factOf vs (c .left) (c .relation) (c .right) s) _ fs a λ f cf a.
-      after (rowCount f (c .place) es) _ fs a λ _ _ a.
-      subst (All ValidEntry) (done-injective a)
-      (all-append ValidEntry es _ h (record { element = he; fact = factOf-valid (c .left) (c .relation) (c .right) s f (l .0) (l .1) hs cf }, tt))
+      after (rowCount f (c .place) es) _ fs a λ u rc a.
+      subst ValidEntries (done-injective a)
+      (record {
+        all = all-with ValidEntry es _ (h .all) (record { element = he; fact = factOf-valid (c .left) (c .relation) (c .right) s f (l .0) (l .1) hs cf });
+        few = counted-few es (record { ordinal = n; constraint = c; element = e }) f (c .place) u (h .few) rc;
+      })
 
-  pub addEntries-valid : (s : Scope) (n : ℕ) (cs : List Constraint) (es fs : List Entry) → ValidScope s → All (AllConstraint Valid) cs → All ValidEntry es
-      → addEntries vs s n cs es ≡ done fs → All ValidEntry fs
+  addEntries-valid : (s : Scope) (n : ℕ) (cs : List Constraint) (es fs : List Entry) → ValidScope s → All (AllConstraint Valid) cs → ValidEntries es
+      → addEntries vs s n cs es ≡ done fs → ValidEntries fs
   unfolding addEntries
-  addEntries-valid s n [] es fs hs l h e = subst (All ValidEntry) (done-injective e) h
+  addEntries-valid s n [] es fs hs l h e = subst ValidEntries (done-injective e) h
   addEntries-valid s n (c ∷ cs) es fs hs l h e =
       after (over (c .domain) s (addEntry vs n c) es) _ fs e λ gs o e.
       addEntries-valid s (suc n) cs gs fs hs (l .1)
-      (over-keeps (All ValidEntry) (c .domain) s (addEntry vs n c) (l .0 .2) hs
+      (over-keeps ValidEntries (c .domain) s (addEntry vs n c) (l .0 .2) hs
       (λ t x a b ht hx ha e. addEntry-valid n c t x a b (l .0) ht hx ha e) es gs h o) e
 
 -- ---- the problem
 
 pub generate-valid : (m : Model) (p : Lp) → AllLiterals Valid (m .structure) → ValidScope (start m) → generate m ≡ done p → ValidProblem p
-unfolding generate discretes continuouses
+unfolding generate discretes continuouses lessRows equalRows rows keep
 generate-valid m p l hs e =
     after (allGiven 0 (m .structure .names) (start m)) _ p e λ _ _ e.
     after (addVariables (start m) (discretes m) []) _ p e λ a da e.
@@ -283,10 +278,14 @@ generate-valid m p l hs e =
     after (gathered b (m .structure .objective) (start m)) _ p e λ o ob e.
     after (addEntries b (start m) 0 (m .structure .constraints) []) _ p e λ es ce e.
     subst ValidProblem (done-injective e)
-    (record {
-      variables =
-          addVariables-valid (start m) (continuouses m) a b hs (declared-literals asContinuous continuous-literals 0 (m .structure .names) (l .0))
-          (addVariables-valid (start m) (discretes m) [] a hs (declared-literals asDiscrete discrete-literals 0 (m .structure .names) (l .0)) tt da) cb;
-      entries = addEntries-valid b (start m) 0 (m .structure .constraints) [] es hs (l .2) tt ce;
+    (let first = addVariables-valid (start m) (discretes m) [] a hs (declared-literals asDiscrete discrete-literals 0 (m .structure .names) (l .0)) (record { all = tt; few = omega arith }) da in
+    let both = addVariables-valid (start m) (continuouses m) a b hs (declared-literals asContinuous continuous-literals 0 (m .structure .names) (l .0)) first cb in
+    let entries = addEntries-valid b (start m) 0 (m .structure .constraints) [] es hs (l .2) (record { all = tt; few = omega arith }) ce in
+    record {
+      variables = both .all;
+      entries = entries .all;
       objective = signedRow-valid b (m .structure .minimize) o (gathered-valid b (m .structure .objective) (start m) o (l .1) hs ob);
+      few-discrete = first .few;
+      few-variables = both .few;
+      few-rows = rw rows-counted (entries .few);
     })

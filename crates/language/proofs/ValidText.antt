@@ -1,4 +1,4 @@
--- Every value and every index number in the lines of an accepted text is valid. Assumes nothing.
+-- The problem of an accepted text is valid. Assumes nothing.
 use mathlib.Core.Path.{_≡_, subst}
 use mathlib.Core.List.{List}
 use Prim.Native.Nat.{ℕ}
@@ -8,17 +8,15 @@ use Rattle.lexer.specs.Text.{tokens}
 use Rattle.language.specs.Outcome.{done, after, done-injective}
 use Rattle.language.specs.Model.{Model, readModel, start}
 use Rattle.language.specs.Numbering.{Lp, generate}
-use Rattle.language.specs.Listing.{linesOf}
 use Rattle.language.specs.Answer.{Accepted, accepted}
-use Rattle.language.specs.All.{All}
 use Rattle.language.specs.Literals.{AllLiterals}
-use Rattle.language.specs.Valid.{ValidScope, ValidStore, ValidProblem, ValidLine}
+use Rattle.language.specs.Valid.{ValidScope, ValidStore, ValidProblem}
 use Rattle.language.proofs.Shapes.{AllShaped, shaped-right, tokens-shaped}
 use Rattle.language.proofs.PhrasedModel.{structure-written}
 use Rattle.language.proofs.Facts.{model-read, model-facts}
 use Rattle.language.proofs.ValidStore.{scope-valid}
 use Rattle.language.proofs.ValidData.{ValidTokens, ValidGiven, readData-valid}
-use Rattle.language.proofs.ValidProblem.{generate-valid, lines-valid}
+use Rattle.language.proofs.ValidProblem.{generate-valid}
 
 -- the literals of the trees, and the data
 pub record ValidModel (m : Model) : Type 0 where
@@ -44,10 +42,9 @@ model-valid text m e =
       store = subst ValidGiven (r .given-is) (readData-valid (m .structure .names) (literals .0) .gives (r .first .rest) (r .second) rest (r .data-done) .what);
     }
 
-pub accepted-valid : (text : List ℕ) (a : Accepted) → accepted text ≡ done a → ValidProblem (a .problem) × All ValidLine (linesOf (a .model) (a .problem))
+pub accepted-valid : (text : List ℕ) (a : Accepted) → accepted text ≡ done a → ValidProblem (a .problem)
 unfolding accepted
 accepted-valid text a e =
     after (readModel text) _ a e λ m rm e.
     after (generate m) _ a e λ p gp e.
-    let v : ValidProblem p = problem-valid m p (model-valid text m rm) gp in
-    subst (λ (a : Accepted). ValidProblem (a .problem) × All ValidLine (linesOf (a .model) (a .problem))) (done-injective e) (v, lines-valid m p v)
+    subst (λ (a : Accepted). ValidProblem (a .problem)) (done-injective e) (problem-valid m p (model-valid text m rm) gp)

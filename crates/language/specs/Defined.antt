@@ -13,8 +13,7 @@ use Rattle.language.specs.Syntax.{Formula, Formulas, Spans, Form, Term, 
 use Rattle.language.specs.Syntax
 use Rattle.language.specs.Model.{Model, start}
 use Rattle.language.specs.Numbering.{Variable, Source}
-use Rattle.language.specs.Written.{value, subscripts, InDomain}
-use Rattle.language.specs.Demand3.{Written, Declared, scopeAt}
+use Rattle.language.specs.Written.{value, subscripts, InDomain, scopeAt, Written, Declared}
 
 -- it is there
 pub record Has {A : Type 0} (o : Option A) : Type 0 where

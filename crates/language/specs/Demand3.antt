@@ -23,7 +23,7 @@ use Rattle.language.specs.Model.{Model, readModel, start, Declaration, d
 use Rattle.language.specs.Numbering.{Variable, Source, Entry, Lp, lessRows, rows, lowerOf, upperOf, flips, isEqual}
 use Rattle.language.specs.Listing.{Line, lpLine, rowLine, varLine, colLine, endLine, rightOf, linesOf, bytesOfAll}
 use Rattle.language.specs.Answer.{Answer, answer, Accepted}
-use Rattle.language.specs.Written.{negatedIf, value, subscripts, formValue, InDomain, bindAll}
+use Rattle.language.specs.Written.{negatedIf, value, subscripts, formValue, scopeAt, Written, Declared}
 
 -- ---- what is written
 
@@ -37,27 +37,11 @@ unfoldable pub sideValue : (Variable → ℚ) → Side → Scope → ℚ
 sideValue x (bare i d fs p) s = x (record { name = i; element = subscripts fs s })
 sideValue x (form f) s = formValue x f s
 
--- the scope of a constraint at an element
-unfoldable pub scopeAt : Model → Source → Scope
-scopeAt m o = bindAll (o .constraint .domain) (o .element) (start m)
-
 unfoldable pub leftValue : Model → (Variable → ℚ) → Source → ℚ
 leftValue m x o = sideValue x (o .constraint .left) (scopeAt m o)
 
 unfoldable pub rightValue : Model → Source → ℚ
 rightValue m o = value (o .constraint .right) (scopeAt m o)
-
--- A constraint is taken at each element of its domain, or once where it has none; constraints differ by their place in the text
-pub record Written (m : Model) (o : Source) : Type 0 where
-  pub listed : At (m .structure .constraints) (o .ordinal) (o .constraint)
-  pub inside : InDomain (o .constraint .domain) (start m) (o .element)
-
--- A declared variable is a `discrete` or `continuous` name, with one element of its domain if it has one
-pub record Declared (m : Model) (v : Variable) : Type 0 where
-  pub declaration : Declaration
-  pub listed : In (discretes m ++ continuouses m) declaration
-  pub named : declaration .name ≡ v .name
-  pub inside : InDomain (declaration .domain) (start m) (v .element)
 
 -- If it is a bound with `>=` or `=`, it states a lower bound for the variable that it names there
 abbrev pub Lower : Relation → Type 0

@@ -17,11 +17,11 @@ pub mod Model
 pub mod Literals
 pub mod Named
 pub mod Numbering
+pub mod Valid
 pub mod Listing
 pub mod Proper
-pub mod Valid
 pub mod Answer
 pub mod Computed
 pub mod Written
-pub mod Demand3
 pub mod Defined
+pub mod Demand3

@@ -1,18 +1,15 @@
--- What every line of a listing is: its values fit, its numbers and index values are no larger than a value's, and the bytes of
+-- What every line of a listing is: its values fit, its numbers and index numbers are no larger than a value's, and the bytes of
 -- its strings and names are from 32 to 126. Assumes nothing.
-use mathlib.Core.Option.{Option, none, some}
+use mathlib.Core.Option.{Option}
 use mathlib.Core.List.{List}
 use Prim.Native.Nat.{ℕ, _≤_}
-use lib.IntN.{ℤ, natAbs}
+use lib.IntN.{ℤ}
 use Rattle.rules.specs.Limits.{mantissaLimit}
 use Rattle.value.specs.declared.Value.{Value}
 use Rattle.value.specs.Decimal.{Valid}
-use Rattle.language.specs.Listed.{In}
+use Rattle.language.specs.All.{All}
+use Rattle.language.specs.Valid.{SmallElement, ValidUpper}
 use Rattle.language.specs.Listing.{Line, lpLine, rowLine, varLine, colLine, endLine}
-
--- every entry of l has the property P
-pub record Each {A : Type 0} (P : A → Type 0) (l : List A) : Type 0 where
-  pub each : (a : A) → In l a → P a
 
 pub record Visible (b : ℕ) : Type 0 where
   pub least : 32 ≤ b
@@ -20,42 +17,32 @@ pub record Visible (b : ℕ) : Type 0 where
 
 -- a string or a name
 abbrev pub Text : List ℕ → Type 0
-Text s = Each Visible s
-
-pub record Small (n : ℕ) : Type 0 where
-  pub most : n ≤ mantissaLimit
-
-abbrev pub SmallIndex : ℤ → Type 0
-SmallIndex k = Small (natAbs k)
-
-abbrev pub ValidUpper : Option Value → Type 0
-ValidUpper none = Unit
-ValidUpper (some v) = Valid v
+Text s = All Visible s
 
 pub record ProperFirst (a b c d : ℕ) (s t : List ℕ) : Type 0 where
-  pub discrete : Small a
-  pub variables : Small b
-  pub less : Small c
-  pub rows : Small d
+  pub discrete : a ≤ mantissaLimit
+  pub variables : b ≤ mantissaLimit
+  pub less : c ≤ mantissaLimit
+  pub rows : d ≤ mantissaLimit
   pub title : Text s
   pub data-title : Text t
 
 pub record ProperRow (n : ℕ) (v : Value) (s : List ℕ) (e : List ℤ) : Type 0 where
-  pub number : Small n
+  pub number : n ≤ mantissaLimit
   pub right : Valid v
   pub title : Text s
-  pub element : Each SmallIndex e
+  pub element : SmallElement e
 
 pub record ProperVariable (n : ℕ) (l : Value) (u : Option Value) (s : List ℕ) (e : List ℤ) : Type 0 where
-  pub number : Small n
+  pub number : n ≤ mantissaLimit
   pub lower : Valid l
   pub upper : ValidUpper u
   pub name : Text s
-  pub element : Each SmallIndex e
+  pub element : SmallElement e
 
 pub record ProperColumn (j i : ℕ) (v : Value) : Type 0 where
-  pub variable : Small j
-  pub row : Small i
+  pub variable : j ≤ mantissaLimit
+  pub row : i ≤ mantissaLimit
   pub coefficient : Valid v
 
 abbrev pub Proper : Line → Type 0

@@ -1,18 +1,18 @@
--- What is valid: values that fit, and index numbers no larger than a value's, wherever a scope, the data, a problem or a line
--- holds them. Assumes nothing.
+-- What is valid: values that fit, and index numbers no larger than a value's, wherever a scope, the data or a problem holds
+-- them; and as many variables and rows as the tables take. Assumes nothing.
 use mathlib.Core.Path.{_≡_}
 use mathlib.Core.Option.{Option, none, some}
 use mathlib.Core.List.{List}
 use Prim.Native.Nat.{ℕ, _≤_}
+use lib.ListN.{length}
 use lib.IntN.{ℤ, natAbs}
-use Rattle.rules.specs.Limits.{mantissaLimit}
+use Rattle.rules.specs.Limits.{mantissaLimit, variableLimit, rowLimit}
 use Rattle.value.specs.declared.Value.{Value}
 use Rattle.value.specs.Decimal.{Valid}
 use Rattle.language.specs.All.{All}
 use Rattle.language.specs.Scope.{Binding, Scope}
 use Rattle.language.specs.Store.{Datum, Store}
-use Rattle.language.specs.Numbering.{Variable, Row, Fact, bound, row, Entry, Lp}
-use Rattle.language.specs.Listing.{Line, lpLine, rowLine, varLine, colLine, endLine}
+use Rattle.language.specs.Numbering.{Variable, Row, Fact, bound, row, Entry, Lp, rows}
 
 -- a whole number no larger than a value's
 abbrev pub Small : ℤ → Type 0
@@ -53,21 +53,15 @@ pub record ValidEntry (e : Entry) : Type 0 where
   pub element : SmallElement (e .source .element)
   pub fact : ValidFact (e .fact)
 
-pub record ValidProblem (p : Lp) : Type 0 where
-  pub variables : All ValidVariable (p .variables)
-  pub entries : All ValidEntry (p .entries)
-  pub objective : ValidRow (p .objective)
-
--- ---- what is listed
-
 -- `inf` is no value
 abbrev pub ValidUpper : Option Value → Type 0
 ValidUpper none = Unit
 ValidUpper (some v) = Valid v
 
-abbrev pub ValidLine : Line → Type 0
-ValidLine (lpLine a b c d s t) = Unit
-ValidLine (rowLine n q v s e) = Valid v × SmallElement e
-ValidLine (varLine n d l u s e) = Valid l × ValidUpper u × SmallElement e
-ValidLine (colLine j i v) = Valid v
-ValidLine endLine = Unit
+pub record ValidProblem (p : Lp) : Type 0 where
+  pub variables : All ValidVariable (p .variables)
+  pub entries : All ValidEntry (p .entries)
+  pub objective : ValidRow (p .objective)
+  pub few-discrete : p .discrete ≤ variableLimit
+  pub few-variables : length (p .variables) ≤ variableLimit
+  pub few-rows : length (rows p) ≤ rowLimit
