@@ -26,6 +26,7 @@ pub mod ValidProblem
 pub mod ValidStore
 pub mod ValidData
 pub mod ValidText
+pub mod ProperText
 pub mod Defined
 pub mod EachNumbered
 pub mod DefinedModel

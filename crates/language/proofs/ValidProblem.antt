@@ -120,16 +120,7 @@ unfolding upperOf
 upper-valid es j h =
     smallest-valid _ (picked-valid (λ e. upperAt (e .source .constraint .relation) (e .fact) j) (λ e v k o. upperAt-valid (e .source .constraint .relation) (e .fact) j v (k .fact) o) es h)
 
--- ---- rows that are kept
-
-pub kept-all : {A : Type 0} (P : A → Type 0) (f : A → Bool) (l : List A) → All P l → All P (keep f l)
-unfolding keep
-kept-all {A} P f [] h = tt
-kept-all {A} P f (a ∷ l) h = go (f a) (kept-all P f l (h .1))
-  where
-    go : (t : Bool) → All P (keep f l) → All P (elim t [ true ↦ a ∷ keep f l | false ↦ keep f l ])
-    go true ih = (h .0, ih)
-    go false ih = ih
+-- ---- counts of rows
 
 kept-append : {A : Type 0} (f : A → Bool) (l m : List A) → keep f (l ++ m) ≡ keep f l ++ keep f m
 unfolding keep
