@@ -1,5 +1,6 @@
--- Demand 3 for every text and buffer length: where the answer's number is 0, the listing keeps the model's meaning. Assumes nothing.
-use mathlib.Core.Path.{_≡_, refl, sym, _∙_, ap}
+-- Demand 3 for every text and buffer length: where the answer's number is 0, the listing keeps the model's meaning, and its bytes
+-- are those of no other lines. Assumes nothing.
+use mathlib.Core.Path.{_≡_, refl, sym, _∙_, ap, subst}
 use mathlib.Core.List.{List, _++_}
 use Prim.Native.Nat.{ℕ, _-_}
 use native.Mathlib.Omega.{arith}
@@ -8,13 +9,19 @@ use lib.ListN.{length, replicate}
 use Rattle.rules.specs.declared.Refusal.{Refusal}
 use Rattle.rules.specs.declared.Refusal.the-variants.{LongText, StrangeByte, Misplaced, BadName, Unfit, Full, BadIndex, NotWhole, Outside, Missing, LongListing}
 use Rattle.rules.specs.Refusals.{refusalNumber}
+use Rattle.language.specs.All.{All}
 use Rattle.language.specs.Outcome.{Outcome, done, refused, after, after-check, done-injective}
 use Rattle.language.specs.Model.{readModel}
 use Rattle.language.specs.Numbering.{generate}
 use Rattle.language.specs.Listing.{linesOf, bytesOfAll}
-use Rattle.language.specs.Answer.{Answer, accepted, listingOf, listing, respond, answer}
+use Rattle.language.specs.Answer.{Answer, Accepted, accepted, listingOf, listing, respond, answer}
+use Rattle.language.specs.Proper.{Proper}
+use Rattle.language.specs.Defined.{DefinedModel}
 use Rattle.language.specs.Demand3.{Demand3, Statement}
 use Rattle.language.proofs.Kept.{keeps}
+use Rattle.language.proofs.DefinedText.{accepted-defined}
+use Rattle.language.proofs.ProperText.{accepted-proper}
+use Rattle.language.proofs.Printing.{printed-once-filled}
 
 -- no refusal has number 0
 numbered : (r : Refusal) → refusalNumber r ≡ 0 → ⊥
@@ -44,11 +51,17 @@ kept text n e = go (listing text n) refl e
         let same : a ≡ record { model = m; problem = p } = sym (done-injective h) in
         let printed : bytes ≡ bytesOfAll (linesOf m p) = sym (done-injective g) ∙ ap listingOf same in
         let responds : answer text n ≡ respond n (done bytes) = ap (respond n) eo in
+        let proper : All Proper (linesOf m p) = subst (λ (a : Accepted). All Proper (linesOf (a .model) (a .problem))) same (accepted-proper text a ea) in
+        let prints : (answer text n) .buffer ≡ bytesOfAll (linesOf m p) ++ replicate (n - (answer text n) .size) 0 =
+        ap (λ (r : Answer). r .buffer) responds
+        ∙ ap (λ l. l ++ replicate (n - length bytes) 0) printed
+        ∙ ap (λ (r : Answer). bytesOfAll (linesOf m p) ++ replicate (n - r .size) 0) (sym responds) in
         record {
           found = record { model = m; problem = p };
           reads = rm;
-          prints = ap (λ (r : Answer). r .buffer) responds
-              ∙ ap (λ l. l ++ replicate (n - length bytes) 0) printed
-              ∙ ap (λ (r : Answer). bytesOfAll (linesOf m p) ++ replicate (n - r .size) 0) (sym responds);
+          defined = subst (λ (a : Accepted). DefinedModel (a .model)) same (accepted-defined text a ea);
           keeps = keeps m p gp;
+          proper = proper;
+          prints = prints;
+          once = λ ls h k b. printed-once-filled ls (linesOf m p) k (n - (answer text n) .size) h proper (b ∙ prints);
         }

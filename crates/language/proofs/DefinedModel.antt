@@ -24,9 +24,9 @@ use Rattle.language.specs.Numbering.{Variable, addVariable, addVariables
 use Rattle.language.specs.Written.{InDomain, bindAll, Written, Declared, scopeAt}
 use Rattle.language.specs.Named.{NamedDomain, NamedSort, NamedEntry, NamedConstraint, NamedStructure}
 use Rattle.language.specs.Defined.{Has, Defined, DefinedDomain, DefinedSide, DefinedSort, DefinedModel}
-use Rattle.language.proofs.Numbered.{variable-numbers}
+use Rattle.language.proofs.Numbered.{variables-made, variable-numbers}
 use Rattle.language.proofs.Defined.{over-defined, over-at, gathered-defined, fact-defined}
-use Rattle.language.proofs.EachNumbered.{declared-in, variables-made}
+use Rattle.language.proofs.EachNumbered.{declared-in}
 
 -- ---- data: each element of a declared domain has a value
 

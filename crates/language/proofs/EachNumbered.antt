@@ -22,8 +22,7 @@ use Rattle.language.specs.Numbering.{Variable, addVariables, sameVariabl
 use Rattle.language.specs.Written.{InDomain, Declared}
 use Rattle.language.specs.Named.{IsVariable, NamedVariable}
 use Rattle.language.specs.Defined.{Has}
-use Rattle.language.proofs.Entries.{variables-grown}
-use Rattle.language.proofs.Numbered.{Variables, variable-numbers}
+use Rattle.language.proofs.Numbered.{true-false, variables-made, variable-numbers}
 use Rattle.language.proofs.Defined.{many, within-defined}
 
 -- ---- a variable that stands in the list is found
@@ -53,10 +52,7 @@ in-numberOf i e (v ∷ vs) h = go (sameVariable v i e) refl (in-cons v vs _ h) (
     go : (t : Bool) → sameVariable v i e ≡ t → (v ≡ record { name = i; element = e }) ⊎ In vs (record { name = i; element = e })
         → (In vs (record { name = i; element = e }) → Has (numberOf i e vs)) → Has {A = ℕ} (elim t [ true ↦ some 0 | false ↦ later (numberOf i e vs) ])
     go true q k ih = record { it = 0; is = refl }
-    go false q (inl k) ih = absurd (no (sym (sameVariable-refl i e) ∙ sym (ap (λ (v : Variable). sameVariable v i e) k) ∙ q))
-      where
-        no : true ≡ false → ⊥
-        no z = let z′ : _≡_ {A = ℕ} 0 1 = cc in omega arith
+    go false q (inl k) ih = true-false (sym (sameVariable-refl i e) ∙ sym (ap (λ (v : Variable). sameVariable v i e) k) ∙ q)
     go false q (inr k) ih = next (ih k)
 
 -- ---- the variables of a model
@@ -92,14 +88,8 @@ variable-declared m i d h = go (h .sort)
         (r .0, omega (arith, r .1), r .2, in-right (declared asDiscrete 0 xs) (declared asContinuous 0 xs) (r .0) (r .3))
 
 module _ (m : Model) (a vs : List Variable) (first : addVariables (start m) (discretes m) [] ≡ done a) (then : addVariables (start m) (continuouses m) a ≡ done vs) where
-  pub variables-made : Variables m vs (length a)
-  variables-made =
-      let u = variables-grown (start m) (discretes m) [] a first in
-      let v = variables-grown (start m) (continuouses m) a vs then in
-      record { discrete = a; continuous = v .new; discrete-made = u .gives ∙ ap done (u .appended); continuous-made = v .gives; joined = v .appended; counted = refl }
-
   pub each-numbered : (v : Variable) → Declared m v → Has (numberOf (v .name) (v .element) vs)
-  each-numbered v d = in-numberOf (v .name) (v .element) vs (variable-numbers m vs (length a) variables-made .has-number v d)
+  each-numbered v d = in-numberOf (v .name) (v .element) vs (variable-numbers m vs (length a) (variables-made m a vs first then) .has-number v d)
 
   -- subscripts that pass the domain test of a variable have a number, whatever indices are bound
   pub never-outside : (i : ℕ) (d : Spans) (fs : Formulas) (p : ℕ) (s : Scope) (ks : List ℤ) (u : Unit {0}) → NamedVariable (m .structure .names) i d fs → s .known ≡ start m .known

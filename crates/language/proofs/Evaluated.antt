@@ -1,23 +1,20 @@
 -- Where evaluation gives a value, it is the written value: the first half of demand 3's theorem, over these trees. Assumes nothing.
-use mathlib.Core.Path.{_≡_, refl, sym, _∙_, ap}
-use mathlib.Core.Bool.{Bool, true, false, cond}
-use mathlib.Core.Option.{Option, none, some}
+use mathlib.Core.Path.{_≡_, sym, _∙_, ap}
 use mathlib.Core.List.{List, [], _∷_}
 use Prim.Native.Nat.{ℕ}
 use lib.Dec.{leb}
-use lib.IntN.{ℤ, pos}
+use lib.IntN.{ℤ}
 use Rattle.value.specs.Number.{exactly}
 use Rattle.language.specs.Ranges.{range}
-use Rattle.value.specs.Rational.{ℚ, 𝟎, _⊕_, _⊗_, neg, whole, floor, ceiling, floor-whole, ceiling-whole, add-zero, zero-add, add-assoc}
-use Rattle.rules.specs.declared.Refusal.{Refusal}
-use Rattle.rules.specs.declared.Refusal.the-variants.{Unfit, BadIndex, NotWhole, Missing}
-use Rattle.language.specs.Outcome.{fits-of, after-whole, Outcome, done, refused, _>>=_, orRefuse, check, after, after-some, after-check, some-of, done-injective}
+use Rattle.value.specs.Rational.{ℚ, _⊕_, neg, floor, ceiling, floor-whole, ceiling-whole, add-zero, zero-add, add-assoc}
+use Rattle.rules.specs.declared.Refusal.the-variants.{BadIndex, NotWhole, Missing}
+use Rattle.language.specs.Outcome.{fits-of, after-whole, Outcome, done, after, after-some, after-check, some-of, done-injective}
 use Rattle.rules.specs.Limits.{runLimit}
 use Rattle.value.specs.declared.Value.{Value}
 use Rattle.value.specs.declared.Whole.the-variants.{Number}
-use Rattle.value.specs.Decimal.{zeroValue, negate, sumOf, productOf, wholeOf, ofWhole}
+use Rattle.value.specs.Decimal.{zeroValue, sumOf, productOf, wholeOf}
 use Rattle.language.specs.Scope.{Scope, bind, unbound, boundTo}
-use Rattle.language.specs.Syntax.{Formula, Formulas, Spans, datum, minus, plus, times, sum}
+use Rattle.language.specs.Syntax.{Formula, Formulas, datum, minus, plus, times, sum}
 use Rattle.language.specs.Syntax
 use Rattle.language.specs.Evaluation.{Limits, limitsOf, wholeAt, lengthOf, runOf, fresh, each, addTo, eval, evalAll, within}
 use Rattle.language.specs.Written.{value, subscripts, sumOver, runBetween, wholeOr0, valueOr0}

@@ -8,14 +8,13 @@ use mathlib.Core.Logic.{_⊎_, inl, inr}
 use mathlib.Core.List.{List, [], _∷_, _++_, map, map-append, append-nil}
 use Prim.Native.Nat.{ℕ, zero, suc, _<_, _≤_}
 use native.Mathlib.Omega.{arith}
-use lib.Dec.{eqb}
 use lib.ListN.{length, length-append}
-use borrow.Author.Tests.{eq-eqb}
 use Rattle.rules.specs.declared.Refusal.the-variants.{Misplaced}
 use Rattle.rules.specs.Limits.{byteLimit, nameLimit, constraintLimit}
 use Rattle.lexer.specs.Marks.{initWord, closeWord}
 use Rattle.value.specs.declared.Value.{Value}
 use Rattle.lexer.specs.Text.{Token, Kind, literal, sameBytes, tokens}
+use Rattle.lexer.proofs.Same.{same-bytes-refl}
 use Rattle.language.specs.Outcome.{Outcome, done, refused, done-injective, refused-done}
 use Rattle.language.specs.Syntax.{Name, Sort, Constraint, Structure}
 use Rattle.language.specs.Reader.{Read, Reader, _>>=_, give, next, isMark, require, readString, Used, find}
@@ -33,15 +32,6 @@ use Rattle.language.proofs.Literals.{phrase-all}
 
 -- ---- names
 
-same-self : (l : List ℕ) → sameBytes l l ≡ true
-unfolding sameBytes
-same-self [] = refl
-same-self (b ∷ l) = go (eqb b b) (eq-eqb b b refl) (same-self l)
-  where
-    go : (t : Bool) → t ≡ true → sameBytes l l ≡ true → elim t as (λ _. Bool) [ true ↦ sameBytes l l | false ↦ false ] ≡ true
-    go true e h = h
-    go false e h = e
-
 abbrev spellings : List Name → List (List ℕ)
 spellings names = map (λ x. x .spelling) names
 
@@ -54,7 +44,7 @@ not-spelled l (x ∷ xs) i e h = go (sameBytes l (x .spelling)) refl (in-cons (x
     go : (b : Bool) → sameBytes l (x .spelling) ≡ b → (x .spelling ≡ l) ⊎ In (spellings xs) l → (find l xs (suc i) 0 ≡ none → In (spellings xs) l → ⊥)
         → _≡_ {A = Option Used} (elim b as (λ _. Option Used) [ true ↦ some (record { number = i; sort = x .sort; place = 0 }) | false ↦ find l xs (suc i) 0 ]) none → ⊥
     go true eb h ih e = let z : _≡_ {A = ℕ} 0 1 = cc in omega arith
-    go false eb (inl s) ih e = let z : sameBytes l l ≡ false = rw s at eb in let z′ : _≡_ {A = ℕ} 0 1 = cc (same-self l) in omega arith
+    go false eb (inl s) ih e = let z : sameBytes l l ≡ false = rw s at eb in let z′ : _≡_ {A = ℕ} 0 1 = cc (same-bytes-refl l) in omega arith
     go false eb (inr k) ih e = ih e k
 
 module _ (P : Value → Type 0) where

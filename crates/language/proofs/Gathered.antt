@@ -1,6 +1,6 @@
 -- Where gathering gives a row, the row's value at an assignment is the written value of the form. Assumes nothing.
 use mathlib.Core.Path.{_≡_, refl, sym, _∙_, ap, subst}
-use mathlib.Core.Bool.{Bool, true, false, cond, _&&_}
+use mathlib.Core.Bool.{Bool, true, false, _&&_}
 use mathlib.Core.Option.{Option, none, some}
 use mathlib.Core.List.{List, [], _∷_, map}
 use Prim.Native.Nat.{ℕ, zero, suc, _<_}
@@ -11,12 +11,12 @@ use lib.ListN.{length, getD, set, replicate, length-set, length-map, length-repl
 use lib.IntN.{ℤ, pos, negsuc}
 use borrow.Author.Tests.{eqb-true}
 use Rattle.value.specs.Number.{exactly}
-use Rattle.language.specs.Listed.{At, at-length, at-getD}
-use Rattle.value.specs.Rational.{ℚ, 𝟎, 𝟏, _⊕_, _⊗_, neg, ring, add-zero, zero-add, add-assoc, mul-add, mul-assoc, mul-zero, zero-mul, one-mul, mul-neg, neg-mul, neg-add, neg-neg, neg-zero}
-use Rattle.rules.specs.declared.Refusal.the-variants.{Unfit, Outside}
-use Rattle.language.specs.Outcome.{after-fits, none-some, Outcome, done, refused, _>>=_, orRefuse, after, after-some, some-of, done-injective, some-injective}
+use Rattle.language.specs.Listed.{At, at-length}
+use Rattle.value.specs.Rational.{ℚ, 𝟎, _⊕_, _⊗_, ring, add-zero, zero-add, add-assoc, mul-add, mul-assoc, mul-zero, zero-mul, one-mul, mul-neg, neg-mul, neg-add, neg-neg, neg-zero}
+use Rattle.rules.specs.declared.Refusal.the-variants.{Outside}
+use Rattle.language.specs.Outcome.{after-fits, none-some, Outcome, done, after, some-of, done-injective, some-injective}
 use Rattle.value.specs.declared.Value.{Value}
-use Rattle.value.specs.Decimal.{zeroValue, oneValue, negate, sumOf, productOf}
+use Rattle.value.specs.Decimal.{zeroValue, oneValue, sumOf, productOf}
 use Rattle.language.specs.Scope.{Scope, bind, unbound, sameWhole, sameElement}
 use Rattle.language.specs.Syntax.{Form, Term, also, factor, variable, sigma}
 use Rattle.language.specs.Syntax

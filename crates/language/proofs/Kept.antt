@@ -1,6 +1,6 @@
 -- Demand 3 on a read model: the listing of a generated problem keeps the model's meaning. Assumes nothing.
 use mathlib.Core.Path.{_≡_, refl, sym, _∙_, ap, subst, subst₂}
-use mathlib.Core.Logic.{_↔_, _⊎_, inl, inr}
+use mathlib.Core.Logic.{_↔_, inl, inr}
 use mathlib.Core.Bool.{Bool}
 use mathlib.Core.Option.{Option, none, some}
 use mathlib.Core.List.{List, [], map}
@@ -12,7 +12,6 @@ use Rattle.language.specs.Listed.{At, In, at-getD, at-map}
 use Rattle.value.specs.Rational.{ℚ, 𝟎, _⊑_, ⊑-refl, ⊑-trans, ⊑-antisym}
 use Rattle.language.specs.Outcome.{done, after, done-injective}
 use Rattle.value.specs.declared.Value.{Value}
-use Rattle.value.specs.Decimal.{zeroValue}
 use Rattle.language.specs.Scope.{Scope}
 use Rattle.language.specs.Syntax.{Formula, Name, Relation, atMost, atLeast, equal, Side, bare, form}
 use Rattle.language.specs.Written.{value, subscripts, negatedIf, Written, Declared, scopeAt}
@@ -24,8 +23,8 @@ use Rattle.language.specs.Demand3.{Holds, RowMet, States, Lower, Upper, 
 use Rattle.value.proofs.Numbers.{exactly-zero}
 use Rattle.language.proofs.Gathered.{dot, gathered-done, gathered-long}
 use Rattle.language.proofs.Elements.{walk}
-use Rattle.language.proofs.Entries.{dot-signed, met, of-form, entries, placed, variables-grown, entries-grown, Made, entry-made, made-entry}
-use Rattle.language.proofs.Numbered.{Variables, rowsOf, in-table, variable-numbers, variable-order, discrete-first, row-numbers, row-order, less-first, in-rows, rows-in, row-form, form-row}
+use Rattle.language.proofs.Entries.{dot-signed, met, of-form, entries, placed, entries-grown, Made, entry-made, made-entry}
+use Rattle.language.proofs.Numbered.{Variables, variables-made, rowsOf, in-table, variable-numbers, variable-order, discrete-first, row-numbers, row-order, less-first, in-rows, rows-in, row-form, form-row}
 use Rattle.language.proofs.Stated.{names-bound, lower-bound, upper-bound}
 use Rattle.language.proofs.Summed.{by-number, row-lines, objective-lines}
 use Rattle.language.proofs.Lines.{every-line, in-order, lp-line, end-line, row-line, var-line, variable-line, objective-line}
@@ -302,18 +301,7 @@ keeps m p e =
     after (addVariables (start m) (continuouses m) a) _ p e λ b gb e.
     after (gathered b (m .structure .objective) (start m)) _ p e λ o go e.
     after (addEntries b (start m) 0 (m .structure .constraints) []) _ p e λ es ge e.
-    let u = variables-grown (start m) (discretes m) [] a ga in
-    let v = variables-grown (start m) (continuouses m) a b gb in
     let w = entries-grown b (start m) 0 (m .structure .constraints) [] es ge in
-    let made : Variables m b (length a) =
-    record {
-      discrete = a;
-      continuous = v .new;
-      discrete-made = u .gives ∙ ap done (u .appended);
-      continuous-made = v .gives;
-      joined = v .appended;
-      counted = refl;
-    } in
     subst (Keeps m) (done-injective e)
     (of-parts m _
-    (record { variables-made = made; entries-made = w .gives ∙ ap done (w .appended); form-row = o; form-made = go; objective-is = refl }))
+    (record { variables-made = variables-made m a b ga gb; entries-made = w .gives ∙ ap done (w .appended); form-row = o; form-made = go; objective-is = refl }))

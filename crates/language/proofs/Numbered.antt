@@ -16,16 +16,16 @@ use Rattle.language.specs.Scope.{Scope}
 use Rattle.language.specs.Syntax.{Name, Sort, Spans, Relation, Side, bare, form}
 use Rattle.language.specs.Syntax
 use Rattle.language.specs.Model.{Model, start, Declaration, declared, asDiscrete, asContinuous, discretes, continuouses}
-use Rattle.language.specs.Numbering.{Variable, Source, Entry, Fact, factOf, isRow, isEqual, keep, lessRow, equalRow}
+use Rattle.language.specs.Numbering.{Variable, addVariables, Source, Entry, Fact, factOf, isRow, isEqual, keep, lessRow, equalRow}
 use Rattle.language.specs.Written.{Declared}
 use Rattle.language.specs.Demand3.{OneToOne, RowSource, IsForm, sourceOf, Rising, Precedes, Among, EarlierVariable, EarlierRow}
 use Rattle.language.specs.Demand3
 use Rattle.language.proofs.Ordered.{rising-nil, rising-cons, rising-head, rising-tail, rising-append, rising-as, distinct-rising, not-itself}
 use Rattle.language.proofs.Collected.{collect-append}
 use Rattle.language.proofs.Elements.{Before, walk, walk-in, in-walk, rising-walk, only}
-use Rattle.language.proofs.Entries.{variables, entries, placed, rising-placed, entry-made, made-entry, of-bare, of-form}
+use Rattle.language.proofs.Entries.{variables, variables-grown, entries, placed, rising-placed, entry-made, made-entry, of-bare, of-form}
 
-true-false : {A : Type 0} → true ≡ false → A
+pub true-false : {A : Type 0} → true ≡ false → A
 true-false e = let z : _≡_ {A = ℕ} 0 1 = cc in absurd (omega arith)
 
 -- ---- declarations: a name's number is its place in the table
@@ -120,6 +120,13 @@ pub record Variables (m : Model) (vs : List Variable) (n : ℕ) : Type 0 where
   pub continuous-made : walk variables (start m) (continuouses m) ≡ done continuous
   pub joined : discrete ++ continuous ≡ vs
   pub counted : length discrete ≡ n
+
+pub variables-made : (m : Model) (a vs : List Variable) → addVariables (start m) (discretes m) [] ≡ done a → addVariables (start m) (continuouses m) a ≡ done vs
+    → Variables m vs (length a)
+variables-made m a vs first then =
+    let u = variables-grown (start m) (discretes m) [] a first in
+    let v = variables-grown (start m) (continuouses m) a vs then in
+    record { discrete = a; continuous = v .new; discrete-made = u .gives ∙ ap done (u .appended); continuous-made = v .gives; joined = v .appended; counted = refl }
 
 module _ (m : Model) where
   among : (ds : List Declaration) (vs : List Variable) → walk variables (start m) ds ≡ done vs → (v : Variable) → In vs v → Among ds v

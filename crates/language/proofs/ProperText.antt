@@ -3,7 +3,7 @@
 use mathlib.Core.Path.{_≡_, refl, subst}
 use mathlib.Core.Bool.{Bool, true, false, _&&_, _||_, not}
 use mathlib.Core.Logic.{inl, inr}
-use mathlib.Core.List.{List, [], _∷_, _++_}
+use mathlib.Core.List.{List, [], _∷_}
 use Prim.Native.Nat.{ℕ, zero, suc, _+_, _≤_}
 use native.Mathlib.Omega.{arith}
 use lib.Dec.{eqb, leb}
@@ -160,25 +160,26 @@ unfolding linesOf lessRows equalRows rows mantissaLimit variableLimit rowLimit
 lines-proper m p h t =
     let less = kept-all ValidEntry lessRow (p .entries) (h .entries) in
     let same = kept-all ValidEntry equalRow (p .entries) (h .entries) in
-    let counted = length-append (lessRows p) (equalRows p) in
-    (record {
-      discrete = omega (arith, h .few-discrete);
-      variables = omega (arith, h .few-variables);
-      less = omega (arith, h .few-rows, counted);
-      rows = omega (arith, h .few-rows);
-      title = t .title;
-      data-title = t .data-title;
-    },
-    all-append Proper (rowLines 1 false (lessRows p)) _
-    (rowLines-proper 1 false (lessRows p) (omega (arith, h .few-rows, counted)) less (all-left TextRow (lessRows p) (equalRows p) (t .titles)))
-    (all-append Proper (rowLines (suc (length (lessRows p))) true (equalRows p)) _
-    (rowLines-proper (suc (length (lessRows p))) true (equalRows p) (omega (arith, h .few-rows, counted)) same (all-right TextRow (lessRows p) (equalRows p) (t .titles)))
-    (all-append Proper (varLines (m .structure .names) p 0 (p .variables)) _
-    (varLines-proper (m .structure .names) p 0 (p .variables) (omega (arith, h .few-variables)) (t .names) (h .entries) (h .variables))
-    (all-append Proper (colLines (length (p .variables)) 0 (rows p) (p .objective)) (endLine ∷ [])
-    (colLines-proper (length (p .variables)) 0 (rows p) (p .objective) (omega (arith, h .few-variables)) (omega (arith, h .few-rows))
-    (all-append ValidEntry (lessRows p) (equalRows p) less same) (h .objective))
-    (tt, tt)))))
+    let counted = length-append (lessRows p) (equalRows p) in (
+      record {
+        discrete = omega (arith, h .few-discrete);
+        variables = omega (arith, h .few-variables);
+        less = omega (arith, h .few-rows, counted);
+        rows = omega (arith, h .few-rows);
+        title = t .title;
+        data-title = t .data-title;
+      },
+      all-append Proper (rowLines 1 false (lessRows p)) _
+          (rowLines-proper 1 false (lessRows p) (omega (arith, h .few-rows, counted)) less (all-left TextRow (lessRows p) (equalRows p) (t .titles)))
+          (all-append Proper (rowLines (suc (length (lessRows p))) true (equalRows p)) _
+          (rowLines-proper (suc (length (lessRows p))) true (equalRows p) (omega (arith, h .few-rows, counted)) same (all-right TextRow (lessRows p) (equalRows p) (t .titles)))
+          (all-append Proper (varLines (m .structure .names) p 0 (p .variables)) _
+          (varLines-proper (m .structure .names) p 0 (p .variables) (omega (arith, h .few-variables)) (t .names) (h .entries) (h .variables))
+          (all-append Proper (colLines (length (p .variables)) 0 (rows p) (p .objective)) (endLine ∷ [])
+          (colLines-proper (length (p .variables)) 0 (rows p) (p .objective) (omega (arith, h .few-variables)) (omega (arith, h .few-rows))
+          (all-append ValidEntry (lessRows p) (equalRows p) less same) (h .objective))
+          (tt, tt)))),
+    )
 
 pub accepted-proper : (text : List ℕ) (a : Accepted) → accepted text ≡ done a → All Proper (linesOf (a .model) (a .problem))
 unfolding accepted

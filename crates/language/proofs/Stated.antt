@@ -1,7 +1,7 @@
 -- The bounds of a variable are those that the text states for it: the largest lower one, or 0, and the smallest upper one, or none.
 -- Assumes nothing.
 use mathlib.Core.Path.{_≡_, refl, sym, _∙_, ap, subst}
-use mathlib.Core.Logic.{_⊎_, inl, inr}
+use mathlib.Core.Logic.{inl, inr}
 use mathlib.Core.Bool.{Bool, true, false, cond}
 use mathlib.Core.Option.{Option, none, some}
 use mathlib.Core.List.{List}
@@ -11,7 +11,6 @@ use borrow.Author.Tests.{eqb-true, eq-eqb}
 use Rattle.value.specs.Number.{exactly}
 use Rattle.value.specs.Rational.{_⊑_}
 use Rattle.value.specs.declared.Value.{Value}
-use Rattle.value.specs.Decimal.{zeroValue}
 use Rattle.language.specs.Listed.{At, In, Distinct, at-unique}
 use Rattle.language.specs.Outcome.{none-some, done, some-injective}
 use Rattle.language.specs.Scope.{Scope}

@@ -1,6 +1,5 @@
 -- The answer for every text and buffer length: number, place, length and every output byte. Assumes nothing.
-use mathlib.Core.Bool.{Bool, true, false}
-use mathlib.Core.List.{List, [], _∷_, _++_}
+use mathlib.Core.List.{List, _++_}
 use Prim.Native.Nat.{ℕ, _-_}
 use lib.Dec.{leb}
 use lib.ListN.{length, replicate}
@@ -9,7 +8,7 @@ use Rattle.rules.specs.Refusals.{refusalNumber}
 use Rattle.language.specs.Outcome.{Outcome, done, refused, _>>=_, check}
 use Rattle.language.specs.Model.{Model, readModel}
 use Rattle.language.specs.Numbering.{Lp, generate}
-use Rattle.language.specs.Listing.{Line, linesOf, bytesOfAll}
+use Rattle.language.specs.Listing.{linesOf, bytesOfAll}
 
 -- a model with the problem generated from it
 pub record Accepted : Type 0 where

@@ -25,7 +25,6 @@ use Rattle.language.specs.Listing.{rowLines, varLines, columnLines, colL
 use Rattle.language.specs.Answer.{accepted, listingOf, listing, respond, answer}
 use Rattle.language.specs.Outcome.{Outcome, _>>=_}
 use Rattle.language.specs.Syntax as Syntax
-use Rattle.language.specs.Syntax.{Name}
 use Rattle.language.specs.Model.{whatOf}
 use Rattle.language.specs.Answer.{Answer}
 

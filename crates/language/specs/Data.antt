@@ -1,21 +1,20 @@
 -- Document 01, "Grammar", "Meaning" and "Order": the data section. Portions are carried out as read. Assumes nothing.
-use mathlib.Core.Bool.{Bool, true, false, cond, _&&_, _||_, not}
+use mathlib.Core.Bool.{Bool, true, false, cond, _&&_, not}
 use mathlib.Core.Option.{Option, none, some}
-use mathlib.Core.List.{List, [], _∷_, _++_}
-use Prim.Native.Nat.{ℕ, zero, suc, _+_}
+use mathlib.Core.List.{List, [], _∷_}
+use Prim.Native.Nat.{ℕ, zero, suc}
 use lib.Dec.{eqb}
 use lib.ListN.{length}
-use lib.IntN.{ℤ, pos, negℤ}
+use lib.IntN.{ℤ, negℤ}
 use Rattle.rules.specs.declared.Refusal.the-variants.{Misplaced, BadIndex, Missing, Full}
 use Rattle.rules.specs.Limits.{byteLimit, nestingLimit}
 use Rattle.lexer.specs.Marks.{plusSign, minusSign, comma, opens, closes, opensList, closesList, initWord, closeWord}
 use Rattle.value.specs.declared.Value.{Value}
 use Rattle.value.specs.Decimal.{negate}
-use Rattle.lexer.specs.Text.{Token, Kind}
+use Rattle.lexer.specs.Text.{Kind}
 use Rattle.lexer.specs.Text
-use Rattle.language.specs.Syntax.{Name, Sort, Spans, point, span}
-use Rattle.language.specs.Syntax
-use Rattle.language.specs.Reader.{Reader, _>>=_, give, refuse, lift, next, look, isMark, isName, isSome, demand, require, expect, bracket, isIndex, Used, known, readKnown, readIndex, readString}
+use Rattle.language.specs.Syntax.{Name, Spans, point, span}
+use Rattle.language.specs.Reader.{Reader, _>>=_, give, refuse, lift, next, look, isMark, isName, demand, require, expect, bracket, isIndex, known, readKnown, readIndex, readString}
 use Rattle.language.specs.Formulas.{isSum}
 use Rattle.language.specs.Declarations.{isIn}
 use Rattle.language.specs.Store.{Store, scopeOf, Portion, portionBy, Bound, setAt, elementOf, positionRun, accept}

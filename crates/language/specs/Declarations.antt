@@ -1,19 +1,17 @@
 -- Document 01, "Grammar": declarations stand in the order of the six words, each at most once: word, comma-separated list, `;`.
 -- A name is usable after its own list entry has ended. Assumes nothing.
-use mathlib.Core.Bool.{Bool, true, false, cond, _&&_, _||_, not}
-use mathlib.Core.Option.{Option, none, some}
+use mathlib.Core.Bool.{Bool, true, false, _&&_, not}
 use mathlib.Core.List.{List, [], _∷_, _++_}
 use Prim.Native.Nat.{ℕ, zero, suc, _-_}
-use lib.Dec.{eqb, leb, ltb}
+use lib.Dec.{eqb, ltb}
 use lib.ListN.{length}
 use Rattle.rules.specs.declared.Refusal.the-variants.{Misplaced, BadName, Full}
 use Rattle.rules.specs.Limits.{tokenLimit, nestingLimit, nameLimit, indexLimit}
 use Rattle.lexer.specs.Marks.{comma, semicolon, equals, opens, closes, opensList, closesList, indexWord, integerWord, realWord, formulaWord, discreteWord, continuousWord}
-use Rattle.lexer.specs.Text.{Token}
-use Rattle.language.specs.Syntax.{Formula, Spans, Name, Sort, point}
+use Rattle.language.specs.Syntax.{Spans, Name, Sort, point}
 use Rattle.language.specs.Syntax
 use Rattle.language.specs.Reader.{Reader, _>>=_, give, refuse, next, look, isMark, isSome, demand, require, expect, bracket, nameOf, Titled, Used, find, readKnown, readIndex}
-use Rattle.language.specs.Formulas.{formulaAt, Entry, entryOf, spanOf, inDomain}
+use Rattle.language.specs.Formulas.{formulaAt, entryOf, spanOf, inDomain}
 
 -- a new name: 3 if there is none, 4 if it is declared again, 6 if it is the 65th
 unfoldable pub newName : List Name → Reader Titled

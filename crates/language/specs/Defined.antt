@@ -2,7 +2,7 @@
 -- floor (specs/Written). Here is said where nothing of that occurs: every index that is read is bound; every subscript and
 -- every limit is whole; every name that is read lies in its declared domain and has a value. Assumes nothing.
 use mathlib.Core.Path.{_≡_}
-use mathlib.Core.Option.{Option, none, some}
+use mathlib.Core.Option.{Option, some}
 use mathlib.Core.List.{List, [], _∷_}
 use Prim.Native.Nat.{ℕ}
 use lib.IntN.{ℤ}

@@ -1,29 +1,33 @@
 -- Demand 3: for every assignment of numbers to an accepted model's declared variables, each row of its listing has the written
 -- values of its constraint, row M+1 that of the objective, rows and bounds allow exactly the assignments that the text
--- allows, and variables and rows are numbered one to one. The statement. Assumes nothing.
+-- allows, and variables and rows are numbered one to one; and the output bytes are those of no other lines. The statement.
+-- Assumes nothing.
 use mathlib.Core.Path.{_≡_}
 use mathlib.Core.Logic.{_↔_, _⊎_}
 use mathlib.Core.Bool.{Bool, true, false, cond}
 use mathlib.Core.Option.{Option, none, some}
 use mathlib.Core.List.{List, [], _∷_, _++_, map}
-use Prim.Native.Nat.{ℕ, zero, suc, _-_, _<_, _≤_}
+use Prim.Native.Nat.{ℕ, suc, _-_, _<_, _≤_}
 use lib.Dec.{eqb, ltb}
 use lib.ListN.{length, getD, replicate}
 use lib.IntN.{ℤ, pos, _+ℤ_}
 use lib.Signed.{_≤ℤ_}
 use Rattle.language.specs.Listed.{At, In, Distinct}
-use Rattle.value.specs.Rational.{ℚ, 𝟎, _⊕_, _⊗_, whole, _⊑_}
+use Rattle.language.specs.All.{All}
+use Rattle.value.specs.Rational.{ℚ, 𝟎, _⊕_, _⊗_, _⊑_}
 use Rattle.value.specs.Number.{exactly}
-use Rattle.language.specs.Outcome.{Outcome, done}
+use Rattle.language.specs.Outcome.{done}
 use Rattle.value.specs.declared.Value.{Value}
 use Rattle.value.specs.Decimal.{zeroValue, isZero}
 use Rattle.language.specs.Scope.{Scope}
-use Rattle.language.specs.Syntax.{Constraint, Relation, atMost, atLeast, equal, Side, bare, form, Name}
+use Rattle.language.specs.Syntax.{Relation, atMost, atLeast, equal, Side, bare, form, Name}
 use Rattle.language.specs.Model.{Model, readModel, start, Declaration, discretes, continuouses}
 use Rattle.language.specs.Numbering.{Variable, Source, Entry, Lp, lessRows, rows, lowerOf, upperOf, flips, isEqual}
 use Rattle.language.specs.Listing.{Line, lpLine, rowLine, varLine, colLine, endLine, rightOf, linesOf, bytesOfAll}
-use Rattle.language.specs.Answer.{Answer, answer, Accepted}
+use Rattle.language.specs.Answer.{answer, Accepted}
 use Rattle.language.specs.Written.{negatedIf, value, subscripts, formValue, scopeAt, Written, Declared}
+use Rattle.language.specs.Defined.{DefinedModel}
+use Rattle.language.specs.Proper.{Proper}
 
 -- ---- what is written
 
@@ -269,16 +273,16 @@ pub record Keeps (m : Model) (p : Lp) : Type 0 where
   -- the same assignments
   pub allows : (x : Variable → ℚ) → Feasible (linesOf m p) (byNumber p x) ↔ Meets m x
 
--- a text whose call gives number 0 has a model and a problem, which is what its listing prints, and the problem keeps the meaning
+-- a text whose call gives number 0 has a model, in which every written value is defined, and a problem, which keeps the model's
+-- meaning; its lines are printed, and they are the one list of proper lines with the output bytes
 pub record Demand3 (text : List ℕ) (n : ℕ) : Type 0 where
   pub found : Accepted
   pub reads : readModel text ≡ done (found .model)
-  pub prints : (answer text n) .buffer ≡ bytesOfAll (linesOf (found .model) (found .problem)) ++ replicate (n - (answer text n) .size) 0
+  pub defined : DefinedModel (found .model)
   pub keeps : Keeps (found .model) (found .problem)
+  pub proper : All Proper (linesOf (found .model) (found .problem))
+  pub prints : (answer text n) .buffer ≡ bytesOfAll (linesOf (found .model) (found .problem)) ++ replicate (n - (answer text n) .size) 0
+  pub once : (ls : List Line) → All Proper ls → (a : ℕ) → bytesOfAll ls ++ replicate a 0 ≡ (answer text n) .buffer → ls ≡ linesOf (found .model) (found .problem)
 
 abbrev pub Statement : Type 0
 Statement = (text : List ℕ) (n : ℕ) → (answer text n) .number ≡ 0 → Demand3 text n
-
--- an assignment of whole numbers, as one of fractions
-abbrev pub wholes : (Variable → ℤ) → Variable → ℚ
-wholes z v = whole (z v)

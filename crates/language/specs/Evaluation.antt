@@ -1,15 +1,14 @@
 -- Document 01, "Meaning": evaluation goes left to right; every value fits, or the reading is refused. Assumes nothing.
-use mathlib.Core.Bool.{Bool, true, false, cond, _&&_}
+use mathlib.Core.Bool.{Bool, true, false, _&&_}
 use mathlib.Core.Option.{Option, none, some}
 use mathlib.Core.List.{List, [], _∷_}
-use Prim.Native.Nat.{ℕ, zero, suc, _+_, _-_}
+use Prim.Native.Nat.{ℕ}
 use lib.Dec.{leb, ltb}
 use lib.ListN.{length}
 use lib.IntN.{ℤ, pos, _+ℤ_, _-ℤ_}
 use lib.Signed.{leZ}
 use Rattle.language.specs.Ranges.{upFrom}
 use Rattle.value.specs.Integer.{up}
-use Rattle.rules.specs.declared.Refusal.{Refusal}
 use Rattle.rules.specs.declared.Refusal.the-variants.{BadIndex, NotWhole, Outside, Missing}
 use Rattle.language.specs.Outcome.{Outcome, done, refused, _>>=_, orRefuse, fitting, wholeNumber, check}
 use Rattle.rules.specs.Limits.{runLimit, indexLimit}

@@ -1,10 +1,9 @@
 -- Document 01, "Grammar": formulas and domains. Each reader takes the reader below it as an argument; the nesting ties them.
 -- A loop has as many turns as a text may have tokens. Assumes nothing.
-use mathlib.Core.Bool.{Bool, true, false, cond, _&&_, _||_, not}
-use mathlib.Core.Option.{Option, none, some}
-use mathlib.Core.List.{List, [], _∷_}
+use mathlib.Core.Bool.{Bool, true, false, cond, _||_}
+use mathlib.Core.List.{List}
 use Prim.Native.Nat.{ℕ, zero, suc, _-_}
-use lib.Dec.{eqb, leb}
+use lib.Dec.{eqb}
 use Rattle.rules.specs.declared.Refusal.the-variants.{Misplaced, Full}
 use Rattle.rules.specs.Limits.{tokenLimit, nestingLimit, indexLimit}
 use Rattle.lexer.specs.Marks.{plusSign, minusSign, timesSign, comma, atMost, opens, closes, opensList, closesList, sumWord}
@@ -12,7 +11,7 @@ use Rattle.lexer.specs.Text.{Token, Kind}
 use Rattle.lexer.specs.Text
 use Rattle.language.specs.Syntax.{Formula, Formulas, Spans, Name, Sort, more, point, span, datum, times, plus, minus, sum}
 use Rattle.language.specs.Syntax
-use Rattle.language.specs.Reader.{Reader, _>>=_, give, refuse, next, look, isMark, require, expect, bracket, Used, known, readIndex}
+use Rattle.language.specs.Reader.{Reader, _>>=_, give, refuse, next, look, isMark, expect, bracket, Used, known, readIndex}
 
 -- ---- formulas
 

@@ -1,18 +1,18 @@
 -- Document 01, "Grammar": linear forms and sigmas. Assumes nothing.
 use mathlib.Core.Bool.{Bool, true, false, cond, _&&_}
 use mathlib.Core.Option.{Option, none, some}
-use mathlib.Core.List.{List, [], _∷_}
+use mathlib.Core.List.{List}
 use Prim.Native.Nat.{ℕ, zero, suc}
 use lib.Dec.{eqb}
 use Rattle.rules.specs.declared.Refusal.the-variants.{Misplaced, Full}
 use Rattle.rules.specs.Limits.{tokenLimit}
 use Rattle.lexer.specs.Marks.{minusSign, timesSign, comma, closes, sigmaWord}
-use Rattle.lexer.specs.Text.{Token, Kind}
+use Rattle.lexer.specs.Text.{Kind}
 use Rattle.lexer.specs.Text
-use Rattle.language.specs.Syntax.{Formula, Formulas, Spans, Name, Sort, Form, Term, also, factor, variable, sigma, Side, bare, form}
+use Rattle.language.specs.Syntax.{Spans, Name, Sort, Form, Term, also, factor, variable, sigma, Side, bare, form}
 use Rattle.language.specs.Syntax
 use Rattle.language.specs.Reader.{Reader, _>>=_, give, refuse, next, look, isMark, expect, Used, find}
-use Rattle.language.specs.Formulas.{isSum, Signed, readSign, partOf, headOf, subscriptsOf, primaryBy, insideAt, formulaAt}
+use Rattle.language.specs.Formulas.{isSum, readSign, partOf, headOf, subscriptsOf, primaryBy, insideAt, formulaAt}
 
 -- what a token begins in a linear term
 pub data Head : Type 0 where

@@ -5,7 +5,7 @@ use mathlib.Core.List.{List, [], _∷_, _++_, map}
 use Prim.Native.Nat.{ℕ, zero, suc}
 use lib.Dec.{ltb}
 use lib.ListN.{length, getD}
-use lib.IntN.{ℤ, pos}
+use lib.IntN.{ℤ}
 use Rattle.value.specs.declared.Value.{Value}
 use Rattle.value.specs.Decimal.{zeroValue, isZero}
 use Rattle.value.specs.Printed.{natural, printed, printedWhole}

@@ -2,12 +2,12 @@
 use mathlib.Core.Bool.{Bool, true, false, cond, _&&_}
 use mathlib.Core.Option.{Option, none, some}
 use mathlib.Core.List.{List, [], _∷_, _++_, map}
-use Prim.Native.Nat.{ℕ, zero, suc}
+use Prim.Native.Nat.{ℕ, suc}
 use lib.Dec.{eqb, ltb}
 use lib.ListN.{length, getD, set, replicate}
 use lib.IntN.{ℤ}
 use Rattle.rules.specs.declared.Refusal.the-variants.{Full, Outside}
-use Rattle.language.specs.Outcome.{Outcome, done, refused, _>>=_, orRefuse, fitting, check}
+use Rattle.language.specs.Outcome.{Outcome, done, _>>=_, orRefuse, fitting, check}
 use Rattle.rules.specs.Limits.{variableLimit, rowLimit}
 use Rattle.value.specs.declared.Value.{Value}
 use Rattle.value.specs.Decimal.{zeroValue, oneValue, negate, sumOf, productOf, isAtMost}

@@ -1,6 +1,6 @@
 -- Document 01, "Meaning" and "Order": the store of the data, what a portion's runs and numbers do with it, and Missing data.
 -- Assumes nothing.
-use mathlib.Core.Bool.{Bool, true, false, cond, _&&_, not}
+use mathlib.Core.Bool.{Bool, true, false, _&&_, not}
 use mathlib.Core.Option.{Option, none, some}
 use mathlib.Core.List.{List, [], _∷_}
 use Prim.Native.Nat.{ℕ, zero, suc}
@@ -8,7 +8,7 @@ use lib.Dec.{eqb, ltb}
 use lib.ListN.{length}
 use lib.IntN.{ℤ, pos}
 use Rattle.rules.specs.declared.Refusal.the-variants.{Missing, Full}
-use Rattle.language.specs.Outcome.{Outcome, done, refused, _>>=_, check}
+use Rattle.language.specs.Outcome.{Outcome, done, _>>=_, check}
 use Rattle.rules.specs.Limits.{dataLimit}
 use Rattle.value.specs.declared.Value.{Value}
 use Rattle.language.specs.Syntax.{Name, Sort, Spans, point, span}

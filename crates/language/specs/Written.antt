@@ -4,8 +4,7 @@ use mathlib.Core.Path.{_≡_}
 use mathlib.Core.Bool.{Bool, true, false}
 use mathlib.Core.Option.{Option, none, some}
 use mathlib.Core.List.{List, [], _∷_, _++_}
-use Prim.Native.Nat.{ℕ, zero, suc}
-use lib.IntN.{ℤ, pos}
+use lib.IntN.{ℤ}
 use Rattle.language.specs.Listed.{At, In}
 use Rattle.language.specs.Ranges.{range}
 use Rattle.value.specs.Rational.{ℚ, 𝟎, _⊕_, _⊗_, neg, whole, floor, ceiling, _⊑_}
