@@ -1,6 +1,6 @@
 -- Demand 3 for every text and buffer length: where the answer's number is 0, the listing keeps the model's meaning, and its bytes
 -- are those of no other lines. Assumes nothing.
-use mathlib.Core.Path.{_≡_, refl, sym, _∙_, ap, subst}
+use mathlib.Core.Path.{_≡_, refl, sym, _∙_, ap}
 use mathlib.Core.List.{List, _++_}
 use Prim.Native.Nat.{ℕ, _-_}
 use native.Mathlib.Omega.{arith}
@@ -11,12 +11,9 @@ use Rattle.rules.specs.declared.Refusal.the-variants.{LongText, StrangeByte, Mi
 use Rattle.rules.specs.Refusals.{refusalNumber}
 use Rattle.language.specs.All.{All}
 use Rattle.language.specs.Outcome.{Outcome, done, refused, after, after-check, done-injective}
-use Rattle.language.specs.Model.{readModel}
-use Rattle.language.specs.Numbering.{generate}
 use Rattle.language.specs.Listing.{linesOf, bytesOfAll}
-use Rattle.language.specs.Answer.{Answer, Accepted, accepted, listingOf, listing, respond, answer}
+use Rattle.language.specs.Answer.{Answer, accepted, accepted-of, listingOf, listing, respond, answer}
 use Rattle.language.specs.Proper.{Proper}
-use Rattle.language.specs.Defined.{DefinedModel}
 use Rattle.language.specs.Demand3.{Demand3, Statement}
 use Rattle.language.proofs.Kept.{keeps}
 use Rattle.language.proofs.DefinedText.{accepted-defined}
@@ -38,7 +35,7 @@ numbered Missing e = omega arith
 numbered LongListing e = omega arith
 
 pub kept : Statement
-unfolding answer listing accepted listingOf respond
+unfolding answer listing listingOf respond
 kept text n e = go (listing text n) refl e
   where
     go : (o : Outcome (List ℕ)) → listing text n ≡ o → (respond n o) .number ≡ 0 → Demand3 text n
@@ -46,22 +43,20 @@ kept text n e = go (listing text n) refl e
     go (done bytes) eo e =
         after (accepted text) _ bytes eo λ a ea g.
         after-check LongListing (length (listingOf a)) (leb (length (listingOf a)) n) _ bytes g λ _ g.
-        after (readModel text) _ a ea λ m rm h.
-        after (generate m) _ a h λ p gp h.
-        let same : a ≡ record { model = m; problem = p } = sym (done-injective h) in
-        let printed : bytes ≡ bytesOfAll (linesOf m p) = sym (done-injective g) ∙ ap listingOf same in
+        let of = accepted-of text a ea in
+        let proper : All Proper (linesOf (a .model) (a .problem)) = accepted-proper text a ea in
+        let printed : bytes ≡ bytesOfAll (linesOf (a .model) (a .problem)) = sym (done-injective g) in
         let responds : answer text n ≡ respond n (done bytes) = ap (respond n) eo in
-        let proper : All Proper (linesOf m p) = subst (λ (a : Accepted). All Proper (linesOf (a .model) (a .problem))) same (accepted-proper text a ea) in
-        let prints : (answer text n) .buffer ≡ bytesOfAll (linesOf m p) ++ replicate (n - (answer text n) .size) 0 =
+        let prints : (answer text n) .buffer ≡ bytesOfAll (linesOf (a .model) (a .problem)) ++ replicate (n - (answer text n) .size) 0 =
         ap (λ (r : Answer). r .buffer) responds
         ∙ ap (λ l. l ++ replicate (n - length bytes) 0) printed
-        ∙ ap (λ (r : Answer). bytesOfAll (linesOf m p) ++ replicate (n - r .size) 0) (sym responds) in
+        ∙ ap (λ (r : Answer). bytesOfAll (linesOf (a .model) (a .problem)) ++ replicate (n - r .size) 0) (sym responds) in
         record {
-          found = record { model = m; problem = p };
-          reads = rm;
-          defined = subst (λ (a : Accepted). DefinedModel (a .model)) same (accepted-defined text a ea);
-          keeps = keeps m p gp;
+          found = a;
+          reads = of .0;
+          defined = accepted-defined text a ea;
+          keeps = keeps (a .model) (a .problem) (of .1);
           proper = proper;
           prints = prints;
-          once = λ ls h k b. printed-once-filled ls (linesOf m p) k (n - (answer text n) .size) h proper (b ∙ prints);
+          once = λ ls h k b. printed-once-filled ls (linesOf (a .model) (a .problem)) k (n - (answer text n) .size) h proper (b ∙ prints);
         }

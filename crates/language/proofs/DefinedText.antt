@@ -2,10 +2,9 @@
 use mathlib.Core.Path.{_≡_, subst}
 use mathlib.Core.List.{List}
 use Prim.Native.Nat.{ℕ}
-use Rattle.language.specs.Outcome.{done, after, done-injective}
+use Rattle.language.specs.Outcome.{done}
 use Rattle.language.specs.Model.{Model, readModel}
-use Rattle.language.specs.Numbering.{generate}
-use Rattle.language.specs.Answer.{Accepted, accepted}
+use Rattle.language.specs.Answer.{Accepted, accepted, accepted-of}
 use Rattle.language.specs.Named.{NamedStructure}
 use Rattle.language.specs.Defined.{DefinedModel}
 use Rattle.language.proofs.PhrasedModel.{structure-written}
@@ -19,8 +18,4 @@ model-named text m e =
     subst NamedStructure (r .structure-is) (structure-named (structure-written text (r .first) (r .structure-done) .writes))
 
 pub accepted-defined : (text : List ℕ) (a : Accepted) → accepted text ≡ done a → DefinedModel (a .model)
-unfolding accepted
-accepted-defined text a e =
-    after (readModel text) _ a e λ m rm e.
-    after (generate m) _ a e λ p gp e.
-    subst (λ (a : Accepted). DefinedModel (a .model)) (done-injective e) (defined m p (model-named text m rm) gp)
+accepted-defined text a e = let r = accepted-of text a e in defined (a .model) (a .problem) (model-named text (a .model) (r .0)) (r .1)

@@ -20,7 +20,6 @@ pub mod Stated
 pub mod Summed
 pub mod Lines
 pub mod Kept
-pub mod Accepted
 pub mod Valid
 pub mod ValidProblem
 pub mod ValidStore
@@ -32,10 +31,11 @@ pub mod EachNumbered
 pub mod DefinedModel
 pub mod NamedRead
 pub mod DefinedText
-pub mod Cases
-pub mod Shown
-pub mod Fields
 pub mod Parts
+pub mod Fields
 pub mod Figures
 pub mod Printing
 pub mod Lengths
+pub mod Accepted
+pub mod Cases
+pub mod Shown

@@ -1,6 +1,6 @@
 -- Every line of an accepted text's listing is proper: values fit, numbers are small, and strings and names are visible bytes.
 -- Assumes nothing.
-use mathlib.Core.Path.{_≡_, refl, subst}
+use mathlib.Core.Path.{_≡_, refl}
 use mathlib.Core.Bool.{Bool, true, false, _&&_, _||_, not}
 use mathlib.Core.Logic.{inl, inr}
 use mathlib.Core.List.{List, [], _∷_}
@@ -18,20 +18,20 @@ use Rattle.value.proofs.Reading.{literal-valid}
 use Rattle.lexer.specs.Text.{isSmall, inName, inString}
 use Rattle.language.specs.Listed.{at-map}
 use Rattle.language.specs.All.{All, all-at, in-all, all-append, all-left, all-right, all-getD, all-weaken}
-use Rattle.language.specs.Outcome.{done, after, done-injective}
+use Rattle.language.specs.Outcome.{done}
 use Rattle.language.specs.Syntax.{Name, Constraint}
 use Rattle.language.specs.Syntax
-use Rattle.language.specs.Model.{Model, readModel}
+use Rattle.language.specs.Model.{Model}
 use Rattle.language.specs.Numbering.{Variable, Row, Fact, bound, row, Entry, keep, lessRow, equalRow, Lp, lessRows, equalRows, rows, generate}
 use Rattle.language.specs.Listing.{colLine, endLine, rightOf, coefficientsOf, rowLines, varLines, columnLines, colLines, linesOf}
-use Rattle.language.specs.Answer.{Accepted, accepted}
+use Rattle.language.specs.Answer.{Accepted, accepted, accepted-of}
 use Rattle.language.specs.Valid.{ValidRow, ValidVariable, ValidFact, ValidEntry, ValidProblem}
 use Rattle.language.specs.Proper.{Visible, Text, Proper}
 use Rattle.language.specs.Demand3.{sourceOf}
 use Rattle.language.proofs.Shapes.{Spelled, Printable, tokens-shaped}
 use Rattle.language.proofs.Facts.{DataTitle, ModelFacts, model-facts}
 use Rattle.language.proofs.ValidProblem.{lower-valid, upper-valid}
-use Rattle.language.proofs.ValidText.{model-valid, problem-valid}
+use Rattle.language.proofs.ValidText.{accepted-valid}
 use Rattle.language.proofs.Kept.{keeps}
 
 -- ---- strings and names
@@ -182,9 +182,7 @@ lines-proper m p h t =
     )
 
 pub accepted-proper : (text : List ℕ) (a : Accepted) → accepted text ≡ done a → All Proper (linesOf (a .model) (a .problem))
-unfolding accepted
 accepted-proper text a e =
-    after (readModel text) _ a e λ m rm e.
-    after (generate m) _ a e λ p gp e.
-    subst (λ (a : Accepted). All Proper (linesOf (a .model) (a .problem))) (done-injective e)
-    (lines-proper m p (problem-valid m p (model-valid text m rm) gp) (texts m p (model-facts Valid text m (tokens-shaped Valid literal-valid text) rm) gp))
+    let r = accepted-of text a e in
+    lines-proper (a .model) (a .problem) (accepted-valid text a e)
+    (texts (a .model) (a .problem) (model-facts Valid text (a .model) (tokens-shaped Valid literal-valid text) (r .0)) (r .1))

@@ -5,10 +5,10 @@ use Prim.Native.Nat.{ℕ}
 use Rattle.value.specs.Decimal.{Valid}
 use Rattle.value.proofs.Reading.{literal-valid}
 use Rattle.lexer.specs.Text.{tokens}
-use Rattle.language.specs.Outcome.{done, after, done-injective}
+use Rattle.language.specs.Outcome.{done}
 use Rattle.language.specs.Model.{Model, readModel, start}
 use Rattle.language.specs.Numbering.{Lp, generate}
-use Rattle.language.specs.Answer.{Accepted, accepted}
+use Rattle.language.specs.Answer.{Accepted, accepted, accepted-of}
 use Rattle.language.specs.Literals.{AllLiterals}
 use Rattle.language.specs.Valid.{ValidScope, ValidStore, ValidProblem}
 use Rattle.language.proofs.Shapes.{AllShaped, shaped-right, tokens-shaped}
@@ -43,8 +43,4 @@ model-valid text m e =
     }
 
 pub accepted-valid : (text : List ℕ) (a : Accepted) → accepted text ≡ done a → ValidProblem (a .problem)
-unfolding accepted
-accepted-valid text a e =
-    after (readModel text) _ a e λ m rm e.
-    after (generate m) _ a e λ p gp e.
-    subst (λ (a : Accepted). ValidProblem (a .problem)) (done-injective e) (problem-valid m p (model-valid text m rm) gp)
+accepted-valid text a e = let r = accepted-of text a e in problem-valid (a .model) (a .problem) (model-valid text (a .model) (r .0)) (r .1)
