@@ -208,6 +208,7 @@ columns (suc k) j es o = go (column j 1 (suc (length es)) es o (omega arith)) (c
 abbrev OfKind : ℕ → Line → Type 0
 OfKind k l = (e : List ℕ) × (rank l ≡ k ∷ e)
 
+-- of kind k or a later one
 abbrev KindFrom : ℕ → Line → Type 0
 KindFrom k l = (i : ℕ) × (k ≤ i) × OfKind i l
 
@@ -258,8 +259,9 @@ module _ (m : Model) (p : Lp) where
       (row-lines (length (lessRows p)) true (equalRows p) (λ e h. equal-in (p .entries) e h .1) ∙ ap (λ n. numbered rowLineOf n (equalRows p)) z)
       ∙ sym (numbered-append rowLineOf 0 (lessRows p) (equalRows p))
 
-  abbrev OnIt : Line → Type 0
-  OnIt = OnColumns (length (p .variables)) 0 (suc (length (rows p)))
+  -- a `col` line of the problem
+  abbrev OnAny : Line → Type 0
+  OnAny = OnColumns (length (p .variables)) 0 (suc (length (rows p)))
 
   col-part : Columns (length (p .variables)) 0 (suc (length (rows p))) (p .objective) colPart
   col-part = columns (length (p .variables)) 0 (rows p) (p .objective)
@@ -313,7 +315,7 @@ module _ (m : Model) (p : Lp) where
             (all-numbered rowLineOf (Says m p) (rows p)
             (λ i e at. record { number = i; entry = e; at = at; number-is = refl; kind-is = refl; right-is = refl; title-is = refl; element-is = refl }))
             (all-append (Says m p) varPart _ (all-numbered (variableLine names p) (Says m p) (p .variables) of-variable)
-            (all-append (Says m p) colPart _ (all-weaken OnIt (Says m p) of-column colPart (col-part .lines)) (tt, tt))),
+            (all-append (Says m p) colPart _ (all-weaken OnAny (Says m p) of-column colPart (col-part .lines)) (tt, tt))),
       )
     where
       of-variable : (j : ℕ) (v : Variable) → At (p .variables) j v → Says m p (variableLine names p j v)
@@ -333,7 +335,7 @@ module _ (m : Model) (p : Lp) where
             element-is = refl;
           }
 
-      of-column : (l : Line) → OnIt l → Says m p l
+      of-column : (l : Line) → OnAny l → Says m p l
       of-column l c =
           let r = c .on in
           subst (Says m p) (r .is)
@@ -356,5 +358,5 @@ module _ (m : Model) (p : Lp) where
       (and-then 2 varPart _ (rising-numbered (variableLine names p) (λ i j a b h. inr (refl, inl (omega arith))) 0 (p .variables))
       (all-numbered (variableLine names p) (OfKind 2) (p .variables) (λ j v at. (suc j ∷ [], refl)))
       (and-then 3 colPart endPart (col-part .rising)
-      (all-weaken OnIt (OfKind 3) (λ l c. subst (OfKind 3) (c .on .is) (_, refl)) colPart (col-part .lines))
+      (all-weaken OnAny (OfKind 3) (λ l c. subst (OfKind 3) (c .on .is) (_, refl)) colPart (col-part .lines))
       (record { rising = rising-one endLine; kinds = ((4, omega arith, ([], refl)), tt) })))) .rising)
