@@ -11,10 +11,10 @@ use Rattle.rules.specs.declared.Refusal.the-variants.{LongText, Full}
 use Rattle.rules.specs.Limits.{byteLimit, tokenLimit}
 use Rattle.lexer.specs.Text.{Token, Kind, mark, wrong, uncounted, counted, tokensFrom, tokens}
 use Rattle.language.specs.Outcome.{done}
-use Rattle.language.specs.Syntax.{Name, Relation, atMost, atLeast, equal}
+use Rattle.language.specs.Syntax.{Name, Relation, atMost, atLeast, equal, Structure}
 use Rattle.language.specs.Reader.{Read, Reader}
 use Rattle.language.specs.Phrases
-use Rattle.language.specs.Phrases.{_at_, Wrote, Reads, relationSign, goalWord, Phrase, Writes, oneTerm, plusTerm, minusTerm, addition, difference, onePrimary, product, integer, real, declared, sumOver, nested, runOver, unsubscripted, inBrackets, lastFormula, oneFormula, between, lastEntry, oneEntry, inParentheses, noDomain, aDomain, unsigned, signed, noTerm, plusNext, minusNext, multiple, aVariable, aSigma, discrete, continuous, sigmaOver, innerSigma, innerForm, oneConstraint, alone, withSign, withFactor, withSigma, withSecond, lastConstraint, moreConstraints, noSubscripts, withDomain, lastIndex, oneIndex, indexSort, integerSort, realSort, formulaSort, discreteSort, continuousSort}
+use Rattle.language.specs.Phrases.{_at_, Wrote, Reads, relationSign, goalWord, Phrase, Writes, oneTerm, plusTerm, minusTerm, addition, difference, onePrimary, product, integer, real, declared, sumOver, nested, runOver, unsubscripted, inBrackets, lastFormula, oneFormula, between, lastEntry, oneEntry, inParentheses, noDomain, aDomain, unsigned, signed, noTerm, plusNext, minusNext, multiple, aVariable, aSigma, discrete, continuous, sigmaOver, innerSigma, innerForm, oneConstraint, alone, withSign, withFactor, withSigma, withSecond, lastConstraint, moreConstraints, noSubscripts, withDomain, lastIndex, oneIndex, indexSort, integerSort, realSort, formulaSort, discreteSort, continuousSort, WritesList, lastName, oneName, WritesOptionalList, noList, aList, WritesDeclarations, sixLists, WritesStructure, wholeModel}
 
 -- how many tokens count
 unfoldable pub live : List Token → ℕ
@@ -127,3 +127,25 @@ phrase-counts (realSort w) = phrase-counts w
 phrase-counts (formulaSort p w) = cons refl (phrase-counts w)
 phrase-counts (discreteSort w) = phrase-counts w
 phrase-counts (continuousSort w) = phrase-counts w
+
+list-counts : {word : ℕ} {names all : List Name} {l : List Token} → WritesList word names all l → Counted l
+unfolding uncounted
+list-counts (lastName p q u n w) = cons refl (join (phrase-counts w) (cons refl nil))
+list-counts (oneName p q u n w v) = cons refl (join (phrase-counts w) (cons refl (list-counts v)))
+
+optional-counts : {word : ℕ} {names all : List Name} {l : List Token} → uncounted (mark word) ≡ false → WritesOptionalList word names all l → Counted l
+optional-counts e noList = nil
+optional-counts e (aList p w) = cons e (list-counts w)
+
+declarations-count : {names : List Name} {l : List Token} → WritesDeclarations names l → Counted l
+unfolding uncounted
+declarations-count (sixLists u v w x y z) = join (optional-counts refl u) (join (optional-counts refl v) (join (optional-counts refl w) (join (optional-counts refl x) (join (optional-counts refl y) (optional-counts refl z)))))
+
+goal-counts : (m : Bool) → uncounted (mark (goalWord m)) ≡ false
+unfolding uncounted
+goal-counts true = refl
+goal-counts false = refl
+
+pub structure-counts : {s : Structure} {l : List Token} → WritesStructure s l → Counted l
+unfolding uncounted
+structure-counts (wholeModel p q r t m u v w n) = cons refl (cons refl (join (declarations-count u) (cons (goal-counts m) (cons refl (join (phrase-counts v) (phrase-counts w))))))

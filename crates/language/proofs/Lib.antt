@@ -6,4 +6,5 @@ pub mod Shapes
 pub mod Literals
 pub mod Facts
 pub mod Counted
+pub mod DataTaken
 pub mod Turns
