@@ -1,7 +1,6 @@
 -- The readers of the data section put no token back, and a portion takes at least one. Assumes nothing.
-use mathlib.Core.Path.{_≡_}
 use mathlib.Core.Bool.{Bool, true, false, cond}
-use mathlib.Core.List.{List, [], _∷_, _++_}
+use mathlib.Core.List.{List, [], _∷_}
 use Prim.Native.Nat.{ℕ, zero, suc, _≤_}
 use native.Mathlib.Omega.{arith}
 use lib.Dec.{eqb}
@@ -14,9 +13,9 @@ use Rattle.lexer.specs.Text.{Token, Kind}
 use Rattle.lexer.specs.Text
 use Rattle.language.specs.Outcome.{Outcome, done, refused}
 use Rattle.language.specs.Syntax.{Name, Spans, point, span}
-use Rattle.language.specs.Reader.{Read, Reader, _>>=_, give, refuse, lift, isMark}
+use Rattle.language.specs.Reader.{Reader, give, refuse, lift, isMark}
 use Rattle.language.specs.Store.{Store, scopeOf, Portion, Bound, positionRun, accept}
-use Rattle.language.specs.Data.{Entry, fixed, signedValue, signedEntry, entryBy, readEntry, entriesOf, orderFrom, readOrder, readNumber, eachRead, runs, subscriptedPortion, portionOf, isPoint}
+use Rattle.language.specs.Data.{fixed, signedValue, signedEntry, entryBy, readEntry, entriesOf, orderFrom, readOrder, readNumber, eachRead, runs, subscriptedPortion, portionOf, isPoint}
 use Rattle.language.specs.Phrases.{Reads}
 use Rattle.language.proofs.Taken.{gives, refuses, weaken, either, then, then-next, then-look, look-else, look-next, then-require, then-demand, then-expect, then-bracket, then-known, name-read, index-read}
 

@@ -1,10 +1,10 @@
 -- Every literal of a tree is a literal of the tokens that write it: what holds of all of these holds of all of those. Declared
 -- formulas and domains, which stand in the tree where their names were read, are the names' own. Assumes nothing.
-use mathlib.Core.Path.{_≡_, refl, sym, subst}
-use mathlib.Core.List.{List, [], _∷_, _++_}
-use Prim.Native.Nat.{ℕ, zero, suc}
+use mathlib.Core.Path.{subst}
+use mathlib.Core.List.{List}
+use Prim.Native.Nat.{ℕ}
 use Rattle.value.specs.declared.Value.{Value}
-use Rattle.lexer.specs.Text.{Token, Kind}
+use Rattle.lexer.specs.Text.{Token}
 use Rattle.language.specs.Syntax.{Formula, Formulas, Spans, Form, Term, Side, Constraint, Sort, Name, Structure, plus, minus, times, datum, sum, more, point, span, also, factor, variable, sigma, bare, form}
 use Rattle.language.specs.Syntax
 use Rattle.language.specs.Phrases

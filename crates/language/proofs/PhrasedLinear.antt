@@ -1,23 +1,22 @@
 -- Whatever the readers of linear forms give was written, and a left side is a bound exactly where one variable stands without
 -- sign or factor. Assumes nothing.
-use mathlib.Core.Path.{_≡_, refl, sym, _∙_, ap, subst}
+use mathlib.Core.Path.{_≡_, refl, sym, subst}
 use mathlib.Core.Bool.{Bool, true, false, cond, _&&_}
 use mathlib.Core.Option.{Option, none, some}
 use mathlib.Core.Logic.{_↔_}
-use mathlib.Core.List.{List, [], _∷_, _++_, append-nil}
+use mathlib.Core.List.{List, _∷_, _++_, append-nil}
 use Prim.Native.Nat.{ℕ, zero, suc}
 use native.Mathlib.Omega.{arith}
 use lib.Dec.{eqb}
 use borrow.Author.Tests.{eqb-true}
-use Rattle.rules.specs.declared.Refusal.the-variants.{Misplaced}
-use Rattle.rules.specs.Limits.{tokenLimit, nestingLimit}
-use Rattle.lexer.specs.Marks.{minusSign, timesSign, comma, closes, sigmaWord}
+use Rattle.rules.specs.Limits.{tokenLimit}
+use Rattle.lexer.specs.Marks.{minusSign, timesSign, sigmaWord}
 use Rattle.lexer.specs.Text.{Token, Kind, mark, name}
 use Rattle.lexer.specs.Text
-use Rattle.language.specs.Syntax.{Formula, Formulas, Spans, Name, Sort, Form, Term, also, factor, Side, bare, form}
+use Rattle.language.specs.Syntax.{Formula, Formulas, Spans, Name, Sort, Form, Term, also, factor, bare, form}
 use Rattle.language.specs.Syntax
-use Rattle.language.specs.Reader.{Reader, Read, _>>=_, give, refuse, isMark, expect, Used, find}
-use Rattle.language.specs.Formulas.{isSum, Signed, readSign, subscriptsOf, primaryBy, insideAt, formulaAt}
+use Rattle.language.specs.Reader.{Reader, _>>=_, give, isMark, expect, Used, find}
+use Rattle.language.specs.Formulas.{isSum, Signed, subscriptsOf, primaryBy, insideAt, formulaAt}
 use Rattle.language.specs.Linear.{Head, headBySort, headByName, headBy, linearTerm, linearTerms, Linear, linearOf, noSigma, plainForm, bodyOf, sigmaAt, linearAt, sideOfTerm, sideOf}
 use Rattle.language.specs.Linear
 use Rattle.language.specs.Phrases

@@ -2,24 +2,22 @@
 use mathlib.Core.Path.{_≡_, refl, sym, _∙_, ap, subst}
 use mathlib.Core.Bool.{Bool, true, false, cond, _&&_, _||_, not}
 use mathlib.Core.Option.{Option, none, some}
-use mathlib.Core.Logic.{_⊎_, inl, inr}
+use mathlib.Core.Logic.{inl, inr}
 use mathlib.Core.List.{List, [], _∷_, _++_, append-nil}
 use Prim.Native.Nat.{ℕ, zero, suc, _+_, _-_, _<_, _≤_}
 use native.Mathlib.Omega.{arith}
-use lib.Dec.{eqb, ltb}
+use lib.Dec.{eqb}
 use lib.ListN.{length}
 use borrow.Author.Tests.{eqb-true, eqb-false, ltb-true, not-true}
-use Rattle.rules.specs.declared.Refusal.the-variants.{Misplaced}
 use Rattle.rules.specs.Limits.{tokenLimit, nestingLimit, nameLimit, indexLimit, constraintLimit}
 use Rattle.lexer.specs.Marks as Marks
-use Rattle.lexer.specs.Marks.{comma, semicolon, colon, equals, opens, closes, opensList, closesList, openWord, maximizeWord, minimizeWord, indexWord, integerWord, realWord, formulaWord, discreteWord, continuousWord}
-use Rattle.lexer.specs.Text.{Token, Kind, mark, name, string, sameBytes, tokens}
+use Rattle.lexer.specs.Marks.{comma, equals, closes, opensList, maximizeWord, minimizeWord, formulaWord}
+use Rattle.lexer.specs.Text.{Token, mark, name, sameBytes, tokens}
 use Rattle.language.specs.Outcome.{done, some-injective}
-use Rattle.language.specs.Syntax.{Formula, Spans, Name, Sort, point, span, Relation, atMost, atLeast, equal, Constraint, Structure}
+use Rattle.language.specs.Syntax.{Formula, Spans, Name, Sort, point, span, Relation, atMost, atLeast, equal, Structure}
 use Rattle.language.specs.Syntax
-use Rattle.language.specs.Reader.{Reader, Read, _>>=_, give, refuse, isMark, isSome, isString, Titled, Used, find, readIndex}
-use Rattle.language.specs.Formulas.{formulaAt, Entry, entryOf, inDomain}
-use Rattle.language.specs.Linear.{sideOf}
+use Rattle.language.specs.Reader.{Reader, Read, isMark, isSome, isString, Used, find}
+use Rattle.language.specs.Formulas.{entryOf, inDomain}
 use Rattle.language.specs.Declarations.{newName, indicesOf, isIn, readDue, dueOf, subscripted, indexEntry, formulaEntry, domainEntry, entriesFrom, listOf}
 use Rattle.language.specs.Declarations
 use Rattle.language.specs.Grammar.{relationOf, readRelation, constraintOf, constraintsOf, readGoal, structure}

@@ -1,8 +1,8 @@
 -- Turn counts are never reached: a loop of the grammar gives the same with every number of turns above the number of tokens that
 -- count, for each turn takes one of them; of the data section, above the number of tokens. Assumes nothing.
 use mathlib.Core.Path.{_≡_, refl, sym, _∙_, ap, subst}
-use mathlib.Core.Bool.{Bool, true, false, cond, _||_}
-use mathlib.Core.List.{List, [], _∷_, _++_, append-nil}
+use mathlib.Core.Bool.{Bool, true, false, cond}
+use mathlib.Core.List.{List, [], _∷_, _++_}
 use Prim.Native.Nat.{ℕ, zero, suc, _+_, _<_, _≤_}
 use native.Mathlib.Omega.{arith}
 use lib.Dec.{leb}
@@ -11,9 +11,9 @@ use borrow.Author.Tests.{leb-true}
 use Rattle.rules.specs.declared.Refusal.the-variants.{LongText}
 use Rattle.rules.specs.Limits.{byteLimit, tokenLimit}
 use Rattle.lexer.specs.Marks.{timesSign, minusSign, comma, openWord}
-use Rattle.lexer.specs.Text.{Token, Kind, mark, wrong, uncounted, counted, tokensFrom, tokens}
+use Rattle.lexer.specs.Text.{Token, mark, wrong, uncounted, counted, tokensFrom, tokens}
 use Rattle.language.specs.Outcome.{Outcome, done, refused}
-use Rattle.language.specs.Syntax.{Formula, Name, Sort, Term, Form, Structure, plus, times, factor, also}
+use Rattle.language.specs.Syntax.{Formula, Name, Sort, Term, Structure, plus, times, factor, also}
 use Rattle.language.specs.Syntax
 use Rattle.language.specs.Reader.{Read, Reader, follow, _>>=_, give, passed, next, look, isMark, isName, expect, readIndex}
 use Rattle.language.specs.Formulas.{factors, termOf, isSum, negated, summands, Signed, readSign, formulaOf, insideAt, primaryBy, subscriptsOf}
