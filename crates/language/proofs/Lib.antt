@@ -2,6 +2,7 @@ pub mod Taken
 pub mod Phrased
 pub mod PhrasedLinear
 pub mod PhrasedModel
+pub mod Sides
 pub mod Shapes
 pub mod Literals
 pub mod Facts
