@@ -126,18 +126,19 @@ phrase-counts (formulaSort p w) = cons refl (phrase-counts w)
 phrase-counts (discreteSort w) = phrase-counts w
 phrase-counts (continuousSort w) = phrase-counts w
 
-list-counts : {word : ℕ} {names all : List Name} {l : List Token} → WritesList word names all l → Counted l
+names-count : {word : ℕ} {names all : List Name} {l : List Token} → WritesList word names all l → Counted l
 unfolding uncounted
-list-counts (lastName p q u n w) = cons refl (join (phrase-counts w) (cons refl nil))
-list-counts (oneName p q u n w v) = cons refl (join (phrase-counts w) (cons refl (list-counts v)))
+names-count (lastName p q u n w) = cons refl (join (phrase-counts w) (cons refl nil))
+names-count (oneName p q u n w v) = cons refl (join (phrase-counts w) (cons refl (names-count v)))
 
-optional-counts : {word : ℕ} {names all : List Name} {l : List Token} → uncounted (mark word) ≡ false → WritesOptionalList word names all l → Counted l
-optional-counts e noList = nil
-optional-counts e (aList p w) = cons e (list-counts w)
+-- with the word in front, if it stands there
+pub list-counts : {word : ℕ} {names all : List Name} {l : List Token} → uncounted (mark word) ≡ false → WritesOptionalList word names all l → Counted l
+list-counts e noList = nil
+list-counts e (aList p w) = cons e (names-count w)
 
 declarations-count : {names : List Name} {l : List Token} → WritesDeclarations names l → Counted l
 unfolding uncounted
-declarations-count (sixLists u v w x y z) = join (optional-counts refl u) (join (optional-counts refl v) (join (optional-counts refl w) (join (optional-counts refl x) (join (optional-counts refl y) (optional-counts refl z)))))
+declarations-count (sixLists u v w x y z) = join (list-counts refl u) (join (list-counts refl v) (join (list-counts refl w) (join (list-counts refl x) (join (list-counts refl y) (list-counts refl z)))))
 
 goal-counts : (m : Bool) → uncounted (mark (goalWord m)) ≡ false
 unfolding uncounted

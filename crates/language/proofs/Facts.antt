@@ -1,6 +1,5 @@
--- Facts of a structure that was read from a text: names of different spellings, constraints at different places, tables not
--- overfull, titles and spellings of their shapes, and literals of which holds what holds of all that `literalOf` gives.
--- Assumes nothing.
+-- Facts of a model that was read from a text: its names have different spellings and its constraints different places, there are
+-- not too many of them, titles and spellings have their shapes, and every literal is one of the text's. Assumes nothing.
 use mathlib.Core.Path.{_≡_, refl, sym, _∙_, ap, subst}
 use mathlib.Core.Bool.{Bool, true, false}
 use mathlib.Core.Option.{Option, none, some}

@@ -189,7 +189,7 @@ module _ (names : List Name) where
         (λ t et. last _ (entries-read n) (λ d k ws. (rw (marked _ t et) (oneEntry (t .place) (w .0) (ws .0)), omega arith)))
         (then-expect _ (λ q. gives (lastEntry q (w .0), omega arith))))
 
-  domain-read : Reads (domainOf names) (λ x. Writes names (domain x))
+  pub domain-read : Reads (domainOf names) (λ x. Writes names (domain x))
   unfolding domainOf indexLimit
   domain-read = then-bracket _ nestingLimit (λ p. weaken (entries-read _ (inside-read nestingLimit) (indexLimit - 1)) (λ d l w. inParentheses p (w .0) (omega (arith, w .1))))
 

@@ -168,7 +168,7 @@ module _ (names : List Name) where
   due-all (lastIndex {i = i} p q m) = domain-due [] i [] (all-indices (lastIndex p q m))
   due-all (oneIndex {i = i} {is = is} p q m w) = domain-due is i [] (all-indices (oneIndex p q m w))
 
-  subscripted-read : Reads (subscripted names) (λ x. Writes names (declaredDomain x))
+  pub subscripted-read : Reads (subscripted names) (λ x. Writes names (declaredDomain x))
   unfolding subscripted indexLimit
   subscripted-read =
       look-else (isMark opensList)
@@ -186,7 +186,7 @@ module _ (names : List Name) where
 
   -- ---- constraints
 
-  constraint-read : Reads (constraintOf names) (λ x. Writes names (constraint x))
+  pub constraint-read : Reads (constraintOf names) (λ x. Writes names (constraint x))
   unfolding constraintOf
   constraint-read =
       then-string λ s. then (linear-read names nestingLimit) λ x a w. then relation-read λ r l m. rw (m .1)
@@ -222,11 +222,11 @@ module _ (word : ℕ) (E : List Name → Reader Sort) (re : (names : List Name) 
       (λ e. weaken (entries-read n (with names (x .title) (x .place) s)) (λ all m y. rw (marked _ t e) (oneName (x .place) (t .place) (w .1) (w .2) v y)))
       (λ _. then-require _ _ _ (λ _ e. gives (rw (marked _ t e) (lastName (x .place) (t .place) (w .1) (w .2) v)))))
 
-  list-read : (names : List Name) → Reads (listOf (suc word) E names) (WritesOptionalList (suc word) names)
+  pub list-read : (names : List Name) → Reads (listOf (suc word) E names) (WritesOptionalList (suc word) names)
   unfolding listOf
   list-read names = look-next (isMark (suc word)) (λ t e. weaken (entries-read tokenLimit names) (λ all l w. rw (marked _ t e) (aList (t .place) w))) (gives noList)
 
-declarations-read : Reads Declarations.declarations WritesDeclarations
+pub declarations-read : Reads Declarations.declarations WritesDeclarations
 unfolding Declarations.declarations indexEntry
 declarations-read =
     then (list-read _ indexEntry (λ names. gives indexSort) []) λ u a wa.

@@ -23,7 +23,7 @@ use Rattle.language.specs.Declarations.{newName, entriesFrom}
 use Rattle.language.specs.Grammar.{structure}
 use Rattle.language.specs.Store.{Store}
 use Rattle.language.specs.Data.{orderFrom, portionOf, portionsOf}
-use Rattle.language.specs.Phrases.{_at_, WritesStructure, wholeModel, Reads, Phrase, Writes, term, primary, formTerm, sort, with}
+use Rattle.language.specs.Phrases.{_at_, WritesStructure, wholeModel, Reads, Writes, term, primary, formTerm, sort, with}
 use Rattle.language.proofs.Taken.{passed-is, expect-read, index-read, marked}
 use Rattle.language.proofs.Phrased.{signMark, sign-is, SignOf, noSign, aSign, sign-read, primary-by, inside-read}
 use Rattle.language.proofs.PhrasedModel.{new-name, structure-written}
@@ -70,6 +70,11 @@ leaves : {A : Type 0} {m : Reader A} {W : A → List Token → Type 0} → Reads
     → (l : List Token) × W (r .what) l × (live ts ≡ length l + live (r .rest))
 leaves rm h ts r e = let w = rm .reads ts r e in (w .phrase, w .writes, ap live (w .taken) ∙ h (r .what) (w .phrase) (w .writes) .passed (r .rest))
 
+-- no reader of the grammar leaves more tokens that count than it finds: all tokens of phrases, lists and structures count
+-- (`phrase-counts`, `list-counts`, `structure-counts`)
+pub steady : {A : Type 0} {m : Reader A} {W : A → List Token → Type 0} → Reads m W → ((a : A) (l : List Token) → W a l → Counted l) → (ts : List Token) (r : Read A) → m ts ≡ done r → live (r .rest) ≤ live ts
+steady rm h ts r e = omega (arith, leaves rm h ts r e .2)
+
 -- one token that counts
 expect-takes : (c : ℕ) → uncounted (mark (suc c)) ≡ false → (ts : List Token) (r : Read ℕ) → expect (suc c) ts ≡ done r → live ts ≡ suc (live (r .rest))
 expect-takes c u ts r e =
@@ -88,7 +93,7 @@ sign-takes : (t : Token) (us : List Token) → isSum t ≡ true → live (t ∷ 
 sign-takes t us e = token-takes _ (t .place) t us (sign-counts (isMark minusSign t)) (sign-is t e)
 
 sign-steady : (ts : List Token) (r : Read Signed) → readSign ts ≡ done r → live (r .rest) ≤ live ts
-sign-steady ts r e = omega (arith, leaves sign-read (λ s l w. counts w) ts r e .2)
+sign-steady ts r e = steady sign-read (λ s l w. counts w) ts r e
   where
     counts : {s : Signed} {l : List Token} → SignOf s l → Counted l
     counts noSign = nil
@@ -178,10 +183,6 @@ module _ (word : ℕ) (E : List Name → Reader Sort) (re : (names : List Name) 
 
 -- ---- in a text the loops are entered with fewer tokens that count than they have turns
 
--- no reader of a phrase leaves more tokens that count than it finds
-pub steady : {A : Type 0} {names : List Name} {m : Reader A} {x : A → Phrase} → Reads m (λ a. Writes names (x a)) → (ts : List Token) (r : Read A) → m ts ≡ done r → live (r .rest) ≤ live ts
-steady rm ts r e = omega (arith, leaves rm (λ a l w. phrase-counts w) ts r e .2)
-
 -- a text has at most as many as a loop has turns, and its `OPEN` is one of them
 pub behind-open : (text : List ℕ) (r : Read ℕ) → expect openWord (tokens text) ≡ done r → live (r .rest) < tokenLimit
 unfolding uncounted
@@ -191,14 +192,14 @@ behind-open text r e = omega (arith, live-tokens text, expect-takes _ refl (toke
 module _ (names : List Name) (ts : List Token) (fits : live ts < tokenLimit) (n : ℕ) (more : live ts < n) where
   pub any-factors : (P : Reader Formula) → Reads P (λ f. Writes names (primary f)) → termOf P ts ≡ (P >>= factors P n) ts
   unfolding termOf
-  any-factors P rp = same-then (P ts) _ _ λ x e. let a = steady rp ts x e in factors-turns names P rp tokenLimit n (x .what) (x .rest) (omega arith) (omega arith)
+  any-factors P rp = same-then (P ts) _ _ λ x e. let a = steady rp (λ f l w. phrase-counts w) ts x e in factors-turns names P rp tokenLimit n (x .what) (x .rest) (omega arith) (omega arith)
 
   pub any-summands : (T : Reader Formula) → Reads T (λ f. Writes names (term f)) → formulaOf T ts ≡ (readSign >>= λ s. T >>= λ f. summands T n (negated (s .negative) f)) ts
   unfolding formulaOf
   any-summands T rt =
       same-then (readSign ts) _ _ λ s es. same-then (T (s .rest)) _ _ λ x e.
       let a = sign-steady ts s es in
-      let b = steady rt (s .rest) x e in
+      let b = steady rt (λ f l w. phrase-counts w) (s .rest) x e in
       summands-turns names T rt tokenLimit n (negated (s .what .negative) (x .what)) (x .rest) (omega arith) (omega arith)
 
   pub any-terms : (T : Reader Term) (sigmas : Bool) → Reads T (λ t. Writes names (formTerm sigmas t))
@@ -207,7 +208,7 @@ module _ (names : List Name) (ts : List Token) (fits : live ts < tokenLimit) (n 
   any-terms T sigmas rt =
       same-then (readSign ts) _ _ λ s es. same-then (T (s .rest)) _ _ λ x e.
       let a = sign-steady ts s es in
-      let b = steady rt (s .rest) x e in
+      let b = steady rt (λ f l w. phrase-counts w) (s .rest) x e in
       ap (λ o. follow o (λ f. give (record { signed = s .what .written; form = also (s .what .negative) (x .what) f }))) (terms-turns names T sigmas rt tokenLimit n (x .rest) (omega arith) (omega arith))
 
   pub any-factored : (S : ℕ → Reader Term) (sigmas : Bool) (d : ℕ) → linearTerm names S sigmas d tokenLimit ts ≡ linearTerm names S sigmas d n ts
