@@ -14,9 +14,8 @@ use Rattle.lexer.specs.Marks.{timesSign, minusSign, comma, openWord}
 use Rattle.lexer.specs.Text.{Token, mark, wrong, uncounted, counted, tokensFrom, tokens}
 use Rattle.language.specs.Outcome.{Outcome, done, refused}
 use Rattle.language.specs.Syntax.{Formula, Name, Sort, Term, Structure, plus, times, factor, also}
-use Rattle.language.specs.Syntax
 use Rattle.language.specs.Reader.{Read, Reader, follow, _>>=_, give, passed, next, look, isMark, isName, expect, readIndex}
-use Rattle.language.specs.Formulas.{factors, termOf, isSum, negated, summands, Signed, readSign, formulaOf, insideAt, primaryBy, subscriptsOf}
+use Rattle.language.specs.Formulas.{factors, termOf, isSum, negated, summands, Signed, readSign, formulaOf, insideAt, primaryBy}
 use Rattle.language.specs.Linear.{Head, headBy, linearTerm, linearTerms, linearOf}
 use Rattle.language.specs.Linear
 use Rattle.language.specs.Declarations.{newName, entriesFrom}
@@ -26,6 +25,7 @@ use Rattle.language.specs.Data.{orderFrom, portionOf, portionsOf}
 use Rattle.language.specs.Phrases.{_at_, WritesStructure, wholeModel, Reads, Writes, term, primary, formTerm, sort, with}
 use Rattle.language.proofs.Taken.{passed-is, expect-read, index-read, marked}
 use Rattle.language.proofs.Phrased.{signMark, sign-is, SignOf, noSign, aSign, sign-read, primary-by, inside-read}
+use Rattle.language.proofs.PhrasedLinear.{onHead}
 use Rattle.language.proofs.PhrasedModel.{new-name, structure-written}
 use Rattle.language.proofs.Shapes.{tokens-few}
 use Rattle.language.proofs.DataTaken.{portion-some}
@@ -134,20 +134,8 @@ module _ (names : List Name) where
   term-turns S sigmas d (suc n) zero ts h j = absurd (omega arith)
   term-turns S sigmas d (suc n) (suc k) ts h j = same-next _ _ ts λ t us e. go (headBy names sigmas (t .kind)) t us e (λ us x y. term-turns S sigmas d n k us x y)
     where
-      onHead : ℕ → Token → Head → Reader Term
-      onHead n t h = elim h as (λ _. Reader Term) [
-        | Linear.aSigma ↦ S (t .place)
-        | Linear.aVariable i c ↦ do
-          fs ← subscriptsOf d (insideAt names d) c
-          give (Syntax.variable i c fs (t .place))
-        | Linear.aPrimary ↦ do
-          f ← primaryBy names d (insideAt names d) (t .place) (t .kind)
-          p ← expect timesSign
-          r ← linearTerm names S sigmas d n
-          give (factor f p r)
-      ]
-
-      go : (h : Head) (t : Token) (us : List Token) → ts ≡ t ∷ us → ((us : List Token) → live us < n → live us < k → linearTerm names S sigmas d n us ≡ linearTerm names S sigmas d k us) → onHead n t h us ≡ onHead k t h us
+      go : (h : Head) (t : Token) (us : List Token) → ts ≡ t ∷ us → ((us : List Token) → live us < n → live us < k → linearTerm names S sigmas d n us ≡ linearTerm names S sigmas d k us)
+          → onHead names S d (linearTerm names S sigmas d n) (t .place) (t .kind) h us ≡ onHead names S d (linearTerm names S sigmas d k) (t .place) (t .kind) h us
       go Linear.aSigma t us e ih = refl
       go (Linear.aVariable i c) t us e ih = refl
       go Linear.aPrimary t us e ih =
