@@ -30,6 +30,10 @@ module _ (e : Element) where
   unfolding listOf
   length-few = simp length-take (omega arith)
 
+  pub length-within : length (listOf e) ≤ e .count
+  unfolding listOf
+  length-within = simp length-take (omega arith)
+
   -- position i, where `count` goes beyond it
   pub number-at : (i : ℕ) → i < e .count → getD (e .a ∷ e .b ∷ e .c ∷ e .d ∷ []) i (pos 0) ≡ getD (listOf e) i (pos 0)
   unfolding listOf

@@ -70,10 +70,22 @@ module _ (j k : ℤ) (a : natAbs j ≤ mantissaLimit) (b : natAbs k ≤ mantissa
   less-digit : digitOf j < digitOf k → (j +ℤ pos 1) ≤ℤ k
   less-digit h = le-of-parts (j +ℤ pos 1) k (omega (arith, digit-parts j a, digit-parts k b, add-parts j (pos 1)))
 
+pub digit-at : (l : List ℤ) (i : ℕ) → i < length l → digitOf (getD l i (pos 0)) ≡ digitAt l i
+unfolding digitAt
+digit-at [] i h = absurd (omega arith)
+digit-at (k ∷ l) zero h = refl
+digit-at (k ∷ l) (suc i) h = digit-at l i (omega arith)
+
+pub digit-past : (l : List ℤ) (i : ℕ) → length l ≤ i → 0 ≡ digitAt l i
+unfolding digitAt
+digit-past [] i h = refl
+digit-past (k ∷ l) zero h = absurd (omega arith)
+digit-past (k ∷ l) (suc i) h = digit-past l i (omega arith)
+
 -- ---- digits in a row
 
 -- the first that differs settles it
-higher : (B h l a b : ℕ) → h < a → l < B → h * B + l < a * B + b
+pub higher : (B h l a b : ℕ) → h < a → l < B → h * B + l < a * B + b
 higher B h l a b p q = omega (arith, mul-le-mul-right {m = h + 1} {n = a} B (omega arith))
 
 tail : List ℤ → List ℤ
@@ -117,7 +129,7 @@ unfolding Small
 small-all [] h = tt
 small-all (k ∷ l) h = (h 0, small-all l (λ i. h (suc i)))
 
-nearer : (k : ℕ) {m n : ℕ} → m < n → k + m < k + n
+pub nearer : (k : ℕ) {m n : ℕ} → m < n → k + m < k + n
 nearer k h = omega arith
 
 sooner-less : (bs : List ℕ) → Wide bs → (x : ℕ) (l m : List ℤ) → Small m → length m ≤ length bs → Sooner l m → behind bs x l < behind bs x m
@@ -131,7 +143,7 @@ sooner-less (b ∷ bs) w x (j ∷ l) (k ∷ m) s f (inl h) = behind-less bs (w .
 sooner-less (b ∷ bs) w x (j ∷ l) (k ∷ m) s f (inr h) =
     rw (h .0) (sooner-less bs (w .1) (x * b + digitOf k) l m (s .1) (omega arith) (h .1))
 
-three : {C : Type 0} (a b : ℕ) → (a < b → C) → (a ≡ b → C) → (b < a → C) → C
+pub three : {C : Type 0} (a b : ℕ) → (a < b → C) → (a ≡ b → C) → (b < a → C) → C
 three {C} a b f g h = go (ltb a b) refl
   where
     go : (x : Bool) → ltb a b ≡ x → C
@@ -255,17 +267,8 @@ module _ {i j : ℕ} {l m : List ℤ} (a : Keyed i l) (b : Keyed j m) where
       go false p true q = differ (λ e f. eqb-false i j p e)
       go false p false q = differ (λ e f. eqb-false i j p e)
 
--- ---- three words as one number
-
-module _ (h m l a b c : ℕ) where
-  high-less : h < a → m < 18446744073709551616 → l < 18446744073709551616 → threeWords h m l < threeWords a b c
-  unfolding threeWords
-  high-less u v w = higher 18446744073709551616 _ l _ c (higher 18446744073709551616 h m a b u v) w
-
-  middle-less : h ≡ a → m < b → l < 18446744073709551616 → threeWords h m l < threeWords a b c
-  unfolding threeWords
-  middle-less u v w = rw u (higher 18446744073709551616 _ l _ c (nearer (a * 18446744073709551616) v) w)
-
-  low-less : h ≡ a → m ≡ b → l < c → threeWords h m l < threeWords a b c
-  unfolding threeWords
-  low-less u v w = rw (u, v) (nearer ((a * 18446744073709551616 + b) * 18446744073709551616) w)
+-- the words of a key
+pub key-words : (i : ℕ) (l : List ℤ) (n a b c d h m : ℕ) → n ≡ nameDigit i → a ≡ digitAt l 0 → h ≡ paired n a → b ≡ digitAt l 1 → c ≡ digitAt l 2
+    → m ≡ paired b c → d ≡ digitAt l 3 → keyNumber (record { high = h; middle = m; low = d }) ≡ keyOf i l
+unfolding keyNumber keyOf
+key-words i l n a b c d h m p q r s t u v = cc

@@ -6,13 +6,13 @@ use mathlib.Core.Option.{Option, none, some}
 use mathlib.Core.List.{List, [], _∷_}
 use Prim.Native.Nat.{ℕ, zero, suc, _<_}
 use lib.Dec.{eqb}
-use lib.ListN.{length}
+use lib.ListN.{length, getD}
 use lib.IntN.{ℤ}
 use Rattle.store.specs.declared.Found.{Found}
 use Rattle.store.specs.declared.Found.the-variants.{At, Nothing}
 use Rattle.store.specs.Element.{Subscripts, sameElement}
 use Rattle.store.specs.Key.{nameBound, keyOf}
-use Rattle.store.specs.Table.{Sorted, rowOf, lookup}
+use Rattle.store.specs.Table.{keyAt, Sorted, rowOf, lookup}
 
 -- what has a key that is its own: a name below the bound, and an element
 pub record Keyed (i : ℕ) (l : List ℤ) : Type 0 where
@@ -51,6 +51,9 @@ unfoldable pub numberOf : ℕ → List ℤ → List Variable → Option ℕ
 numberOf i l [] = none
 numberOf i l (v ∷ vs) = elim (eqb (v .name) i && sameElement (v .element) l) [ true ↦ some 0 | false ↦ later (numberOf i l vs) ]
 
+abbrev pub variableKey : Variable → ℕ
+variableKey v = keyOf (v .name) (v .element)
+
 abbrev pub atRow : Option ℕ → Found
 atRow none = Nothing
 atRow (some j) = At j
@@ -59,4 +62,5 @@ atRow (some j) = At j
 pub record Numbered (t : List ℕ) (n : ℕ) (vs : List Variable) : Type 0 where
   pub count : n ≡ length vs
   pub sorted : Sorted t n
+  pub keys : (j : ℕ) (d : Variable) → j < n → keyAt t j ≡ variableKey (getD vs j d)
   pub agrees : (i : ℕ) (l : List ℤ) → Keyed i l → rowOf t n (keyOf i l) ≡ atRow (numberOf i l vs)

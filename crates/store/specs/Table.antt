@@ -78,10 +78,10 @@ rowSet t i k w = set (set (set (set t (i * 4) (k .high)) (i * 4 + 1) (k .middle)
 unfoldable pub appended : List ℕ → ℕ → Key → ℕ → List ℕ
 appended t n k w = cond (hasRoom t n) (rowSet t n k w) t
 
--- the words from a on and below e moved up by four
+-- the words from a on and below e moved up by four, those before as they were
 pub record Moved (t : List ℕ) (a e : ℕ) (t′ : List ℕ) : Type 0 where
   pub size : length t′ ≡ length t
-  pub before : (j : ℕ) → j < a → getD t′ j 0 ≡ getD t j 0
+  pub before : (j : ℕ) → j < a + 4 → getD t′ j 0 ≡ getD t j 0
   pub moved : (j : ℕ) → a ≤ j → j < e → getD t′ (j + 4) 0 ≡ getD t j 0
 
 -- what an insertion answers, by what the key has already
@@ -91,8 +91,8 @@ insertionOf none true = Done
 insertionOf none false = NoRoom
 
 -- the word w entered at the key k
-unfoldable pub withWord : ℕ → ℕ → Option ℕ → ℕ → Option ℕ
-withWord k w o q = cond (eqb q k) (some w) o
+unfoldable pub entered : ℕ → ℕ → (ℕ → Option ℕ) → ℕ → Option ℕ
+entered k w f q = cond (eqb q k) (some w) (f q)
 
 -- an insertion: its answer, and where it is done the table with one row more
 pub record Inserted (t : List ℕ) (n k w : ℕ) (r : Insertion) (t′ : List ℕ) : Type 0 where
@@ -101,4 +101,4 @@ pub record Inserted (t : List ℕ) (n k w : ℕ) (r : Insertion) (t′ : List �
   pub present : r ≡ Present → t′ ≡ t
   pub no-room : r ≡ NoRoom → t′ ≡ t
   pub rises : Sorted t n → r ≡ Done → Sorted t′ (n + 1)
-  pub finds : Sorted t n → r ≡ Done → (q : ℕ) → lookup t′ (n + 1) q ≡ withWord k w (lookup t n q) q
+  pub finds : Sorted t n → r ≡ Done → (q : ℕ) → lookup t′ (n + 1) q ≡ entered k w (lookup t n) q

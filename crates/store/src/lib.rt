@@ -133,7 +133,7 @@ impl Element {
 const SHIFT: i64 = 1000000000;
 
 fn digit(k: i64) -> u64
-    ensures { λ r. ⌜ r ≡ digitOf k ⌝ }
+    ensures { λ r. ⌜ (r ≡ digitOf k) × (r < 2 ^ 31) ⌝ }
 {
     if SHIFT <= k {
         return 0;
@@ -303,7 +303,7 @@ pub fn append(table: &mut [u64], n: usize, key: Key, word: u64)
 
 // Moves the words from `from` on and below `to` up by four, the last first.
 fn move_up(table: &mut [u64], from: usize, to: usize)
-    requires { ⌜ to + 4 ≤ length (now table) ⌝ }
+    requires { ⌜ (from ≤ to) × (to + 4 ≤ length (now table)) ⌝ }
     ensures { λ _. ⌜ Moved (now (table .entry)) from to (now (table .exit)) ⌝ }
 {
     let mut j = to;
