@@ -3,3 +3,4 @@ pub mod Keys
 pub mod Words
 pub mod Halving
 pub mod Rows
+pub mod Inserting

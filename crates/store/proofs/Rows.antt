@@ -77,6 +77,15 @@ module _ (t : List ℕ) (i : ℕ) (k : Key) (w : ℕ) where
     unfolding wordAt rowSet partAt
     row-word = getD-set-same third (i * 4 + 3) w 0 (simp length-set (omega arith))
 
+  -- where row i lies in the table, and where not
+  pub append-room : i < length t / 4 → rowSet t i k w ≡ appended t i k w
+  unfolding appended hasRoom
+  append-room h = rw (lt-ltb i (length t / 4) h)
+
+  pub append-none : length t / 4 ≤ i → t ≡ appended t i k w
+  unfolding appended hasRoom
+  append-none h = rw (le-ltb i (length t / 4) h)
+
 -- ---- words moved up
 
 pub moved-none : (t : List ℕ) (e : ℕ) → Moved t e e t
@@ -159,9 +168,9 @@ module _ (t : List ℕ) (n at k w : ℕ) (t′ : List ℕ) (g : Grown t n at k w
     grown-sorted = record {
       rising = λ p q u v. three p at
           (λ y. three q at
-            (λ z. as-less (key-before p y) (key-before q z) (s .rising p q u (omega (arith, g .within))))
-            (λ z. as-less (key-before p y) (ap (λ (j : ℕ). keyAt t′ j) z ∙ g .key) (b p y))
-            (λ z. as-less (key-before p y) (key-later q z (omega arith)) (s .rising p (q - 1) (omega arith) (omega arith))))
+          (λ z. as-less (key-before p y) (key-before q z) (s .rising p q u (omega (arith, g .within))))
+          (λ z. as-less (key-before p y) (ap (λ (j : ℕ). keyAt t′ j) z ∙ g .key) (b p y))
+          (λ z. as-less (key-before p y) (key-later q z (omega arith)) (s .rising p (q - 1) (omega arith) (omega arith))))
           (λ y. as-less (ap (λ (j : ℕ). keyAt t′ j) y ∙ g .key) (key-later q (omega arith) (omega arith)) (a (q - 1) (omega arith) (omega arith)))
           (λ y. as-less (key-later p y (omega arith)) (key-later q (omega arith) (omega arith)) (s .rising (p - 1) (q - 1) (omega arith) (omega arith)));
     }
@@ -181,9 +190,9 @@ module _ (t : List ℕ) (n at k w : ℕ) (t′ : List ℕ) (g : Grown t n at k w
         go true e = lookup-at t′ (n + 1) q grown-sorted at (omega (arith, g .within)) (g .key ∙ sym (eqb-true q k e)) ∙ ap some (g .word)
         go false e = ⊎-elim
             (λ r. three (r .0) at
-              (λ y. lookup-at t′ (n + 1) q grown-sorted (r .0) (omega (arith, r .1)) (key-before (r .0) y ∙ r .2) ∙ ap some (word-before (r .0) y) ∙ sym (lookup-at t n q s (r .0) (r .1) (r .2)))
-              (λ y. later r (omega arith))
-              (λ y. later r (omega arith)))
+            (λ y. lookup-at t′ (n + 1) q grown-sorted (r .0) (omega (arith, r .1)) (key-before (r .0) y ∙ r .2) ∙ ap some (word-before (r .0) y) ∙ sym (lookup-at t n q s (r .0) (r .1) (r .2)))
+            (λ y. later r (omega arith))
+            (λ y. later r (omega arith)))
             (λ f. lookup-none t′ (n + 1) q (grown-none q (eqb-false q k e) f) ∙ sym (lookup-none t n q f))
             (row-or-none t q n)
           where

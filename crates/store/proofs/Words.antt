@@ -96,5 +96,6 @@ unpacked-packed v a b = rw (le-leb (v .s) 6 b) (λ i. record { m = whole i; s = 
   where
     whole : pos ((digitOf (v .m) * 8 + v .s) / 8) -ℤ pos 1000000000 ≡ v .m
     whole = moved-back ((digitOf (v .m) * 8 + v .s) / 8) (v .m) (omega (arith, digit-parts (v .m) a))
+
     scale : (digitOf (v .m) * 8 + v .s) % 8 ≡ v .s
     scale = omega arith
