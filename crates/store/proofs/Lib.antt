@@ -4,3 +4,4 @@ pub mod Words
 pub mod Halving
 pub mod Rows
 pub mod Inserting
+pub mod Held

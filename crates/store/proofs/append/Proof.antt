@@ -1,11 +1,9 @@
+-- `store::append` meets its contract. Assumes nothing.
 use mathlib.Core.Path.{_∙_}
 use Rattle.store.proofs.Rows.{append-room, append-none}
 use borrow.Author.Needs.{needs}
 use Rattle.store.proofs.append.Statement.{statement}
 use Rattle.store.proofs.append.Tie as tie
-use Rattle.store.proofs.append.Reads as reads
-use Rattle.store.proofs.append.Lts as lts
-use Rattle.store.proofs.set_row.Reads as set-row-reads
 
 set-row-requires : tie.Need-set-row-requires
 set-row-requires c κs = search needs

@@ -1,10 +1,8 @@
+-- `store::find` meets its contract. Assumes nothing.
 use Rattle.store.proofs.Halving.{finds-taken, finds-free}
 use borrow.Author.Needs.{needs}
 use Rattle.store.proofs.find.Statement.{statement}
 use Rattle.store.proofs.find.Tie as tie
-use Rattle.store.proofs.find.Reads as reads
-use Rattle.store.proofs.find.Lts as lts
-use Rattle.store.proofs.locate.Reads as locate-reads
 
 locate-requires : tie.Need-locate-requires
 locate-requires c κs = search needs

@@ -1,14 +1,10 @@
+-- `store::insert` meets its contract. Assumes nothing.
 use Prim.Native.Nat.{_≤_}
 use native.Mathlib.Omega.{arith}
 use Rattle.store.proofs.Inserting.{insert-present, insert-no-room, free-within, insert-done}
 use borrow.Author.Needs.{needs}
 use Rattle.store.proofs.insert.Statement.{statement}
 use Rattle.store.proofs.insert.Tie as tie
-use Rattle.store.proofs.insert.Reads as reads
-use Rattle.store.proofs.insert.Lts as lts
-use Rattle.store.proofs.locate.Reads as locate-reads
-use Rattle.store.proofs.move_up.Reads as move-up-reads
-use Rattle.store.proofs.set_row.Reads as set-row-reads
 
 -- the place is among the rows, or behind the last
 within : (c : tie.After-known-told) → c .before .at .given .0 .0 ≤ c .before .before .before .before .before .before .args .n

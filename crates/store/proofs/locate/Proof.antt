@@ -1,12 +1,9 @@
+-- `store::locate` meets its contract. Assumes nothing.
 use mathlib.Core.Path.{sym, _∙_}
 use borrow.Author.Tests.{eqb-true, eqb-false}
 use borrow.Author.Needs.{needs}
 use Rattle.store.proofs.locate.Statement.{statement}
 use Rattle.store.proofs.locate.Tie as tie
-use Rattle.store.proofs.locate.Reads as reads
-use Rattle.store.proofs.locate.Lts as lts
-use Rattle.store.proofs.is_at.Reads as is-at-reads
-use Rattle.store.proofs.rank.Reads as rank-reads
 
 rank-requires : tie.Need-rank-requires
 rank-requires c κs = search needs

@@ -1,13 +1,11 @@
+-- `store::move_up` meets its contract. Assumes nothing.
 use mathlib.Core.Path.{_≡_}
 use Prim.Native.Nat.{_≤_}
 use native.Mathlib.Omega.{arith}
-use borrow.Author.Needs.{needs}
 use Rattle.store.specs.Table.{Moved}
 use Rattle.store.proofs.Rows.{moved-none, moved-more}
 use Rattle.store.proofs.move_up.Statement.{statement}
 use Rattle.store.proofs.move_up.Tie as tie
-use Rattle.store.proofs.move_up.Reads as reads
-use Rattle.store.proofs.move_up.Lts as lts
 
 abbrev Inv-loop : tie.InvT-loop
 Inv-loop table₀ from to j₀ table j = (from ≤ j) × (j ≤ to) × Moved table₀ j to table

@@ -1,3 +1,4 @@
+-- `store::set_row` meets its contract. Assumes nothing.
 use mathlib.Core.Path.{refl}
 use native.Mathlib.Omega.{arith}
 use lib.ListN.{length-set}
@@ -5,8 +6,6 @@ use Rattle.store.specs.Table.{rowSet}
 use borrow.Author.Needs.{needs}
 use Rattle.store.proofs.set_row.Statement.{statement}
 use Rattle.store.proofs.set_row.Tie as tie
-use Rattle.store.proofs.set_row.Reads as reads
-use Rattle.store.proofs.set_row.Lts as lts
 
 mul-table : tie.Need-mul-table
 mul-table c = search needs
