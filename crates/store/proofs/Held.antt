@@ -14,6 +14,7 @@ use lib.ListN.{length, getD, length-append, List·getD-append}
 use lib.Seq.{getD-at}
 use lib.IntN.{ℤ}
 use Rattle.store.specs.declared.Key.{Key}
+use Rattle.store.specs.declared.Found.{Found}
 use Rattle.store.specs.declared.Found.the-variants.{At, Nothing}
 use Rattle.store.specs.declared.Insertion.{Insertion}
 use Rattle.store.specs.declared.Insertion.the-variants.{Done}
@@ -45,26 +46,32 @@ pub holds-none : (t : List ℕ) → Holds t 0 []
 unfolding wordOf
 holds-none t = record { count = refl; sorted = sorted-none t; agrees = λ i l a. lookup-none t 0 (keyOf i l) (λ p h e. omega arith) }
 
-module _ (t : List ℕ) (n : ℕ) (es : List Entry) (i : ℕ) (l : List ℤ) (h : Holds t n es) (a : Keyed i l) where
-  -- what `find` answers
-  pub holds-at : (j : ℕ) → Finds t n (keyOf i l) (At j) → wordOf es i l ≡ some (wordAt t j)
+-- by the contracts of `key_of`, whose key has the number k, and of `find`, `word_at` and `insert`
+module _ (t : List ℕ) (n : ℕ) (es : List Entry) (i : ℕ) (l : List ℤ) (k : ℕ) (h : Holds t n es) (a : Keyed i l) (e : k ≡ keyOf i l) where
+  held : lookup t n k ≡ wordOf es i l
+  held = rw e (h .agrees i l a)
+
+  pub holds-at : (f : Found) (j w : ℕ) → Finds t n k f → f ≡ At j → w ≡ wordAt t j → wordOf es i l ≡ some w
   unfolding lookup wordIn
-  holds-at j f = sym (h .agrees i l a) ∙ rw (← (f .is-row (h .sorted)))
+  holds-at f j w g p q = sym held ∙ rw (← (g .is-row (h .sorted)), p, q)
 
-  pub holds-nothing : Finds t n (keyOf i l) Nothing → wordOf es i l ≡ none
+  pub holds-nothing : (f : Found) → Finds t n k f → f ≡ Nothing → wordOf es i l ≡ none
   unfolding lookup wordIn
-  holds-nothing f = sym (h .agrees i l a) ∙ rw (← (f .is-row (h .sorted)))
+  holds-nothing f g p = sym held ∙ rw (← (g .is-row (h .sorted)), p)
 
-  -- what `insert` answers: present where the list has it
-  pub holds-answer : (w : ℕ) (r : Insertion) (t′ : List ℕ) → Inserted t n (keyOf i l) w r t′ → Says r (wordOf es i l) (hasRoom t n)
-  holds-answer w r t′ f = rw (← (h .agrees i l a)) (f .answer (h .sorted))
+  -- present exactly where the list has it
+  pub holds-answer : (w : ℕ) (r : Insertion) (t′ : List ℕ) → Inserted t n k w r t′ → Says r (wordOf es i l) (hasRoom t n)
+  holds-answer w r t′ f = rw (← held) (f .answer (h .sorted))
 
-  pub holds-insert : (w : ℕ) (t′ : List ℕ) → Inserted t n (keyOf i l) w Done t′ → Holds t′ (n + 1) (record { name = i; element = l; word = w } ∷ es)
+  pub holds-insert : (w : ℕ) (r : Insertion) (t′ : List ℕ) → Inserted t n k w r t′ → r ≡ Done
+      → Holds t′ (n + 1) (record { name = i; element = l; word = w } ∷ es)
   unfolding entered
-  holds-insert w t′ f = record {
-    count = let e = h .count in omega arith;
-    sorted = f .rises (h .sorted) refl;
-    agrees = λ j m b. f .finds (h .sorted) refl (keyOf j m) ∙ rw (h .agrees j m b) (sym (entry-first (record { name = i; element = l; word = w }) es j m a b));
+  holds-insert w r t′ f d = record {
+    count = let q = h .count in omega arith;
+    sorted = f .rises (h .sorted) d;
+    agrees = λ j m b.
+        f .finds (h .sorted) d (keyOf j m)
+        ∙ rw (h .agrees j m b, e) (sym (entry-first (record { name = i; element = l; word = w }) es j m a b));
   }
 
 -- ---- variables
@@ -119,13 +126,16 @@ no-number : (o : Option ℕ) → Nothing ≡ atRow o → o ≡ none
 no-number none e = refl
 no-number (some x) e = absurd (let z : _≡_ {A = ℕ} 0 1 = cc in omega arith)
 
--- what `find` answers
-module _ (t : List ℕ) (n : ℕ) (vs : List Variable) (i : ℕ) (l : List ℤ) (h : Numbered t n vs) (a : Keyed i l) where
-  pub numbered-at : (j : ℕ) → Finds t n (keyOf i l) (At j) → numberOf i l vs ≡ some j
-  numbered-at j f = row-number (numberOf i l vs) j (f .is-row (h .sorted) ∙ h .agrees i l a)
+-- by the contracts of `key_of` and of `find`
+module _ (t : List ℕ) (n : ℕ) (vs : List Variable) (i : ℕ) (l : List ℤ) (k : ℕ) (h : Numbered t n vs) (a : Keyed i l) (e : k ≡ keyOf i l) where
+  numbered : rowOf t n k ≡ atRow (numberOf i l vs)
+  numbered = rw e (h .agrees i l a)
 
-  pub numbered-nothing : Finds t n (keyOf i l) Nothing → numberOf i l vs ≡ none
-  numbered-nothing f = no-number (numberOf i l vs) (f .is-row (h .sorted) ∙ h .agrees i l a)
+  pub numbered-at : (f : Found) (j : ℕ) → Finds t n k f → f ≡ At j → numberOf i l vs ≡ some j
+  numbered-at f j g p = row-number (numberOf i l vs) j (sym p ∙ g .is-row (h .sorted) ∙ numbered)
+
+  pub numbered-nothing : (f : Found) → Finds t n k f → f ≡ Nothing → numberOf i l vs ≡ none
+  numbered-nothing f g p = no-number (numberOf i l vs) (sym p ∙ g .is-row (h .sorted) ∙ numbered)
 
 -- the last variable's key
 pub numbered-last : (t : List ℕ) (vs : List Variable) (v : Variable) → Numbered t (length vs + 1) (vs ++ (v ∷ [])) → keyAt t (length vs) ≡ variableKey v

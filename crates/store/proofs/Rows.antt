@@ -85,6 +85,14 @@ module _ (t : List ℕ) (i : ℕ) (k : Key) (w : ℕ) where
   unfolding appended hasRoom
   append-none h = rw (le-ltb i (length t / 4) h)
 
+  pub append-size : length (appended t i k w) ≡ length t
+  unfolding appended
+  append-size = go (hasRoom t i)
+    where
+      go : (b : Bool) → length (cond b (rowSet t i k w) t) ≡ length t
+      go true = row-size
+      go false = refl
+
 -- ---- words moved up
 
 pub moved-none : (t : List ℕ) (e : ℕ) → Moved t e e t

@@ -130,7 +130,7 @@ impl Element {
 // ---- keys
 
 // What is added to a number in bounds, so that it is above zero.
-const SHIFT: i64 = 1000000000;
+const SHIFT: i64 = rules::MANTISSA_LIMIT as i64 + 1;
 
 fn digit(k: i64) -> u64
     ensures { λ r. ⌜ (r ≡ digitOf k) × (r < 2 ^ 31) ⌝ }
