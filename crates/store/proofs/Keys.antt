@@ -21,23 +21,16 @@ use Rattle.store.proofs.Elements.{same-element, element-same}
 
 -- ---- digits
 
--- the shift of a number in bounds, by its parts
-shifted : (k : ℤ) → natAbs k ≤ 999999999 → natAbs (k +ℤ pos 1000000000) + down k ≡ up k + 1000000000
-shifted (pos a) h = omega arith
-shifted (negsuc a) h = rw (le-ltb 1000000000 (suc a) (omega arith)) (omega arith)
+-- a number in bounds moved above zero, by its parts
+pub digit-parts : (k : ℤ) → natAbs k ≤ mantissaLimit → digitOf k + down k ≡ up k + 1000000000
+unfolding digitOf mantissaLimit
+digit-parts (pos a) h = simp (le-leb a 999999999 h) (omega arith)
+digit-parts (negsuc a) h = simp (le-leb (suc a) 999999999 h, le-ltb 1000000000 (suc a) (omega arith)) (omega arith)
 
 module _ (k : ℤ) where
-  pub digit-in : natAbs k ≤ mantissaLimit → natAbs (k +ℤ pos 1000000000) ≡ digitOf k
-  unfolding digitOf mantissaLimit
-  digit-in h = rw (le-leb (natAbs k) 999999999 h)
-
   pub digit-out : mantissaLimit < natAbs k → 0 ≡ digitOf k
   unfolding digitOf
   digit-out h = rw (lt-leb (natAbs k) mantissaLimit h)
-
-  pub digit-parts : natAbs k ≤ mantissaLimit → digitOf k + down k ≡ up k + 1000000000
-  unfolding mantissaLimit
-  digit-parts h = rw (← (digit-in h)) (shifted k h)
 
   pub digit-below : digitOf k < 2147483648
   unfolding mantissaLimit
@@ -48,12 +41,12 @@ module _ (k : ℤ) where
       sizes (negsuc a) h = omega arith
 
       go : (t : Bool) → leb (natAbs k) mantissaLimit ≡ t → digitOf k < 2147483648
-      go true e = let h = leb-true (natAbs k) mantissaLimit e in omega (arith, digit-parts h, sizes k h)
+      go true e = let h = leb-true (natAbs k) mantissaLimit e in omega (arith, digit-parts k h, sizes k h)
       go false e = rw (← (digit-out (leb-false (natAbs k) mantissaLimit e))) (omega arith)
 
   pub digit-above : natAbs k ≤ mantissaLimit → 0 < digitOf k
   unfolding mantissaLimit
-  digit-above h = go k h (digit-parts h)
+  digit-above h = go k h (digit-parts k h)
     where
       go : (j : ℤ) → natAbs j ≤ 999999999 → digitOf k + down j ≡ up j + 1000000000 → 0 < digitOf k
       go (pos a) h e = omega arith

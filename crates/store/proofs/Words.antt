@@ -1,10 +1,10 @@
 -- What the machine reads of signed numbers, as digits and packed values need it; a packed value is unpacked again.
 -- Assumes nothing.
-use mathlib.Core.Path.{_≡_, refl, _∙_, ap}
+use mathlib.Core.Path.{_≡_, refl}
 use mathlib.Core.Bool.{Bool, true, false, cond}
 use Prim.Native.Nat.{ℕ, suc, _+_, _-_, _*_, _/_, _%_, _^_, _<_, _≤_}
 use native.Mathlib.Omega.{arith}
-use borrow.Author.Tests.{le-ltb, ltb-true, ltb-false, le-leb, lt-leb, leb-true, leb-false}
+use borrow.Author.Tests.{ltb-true, ltb-false, le-leb, lt-leb, leb-true, leb-false}
 use lib.Dec.{ltb}
 use lib.IntN.{ℤ, pos, negsuc, natAbs, subℕ, _+ℤ_, _-ℤ_}
 use lib.Signed.{mag, leZ}
@@ -16,7 +16,7 @@ use Rattle.value.specs.declared.Value.{Value}
 use Rattle.value.specs.Integer.{up, down, by-parts, add-parts}
 use Rattle.store.specs.Key.{digitOf}
 use Rattle.store.specs.Packed.{packed, unpacked}
-use Rattle.store.proofs.Keys.{digit-in, digit-out, digit-parts, digit-below}
+use Rattle.store.proofs.Keys.{digit-out, digit-parts, digit-below}
 
 -- a signed number is read back from its bits
 pub back : {z : ℤ} → mag z < 2 ^ 63 → toZ w64 (ofZ w64 z) ≡ z
@@ -36,10 +36,6 @@ within : (k : ℤ) → leZ (pos 1000000000) k ≡ false → leZ k (negsuc 999999
 within (pos a) e f = omega (arith, leb-false 1000000000 a e)
 within (negsuc a) e f = omega (arith, leb-false 999999999 a f)
 
-above-zero : (k : ℤ) → natAbs k ≤ 999999999 → k +ℤ pos 1000000000 ≡ pos (natAbs (k +ℤ pos 1000000000))
-above-zero (pos a) h = refl
-above-zero (negsuc a) h = rw (le-ltb 1000000000 (suc a) (omega arith))
-
 module _ (k : ℤ) where
   pub digit-high : leZ (pos 1000000000) k ≡ true → 0 ≡ digitOf k
   unfolding mantissaLimit
@@ -52,7 +48,7 @@ module _ (k : ℤ) where
   -- a number in bounds, moved above zero, is its digit
   pub digit-is : leZ (pos 1000000000) k ≡ false → leZ k (negsuc 999999999) ≡ false → k +ℤ pos 1000000000 ≡ pos (digitOf k)
   unfolding mantissaLimit
-  digit-is e f = above-zero k (within k e f) ∙ ap pos (digit-in k (within k e f))
+  digit-is e f = by-parts (k +ℤ pos 1000000000) (pos (digitOf k)) (omega (arith, add-parts k (pos 1000000000), digit-parts k (within k e f)))
 
 -- a digit as the machine has it
 pub digit-read : (k : ℤ) → toZ w64 (digitOf k) ≡ pos (digitOf k)
