@@ -1,5 +1,6 @@
 // Tables that are searched by name and element: rows of four words in rising order of their keys, in a slice that the caller
 // lends. Every public function is total: it answers for any slice, any number of rows and any numbers in a struct.
+// What a table holds is said in specs/Entries.antt, and kept by the laws of proofs/Held.antt.
 ghost use mathlib.Core.Path.{_≡_};
 ghost use mathlib.Core.Bool.{true, false};
 ghost use mathlib.Core.List.{[]};
