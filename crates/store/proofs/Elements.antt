@@ -11,7 +11,8 @@ use lib.Seq.{getD-take}
 use lib.IntN.{ℤ, pos, negsuc, natAbs}
 use Rattle.rules.specs.Limits.{mantissaLimit, indexLimit}
 use Rattle.store.specs.declared.Element.{Element}
-use Rattle.store.specs.Element.{listOf, extended, Bounded, Subscripts, sameWhole, sameElement}
+use Rattle.store.specs.Element.{listOf, extended, Bounded, Subscripts}
+use Rattle.language.specs.Scope.{sameWhole, sameElement}
 
 -- ---- the list of an element
 

@@ -18,10 +18,11 @@ use Rattle.store.specs.declared.Found.{Found}
 use Rattle.store.specs.declared.Found.the-variants.{At, Nothing}
 use Rattle.store.specs.declared.Insertion.{Insertion}
 use Rattle.store.specs.declared.Insertion.the-variants.{Done}
-use Rattle.store.specs.Element.{sameElement}
+use Rattle.language.specs.Scope.{sameElement}
+use Rattle.language.specs.Numbering.{Variable, sameVariable, later, numberOf}
 use Rattle.store.specs.Key.{keyNumber, keyOf}
 use Rattle.store.specs.Table.{keyAt, wordAt, hasRoom, Sorted, rowOf, wordIn, lookup, Finds, appended, Says, entered, Inserted}
-use Rattle.store.specs.Entries.{Keyed, Entry, wordOf, Holds, Variable, later, numberOf, variableKey, atRow, Numbered}
+use Rattle.store.specs.Entries.{Keyed, Entry, wordOf, Holds, variableKey, atRow, Numbered}
 use Rattle.store.proofs.Keys.{key-same}
 use Rattle.store.proofs.Halving.{row-none, lookup-none}
 use Rattle.store.proofs.Rows.{Grown, grown-append, key-before, last-sorted, last-row, above-last}
@@ -78,7 +79,7 @@ module _ (t : List ℕ) (n : ℕ) (es : List Entry) (i : ℕ) (l : List ℤ) (k 
 
 variable-first : (v : Variable) (vs : List Variable) (i : ℕ) (l : List ℤ) → Keyed (v .name) (v .element) → Keyed i l
     → numberOf i l (v ∷ vs) ≡ cond (eqb (keyOf i l) (variableKey v)) (some 0) (later (numberOf i l vs))
-unfolding numberOf
+unfolding numberOf sameVariable
 variable-first v vs i l a b = go (eqb (v .name) i && sameElement (v .element) l) (key-same a b)
   where
     go : (u : Bool) → u ≡ eqb (keyOf i l) (variableKey v)
@@ -99,7 +100,7 @@ later-or b (some j) n = refl
 
 number-last : (v : Variable) (vs : List Variable) (i : ℕ) (l : List ℤ) → Keyed (v .name) (v .element) → Keyed i l
     → numberOf i l (vs ++ (v ∷ [])) ≡ orElse (numberOf i l vs) (cond (eqb (keyOf i l) (variableKey v)) (some (length vs)) none)
-unfolding numberOf orElse
+unfolding numberOf orElse sameVariable
 number-last v [] i l a b = variable-first v [] i l a b
 number-last v (u ∷ vs) i l a b = go (eqb (u .name) i && sameElement (u .element) l) (number-last v vs i l a b)
   where
@@ -110,7 +111,7 @@ number-last v (u ∷ vs) i l a b = go (eqb (u .name) i && sameElement (u .elemen
     go false e = ap later e ∙ later-or (eqb (keyOf i l) (variableKey v)) (numberOf i l vs) (length vs)
 
 pub numbered-none : (t : List ℕ) → Numbered t 0 []
-unfolding numberOf
+unfolding numberOf sameVariable
 numbered-none t = record {
   count = refl;
   sorted = sorted-none t;

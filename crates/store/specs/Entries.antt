@@ -10,7 +10,9 @@ use lib.ListN.{length, getD}
 use lib.IntN.{ℤ}
 use Rattle.store.specs.declared.Found.{Found}
 use Rattle.store.specs.declared.Found.the-variants.{At, Nothing}
-use Rattle.store.specs.Element.{Subscripts, sameElement}
+use Rattle.language.specs.Scope.{sameElement}
+use Rattle.language.specs.Numbering.{Variable, numberOf}
+use Rattle.store.specs.Element.{Subscripts}
 use Rattle.store.specs.Key.{nameBound, keyOf}
 use Rattle.store.specs.Table.{keyAt, Sorted, rowOf, lookup}
 
@@ -37,19 +39,6 @@ pub record Holds (t : List ℕ) (n : ℕ) (es : List Entry) : Type 0 where
   pub agrees : (i : ℕ) (l : List ℤ) → Keyed i l → lookup t n (keyOf i l) ≡ wordOf es i l
 
 -- ---- variables
-
-pub record Variable : Type 0 where
-  pub name : ℕ
-  pub element : List ℤ
-
-abbrev pub later : Option ℕ → Option ℕ
-later none = none
-later (some j) = some (suc j)
-
--- a variable's place among the variables, counted from 0
-unfoldable pub numberOf : ℕ → List ℤ → List Variable → Option ℕ
-numberOf i l [] = none
-numberOf i l (v ∷ vs) = elim (eqb (v .name) i && sameElement (v .element) l) [ true ↦ some 0 | false ↦ later (numberOf i l vs) ]
 
 abbrev pub variableKey : Variable → ℕ
 variableKey v = keyOf (v .name) (v .element)
