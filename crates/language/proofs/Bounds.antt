@@ -1,24 +1,17 @@
--- Bounds: the largest and the smallest of the stated values say what all of them say. Assumes nothing.
-use mathlib.Core.Path.{_≡_, refl, sym, _∙_, ap, subst, subst₂}
+-- Bounds: the largest and the smallest of the stated values. Assumes nothing.
+use mathlib.Core.Path.{_≡_, refl, sym, _∙_, ap, subst}
 use mathlib.Core.Logic.{_⊎_, inl, inr}
 use mathlib.Core.Bool.{Bool, true, false, cond}
 use mathlib.Core.Option.{Option, none, some}
 use mathlib.Core.List.{List, [], _∷_}
-use Prim.Native.Nat.{ℕ, _^_}
-use native.Mathlib.Omega.{arith}
-use lib.Dec.{T, le→leb}
-use lib.IntN.{ℤ, pos, negsuc, _*ℤ_, natAbs}
-use lib.Signed.{leZ, _≤ℤ_, leZ-yes}
-use borrow.Author.Tests.{eqb-true, leb-false}
 use Rattle.value.specs.Number.{exactly}
 use Rattle.language.specs.Listed.{In, in-nil, in-cons, in-here, in-later}
-use Rattle.value.specs.Rational.{ℚ, 𝟎, _⊑_, ⊑-trans, ⊑-refl}
+use Rattle.value.specs.Rational.{_⊑_, ⊑-trans, ⊑-refl}
 use Rattle.language.specs.Outcome.{none-some, some-injective}
 use Rattle.value.specs.declared.Value.{Value}
-use Rattle.value.specs.Decimal.{isAtMost}
+use Rattle.value.specs.Decimal.{zeroValue, isAtMost}
 use Rattle.language.specs.Numbering.{Entry, picked, extreme, isAtLeast, largest, smallest}
-use Rattle.language.specs.Demand3.{BelowUpper}
-use Rattle.value.proofs.Numbers.{exactly-zero, isAtMost-yes, isAtMost-no}
+use Rattle.value.proofs.Numbers.{isAtMost-yes, isAtMost-no}
 
 -- ---- the stated values
 
@@ -54,79 +47,71 @@ picked-in f (d ∷ es) v h = go (f d) refl h (picked-in f es v)
 
 -- ---- the extreme one
 
-module _ (le : Value → Value → Bool) (P : Value → Type 0)
-    (up : (v w : Value) → le v w ≡ true → P w → P v) (down : (v w : Value) → le v w ≡ false → P v → P w) where
-  extreme-all : (l : List Value) (v : Value) → P (extreme le v l) → P v × ((w : Value) → In l w → P w)
+extreme-in : (le : Value → Value → Bool) (l : List Value) (v : Value) → In (v ∷ l) (extreme le v l)
+unfolding extreme
+extreme-in le [] v = in-here v []
+extreme-in le (u ∷ l) v = go (le v u) (extreme-in le l (cond (le v u) u v))
+  where
+    first : (t : Bool) → (cond t u v ≡ extreme le (cond (le v u) u v) l) ⊎ In l (extreme le (cond (le v u) u v) l) → In (v ∷ u ∷ l) (extreme le (cond (le v u) u v) l)
+    first true (inl e) = record { place = 1; at = e }
+    first false (inl e) = record { place = 0; at = e }
+    first true (inr h) = in-later v (u ∷ l) _ (in-later u l _ h)
+    first false (inr h) = in-later v (u ∷ l) _ (in-later u l _ h)
+
+    go : (t : Bool) → In (cond t u v ∷ l) (extreme le (cond (le v u) u v) l) → In (v ∷ u ∷ l) (extreme le (cond (le v u) u v) l)
+    go t h = first t (in-cons (cond t u v) l _ h)
+
+-- where the test decides an order, no value passes the extreme one
+module _ (le : Value → Value → Bool) (Le : Value → Value → Type 0) (yes : (v w : Value) → le v w ≡ true → Le v w) (no : (v w : Value) → le v w ≡ false → Le w v)
+    (same : (v : Value) → Le v v) (trans : (u v w : Value) → Le u v → Le v w → Le u w) where
+  extreme-all : (l : List Value) (v : Value) → Le v (extreme le v l) × ((w : Value) → In l w → Le w (extreme le v l))
   unfolding extreme
-  extreme-all [] v h = (h, λ w m. absurd (in-nil w m))
-  extreme-all (u ∷ l) v h = go (le v u) refl (extreme-all l (cond (le v u) u v) h)
+  extreme-all [] v = (same v, λ w h. absurd (in-nil w h))
+  extreme-all (u ∷ l) v = go (le v u) refl (extreme-all l (cond (le v u) u v))
     where
-      each : P u → ((w : Value) → In l w → P w) → (w : Value) → (u ≡ w) ⊎ In l w → P w
-      each pu ih w (inl k) = subst P k pu
-      each pu ih w (inr k) = ih w k
+      top : Value
+      top = extreme le (cond (le v u) u v) l
 
-      go : (t : Bool) → le v u ≡ t → P (cond t u v) × ((w : Value) → In l w → P w) → P v × ((w : Value) → In (u ∷ l) w → P w)
-      go true e r = (up v u e (r .0), λ w m. each (r .0) (r .1) w (in-cons u l w m))
-      go false e r = (r .0, λ w m. each (down v u e (r .0)) (r .1) w (in-cons u l w m))
+      each : Le u top → ((w : Value) → In l w → Le w top) → (w : Value) → (u ≡ w) ⊎ In l w → Le w top
+      each here ih w (inl e) = subst (λ x. Le x top) e here
+      each here ih w (inr h) = ih w h
 
-  all-extreme : (l : List Value) (v : Value) → P v → ((w : Value) → In l w → P w) → P (extreme le v l)
-  unfolding extreme
-  all-extreme [] v pv h = pv
-  all-extreme (u ∷ l) v pv h = all-extreme l (cond (le v u) u v) (go (le v u)) (λ w m. h w (in-later u l w m))
+      go : (t : Bool) → le v u ≡ t → Le (cond t u v) top × ((w : Value) → In l w → Le w top) → Le v top × ((w : Value) → In (u ∷ l) w → Le w top)
+      go true e r = (trans v u top (yes v u e) (r .0), λ w h. each (r .0) (r .1) w (in-cons u l w h))
+      go false e r = (r .0, λ w h. each (trans u v top (no v u e) (r .0)) (r .1) w (in-cons u l w h))
+
+  extreme-bounds : (l : List Value) (v w : Value) → In (v ∷ l) w → Le w (extreme le v l)
+  extreme-bounds l v w h = go (in-cons v l w h)
     where
-      go : (t : Bool) → P (cond t u v)
-      go true = h u (in-here u l)
-      go false = pv
+      go : (v ≡ w) ⊎ In l w → Le w (extreme le v l)
+      go (inl e) = subst (λ x. Le x (extreme le v l)) e (extreme-all l v .0)
+      go (inr k) = extreme-all l v .1 w k
 
-module _ (q : ℚ) where
-  lowerUp : (v w : Value) → isAtMost v w ≡ true → exactly w ⊑ q → exactly v ⊑ q
-  lowerUp v w e h = ⊑-trans (isAtMost-yes v w e) h
+-- the largest is one of them and none is above it; without any it is 0
+pub largest-in : (l : List Value) → In l (largest l) ⊎ (((v : Value) → In l v → ⊥) × (largest l ≡ zeroValue))
+unfolding largest
+largest-in [] = inr (λ v h. in-nil v h, refl)
+largest-in (v ∷ l) = inl (extreme-in isAtMost l v)
 
-  lowerDown : (v w : Value) → isAtMost v w ≡ false → exactly v ⊑ q → exactly w ⊑ q
-  lowerDown v w e h = ⊑-trans (isAtMost-no v w e) h
+pub largest-bounds : (l : List Value) (v : Value) → In l v → exactly v ⊑ exactly (largest l)
+unfolding largest
+largest-bounds [] v h = absurd (in-nil v h)
+largest-bounds (w ∷ l) v h = extreme-bounds isAtMost (λ v w. exactly v ⊑ exactly w) isAtMost-yes isAtMost-no (λ v. ⊑-refl (exactly v)) (λ u v w. ⊑-trans) l w v h
 
-  upperUp : (v w : Value) → isAtLeast v w ≡ true → q ⊑ exactly w → q ⊑ exactly v
-  upperUp v w e h = ⊑-trans h (isAtMost-yes w v e)
+-- the smallest is one of them and none is below it, where there are any
+pub smallest-none : (l : List Value) → smallest l ≡ none → (v : Value) → In l v → ⊥
+unfolding smallest
+smallest-none [] e v h = in-nil v h
+smallest-none (w ∷ l) e v h = none-some (sym e)
 
-  upperDown : (v w : Value) → isAtLeast v w ≡ false → q ⊑ exactly v → q ⊑ exactly w
-  upperDown v w e h = ⊑-trans h (isAtMost-no w v e)
+pub smallest-in : (l : List Value) (u : Value) → smallest l ≡ some u → In l u
+unfolding smallest
+smallest-in [] u e = absurd (none-some e)
+smallest-in (w ∷ l) u e = subst (In (w ∷ l)) (some-injective e) (extreme-in isAtLeast l w)
 
-  -- at least the largest: at least all; and at least 0 if there are none
-  pub largest-all : (l : List Value) → exactly (largest l) ⊑ q → (v : Value) → In l v → exactly v ⊑ q
-  unfolding largest
-  largest-all [] h v m = absurd (in-nil v m)
-  largest-all (w ∷ l) h v m = go (in-cons w l v m)
-    where
-      r : (exactly w ⊑ q) × ((v : Value) → In l v → exactly v ⊑ q)
-      r = extreme-all isAtMost (λ v. exactly v ⊑ q) lowerUp lowerDown l w h
-
-      go : (w ≡ v) ⊎ In l v → exactly v ⊑ q
-      go (inl k) = subst (λ v. exactly v ⊑ q) k (r .0)
-      go (inr k) = r .1 v k
-
-  pub largest-none : (l : List Value) → ((v : Value) → In l v → ⊥) → exactly (largest l) ⊑ q → 𝟎 ⊑ q
-  unfolding largest
-  largest-none [] no-v h = rw (← exactly-zero) h
-  largest-none (w ∷ l) no-v h = absurd (no-v w (in-here w l))
-
-  pub all-largest : (l : List Value) → (((v : Value) → In l v → ⊥) → 𝟎 ⊑ q) → ((v : Value) → In l v → exactly v ⊑ q) → exactly (largest l) ⊑ q
-  unfolding largest
-  all-largest [] z h = rw exactly-zero (z (λ v m. in-nil v m))
-  all-largest (w ∷ l) z h = all-extreme isAtMost (λ v. exactly v ⊑ q) lowerUp lowerDown l w (h w (in-here w l)) (λ v m. h v (in-later w l v m))
-
-  pub smallest-all : (l : List Value) → BelowUpper (smallest l) q → (v : Value) → In l v → q ⊑ exactly v
-  unfolding smallest
-  smallest-all [] h v m = absurd (in-nil v m)
-  smallest-all (w ∷ l) h v m = go (in-cons w l v m)
-    where
-      r : (q ⊑ exactly w) × ((v : Value) → In l v → q ⊑ exactly v)
-      r = extreme-all isAtLeast (λ v. q ⊑ exactly v) upperUp upperDown l w h
-
-      go : (w ≡ v) ⊎ In l v → q ⊑ exactly v
-      go (inl k) = subst (λ v. q ⊑ exactly v) k (r .0)
-      go (inr k) = r .1 v k
-
-  pub all-smallest : (l : List Value) → ((v : Value) → In l v → q ⊑ exactly v) → BelowUpper (smallest l) q
-  unfolding smallest
-  all-smallest [] h = tt
-  all-smallest (w ∷ l) h = all-extreme isAtLeast (λ v. q ⊑ exactly v) upperUp upperDown l w (h w (in-here w l)) (λ v m. h v (in-later w l v m))
+pub smallest-bounds : (l : List Value) (u : Value) → smallest l ≡ some u → (v : Value) → In l v → exactly u ⊑ exactly v
+unfolding smallest
+smallest-bounds [] u e v h = absurd (none-some e)
+smallest-bounds (w ∷ l) u e v h =
+    subst (λ x. exactly x ⊑ exactly v) (some-injective e)
+    (extreme-bounds isAtLeast (λ v w. exactly w ⊑ exactly v) (λ v w. isAtMost-yes w v) (λ v w. isAtMost-no w v) (λ v. ⊑-refl (exactly v)) (λ u v w h k. ⊑-trans k h) l w v h)

@@ -4,13 +4,13 @@ use mathlib.Core.Path.{_≡_, refl, sym, _∙_, ap, subst}
 use mathlib.Core.Logic.{_↔_, _⊎_, inl, inr}
 use mathlib.Core.Bool.{Bool, true, false}
 use mathlib.Core.List.{List, [], _∷_, _++_, map, append-assoc, append-nil}
-use Prim.Native.Nat.{ℕ, zero, suc, _+_}
+use Prim.Native.Nat.{ℕ, zero, suc, _+_, _<_}
 use native.Mathlib.Omega.{arith}
 use lib.Dec.{ltb}
 use lib.ListN.{length, length-map}
 use lib.IntN.{ℤ}
 use Rattle.value.specs.Number.{exactly}
-use Rattle.language.specs.Listed.{At, In, Distinct, in-nil, in-cons, in-here, in-later, distinct-cons, distinct-nil}
+use Rattle.language.specs.Listed.{At, In, in-nil, in-cons, in-here, in-later}
 use Rattle.value.specs.Rational.{ℚ, 𝟎, neg, neg-mono, neg-neg, neg-add, neg-mul, neg-zero}
 use Rattle.rules.specs.declared.Refusal.the-variants.{Full, Outside}
 use Rattle.language.specs.Outcome.{Outcome, done, _>>=_, after, after-check, some-of, done-injective}
@@ -19,16 +19,16 @@ use Rattle.value.specs.declared.Value.{Value}
 use Rattle.language.specs.Scope.{Scope, unbound}
 use Rattle.language.specs.Syntax.{Formula, Formulas, Spans, Form, Constraint, Relation, atMost, atLeast, equal, bare, form}
 use Rattle.language.specs.Evaluation.{eval, evalAll, within, over}
-use Rattle.language.specs.Written.{value, subscripts, formValue, negatedIf, InDomain, bindAll}
+use Rattle.language.specs.Written.{value, subscripts, formValue, negatedIf}
 use Rattle.language.specs.Model.{Model, start, Declaration}
 use Rattle.language.specs.Numbering.{Variable, addVariable, addVariables, numberOf, variableAt, Row, signed, gathered, Source, Entry, Fact, bound, row, flips, isEqual, factOf, rowCount, addEntry, addEntries}
-use Rattle.language.specs.Demand3.{Holds, RowMet, Written, scopeAt}
+use Rattle.language.specs.Demand3.{Holds, RowMet, Written, scopeAt, Rising}
 use Rattle.value.proofs.Numbers.{exactly-negate}
 use Rattle.language.proofs.Evaluated.{eval-done, evalAll-done}
 use Rattle.language.proofs.Gathered.{dot, numberOf-at, gathered-done, gathered-long}
 use Rattle.language.proofs.Listwise.{collect, listed, Grown, over-grown}
-use Rattle.language.proofs.Collected.{collect-in, in-collect}
-use Rattle.language.proofs.Elements.{over-in, in-over}
+use Rattle.language.proofs.Ordered.{rising-nil, rising-cons}
+use Rattle.language.proofs.Elements.{Walk, walk, walk-in, in-walk, only}
 
 -- ---- negated rows
 
@@ -107,13 +107,19 @@ of-form vs h r g s f e =
       right-value = exactly-signed (flips r) v ∙ ap (negatedIf (flips r)) (sym (eval-done g s v gv));
     }
 
--- ---- variables and entries as lists of readings
+-- ---- variables and entries as walks
 
 unfoldable pub variableFor : Declaration → Scope → List ℤ → Outcome (List Variable)
 variableFor d s e = done (record { name = d .name; element = e } ∷ [])
 
-unfoldable pub variablesOf : Scope → Declaration → Outcome (List Variable)
-variablesOf s d = listed (d .domain) s (variableFor d)
+pub variable-one : (d : Declaration) (t : Scope) (e : List ℤ) (l : List Variable) → variableFor d t e ≡ done l
+    → (v : Variable) × (v ∷ [] ≡ l) × (d .name ≡ v .name) × (e ≡ v .element)
+unfolding variableFor
+variable-one d t e l h = (record { name = d .name; element = e }, done-injective h, refl, refl)
+
+abbrev pub variables : Walk Declaration Variable
+variables =
+    record { domain = λ d. d .domain; step = variableFor; key = λ d. d .name; number = λ v. v .name; element = λ v. v .element; one = variable-one }
 
 -- a constraint with its number
 pub record Placed : Type 0 where
@@ -129,8 +135,28 @@ entryFor vs c s e = do
   f ← factOf vs (c .constraint .left) (c .constraint .relation) (c .constraint .right) s
   done (record { source = record { ordinal = c .ordinal; constraint = c .constraint; element = e }; fact = f } ∷ [])
 
-unfoldable pub entriesOf : List Variable → Scope → Placed → Outcome (List Entry)
-entriesOf vs s c = listed (c .constraint .domain) s (entryFor vs c)
+entryFor-done : (vs : List Variable) (c : Placed) (s : Scope) (e : List ℤ) (l : List Entry) → entryFor vs c s e ≡ done l
+    → (f : Fact) × (factOf vs (c .constraint .left) (c .constraint .relation) (c .constraint .right) s ≡ done f)
+    × (record { source = record { ordinal = c .ordinal; constraint = c .constraint; element = e }; fact = f } ∷ [] ≡ l)
+unfolding entryFor
+entryFor-done vs c s e l h =
+    after (factOf vs (c .constraint .left) (c .constraint .relation) (c .constraint .right) s) _ l h λ f made one.
+    (f, made, done-injective one)
+
+pub entry-one : (vs : List Variable) (c : Placed) (t : Scope) (e : List ℤ) (l : List Entry) → entryFor vs c t e ≡ done l
+    → (x : Entry) × (x ∷ [] ≡ l) × (c .ordinal ≡ x .source .ordinal) × (e ≡ x .source .element)
+entry-one vs c t e l h = let a = entryFor-done vs c t e l h in (_, a .2, refl, refl)
+
+abbrev pub entries : List Variable → Walk Placed Entry
+entries vs =
+    record {
+      domain = λ c. c .constraint .domain;
+      step = entryFor vs;
+      key = λ c. c .ordinal;
+      number = λ e. e .source .ordinal;
+      element = λ e. e .source .element;
+      one = entry-one vs;
+    }
 
 variable-grown : (d : Declaration) (t : Scope) (e : List ℤ) (a b : List Variable) → addVariable d t e a ≡ done b → Grown (variableFor d t e) a b
 unfolding addVariable variableFor
@@ -138,8 +164,8 @@ variable-grown d t e a b h =
     after-check Full (d .place) (ltb (length a) variableLimit) _ b h λ _ h.
     record { new = record { name = d .name; element = e } ∷ []; gives = refl; appended = done-injective h }
 
-pub variables-grown : (s : Scope) (ds : List Declaration) (a b : List Variable) → addVariables s ds a ≡ done b → Grown (collect (variablesOf s) ds) a b
-unfolding addVariables collect variablesOf
+pub variables-grown : (s : Scope) (ds : List Declaration) (a b : List Variable) → addVariables s ds a ≡ done b → Grown (walk variables s ds) a b
+unfolding addVariables collect
 variables-grown s [] a b e = record { new = []; gives = refl; appended = append-nil a ∙ done-injective e }
 variables-grown s (d ∷ ds) a b e =
     after (over (d .domain) s (addVariable d) a) _ b e λ c oc e.
@@ -160,8 +186,8 @@ entry-grown vs n c t e a b h =
     record { new = record { source = record { ordinal = n; constraint = c; element = e }; fact = f } ∷ []; gives = rw fd refl; appended = done-injective h }
 
 pub entries-grown : (vs : List Variable) (s : Scope) (n : ℕ) (cs : List Constraint) (a b : List Entry) → addEntries vs s n cs a ≡ done b
-    → Grown (collect (entriesOf vs s) (placed n cs)) a b
-unfolding addEntries collect entriesOf placed
+    → Grown (walk (entries vs) s (placed n cs)) a b
+unfolding addEntries collect placed
 entries-grown vs s n [] a b e = record { new = []; gives = refl; appended = append-nil a ∙ done-injective e }
 entries-grown vs s n (c ∷ cs) a b e =
     after (over (c .domain) s (addEntry vs n c) a) _ b e λ d od e.
@@ -193,20 +219,12 @@ in-placed n (b ∷ cs) (suc i) c h =
     let e : suc n + i ≡ n + suc i = omega arith in
     in-later _ (placed (suc n) cs) _ (rw e at (in-placed (suc n) cs i c h))
 
-pub distinct-placed : (n : ℕ) (cs : List Constraint) → Distinct (placed n cs)
+pub rising-placed : (n : ℕ) (cs : List Constraint) → Rising (λ (c d : Placed). c .ordinal < d .ordinal) (placed n cs)
 unfolding placed
-distinct-placed n [] = distinct-nil
-distinct-placed n (c ∷ cs) =
-    distinct-cons _ (placed (suc n) cs) (λ h. let r = placed-in (suc n) cs _ h in omega (arith, r .1)) (distinct-placed (suc n) cs)
+rising-placed n [] = rising-nil
+rising-placed n (c ∷ cs) = rising-cons _ (placed (suc n) cs) (λ d h. omega (arith, placed-in (suc n) cs d h .1)) (rising-placed (suc n) cs)
 
 -- ---- all of them
-
-pub only : {A : Type 0} (a b : A) (l : List A) → a ∷ [] ≡ l → In l b → a ≡ b
-only a b l e h = go (in-cons a [] b (rw e h))
-  where
-    go : (a ≡ b) ⊎ In [] b → a ≡ b
-    go (inl k) = k
-    go (inr k) = absurd (in-nil b k)
 
 module _ (m : Model) (vs : List Variable) where
   abbrev pub madeOf : Source → Outcome Fact
@@ -216,51 +234,28 @@ module _ (m : Model) (vs : List Variable) where
     pub written : Written m (e .source)
     pub made : madeOf (e .source) ≡ done (e .fact)
 
-  pub entryFor-done : (c : Placed) (s : Scope) (e : List ℤ) (l : List Entry) → entryFor vs c s e ≡ done l
-      → (f : Fact) × (factOf vs (c .constraint .left) (c .constraint .relation) (c .constraint .right) s ≡ done f)
-      × (record { source = record { ordinal = c .ordinal; constraint = c .constraint; element = e }; fact = f } ∷ [] ≡ l)
-  unfolding entryFor
-  entryFor-done c s e l h =
-      after (factOf vs (c .constraint .left) (c .constraint .relation) (c .constraint .right) s) _ l h λ f made one.
-      (f, made, done-injective one)
-
-  -- an entry of a constraint at one of its elements
-  entry-of : (e : Entry) (c : Placed) (k : List ℤ) (l : List Entry) → In (placed 0 (m .structure .constraints)) c → InDomain (c .constraint .domain) (start m) k
-      → entryFor vs c (bindAll (c .constraint .domain) k (start m)) k ≡ done l → In l e → Made e
-  unfolding scopeAt
-  entry-of e c k l there inside g h =
-      let a = entryFor-done c _ k l g in
-      let q = placed-in 0 (m .structure .constraints) c there in
-      let same : q .0 ≡ c .ordinal = omega (arith, q .1) in
-      subst Made (only _ e l (a .2) h)
-      (record { written = record { listed = subst (λ i. At (m .structure .constraints) i (c .constraint)) same (q .2); inside = inside }; made = a .1 })
-
-  of-entry : (o : Source) (l : List Entry) → entryFor vs (record { ordinal = o .ordinal; constraint = o .constraint }) (bindAll (o .constraint .domain) (o .element) (start m)) (o .element) ≡ done l
-      → (f : Fact) × (madeOf o ≡ done f) × In l (record { source = o; fact = f })
-  unfolding scopeAt
-  of-entry o l g =
-      let a = entryFor-done (record { ordinal = o .ordinal; constraint = o .constraint }) _ (o .element) l g in
-      (a .0, a .1, subst (λ l. In l (record { source = o; fact = a .0 })) (a .2) (in-here _ []))
-
   is-placed : (o : Source) → Written m o → In (placed 0 (m .structure .constraints)) (record { ordinal = o .ordinal; constraint = o .constraint })
   is-placed o w =
       let from0 : 0 + o .ordinal ≡ o .ordinal = omega arith in
       subst (λ k. In (placed 0 (m .structure .constraints)) (record { ordinal = k; constraint = o .constraint })) from0
       (in-placed 0 (m .structure .constraints) (o .ordinal) (o .constraint) (w .listed))
 
-  module _ (es : List Entry) (generated : collect (entriesOf vs (start m)) (placed 0 (m .structure .constraints)) ≡ done es) where
+  module _ (es : List Entry) (generated : walk (entries vs) (start m) (placed 0 (m .structure .constraints)) ≡ done es) where
     pub entry-made : (e : Entry) → In es e → Made e
-    unfolding entriesOf
+    unfolding scopeAt
     entry-made e h =
-        let r = collect-in (entriesOf vs (start m)) (placed 0 (m .structure .constraints)) es generated e h in
-        let i = over-in (r .source .constraint .domain) (start m) (entryFor vs (r .source)) (r .result) (r .gives) e (r .holds) in
-        entry-of e (r .source) (i .element) (i .result) (r .listed) (i .inside) (i .gives) (i .holds)
+        let w = walk-in (entries vs) (start m) (placed 0 (m .structure .constraints)) es generated e h in
+        let c = w .source in
+        let a = entryFor-done vs c _ (e .source .element) (e ∷ []) (w .gives) in
+        let q = placed-in 0 (m .structure .constraints) c (w .listed) in
+        let same : q .0 ≡ c .ordinal = omega (arith, q .1) in
+        subst Made (only _ e (e ∷ []) (a .2) (in-here e []))
+        (record { written = record { listed = subst (λ i. At (m .structure .constraints) i (c .constraint)) same (q .2); inside = w .inside }; made = a .1 })
 
     pub made-entry : (o : Source) → Written m o → (f : Fact) × (madeOf o ≡ done f) × In es (record { source = o; fact = f })
-    unfolding entriesOf
+    unfolding scopeAt
     made-entry o w =
         let c : Placed = record { ordinal = o .ordinal; constraint = o .constraint } in
-        let r = in-collect (entriesOf vs (start m)) (placed 0 (m .structure .constraints)) es generated c (is-placed o w) in
-        let i = in-over (o .constraint .domain) (start m) (entryFor vs c) (r .0) (r .1) (o .element) (w .inside) in
-        let a = of-entry o (i .0) (i .1) in
-        (a .0, a .1, r .2 _ (i .2 _ (a .2)))
+        let r = in-walk (entries vs) (start m) (placed 0 (m .structure .constraints)) es generated c (is-placed o w) (o .element) (w .inside) in
+        let a = entryFor-done vs c _ (o .element) (r .0 ∷ []) (r .1) in
+        (a .0, a .1, subst (In es) (sym (only _ (r .0) (r .0 ∷ []) (a .2) (in-here (r .0) []))) (r .2))

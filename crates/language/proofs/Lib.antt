@@ -1,11 +1,13 @@
 pub mod Evaluated
 pub mod Gathered
 pub mod Listwise
+pub mod Ordered
 pub mod Collected
 pub mod Elements
 pub mod Bounds
 pub mod Entries
 pub mod Numbered
+pub mod Stated
 pub mod Summed
 pub mod Lines
 pub mod Kept

@@ -1,14 +1,15 @@
--- The lines of a listing: a `row` line stands for each row and comes from one, a `var` line from a variable. Assumes nothing.
-use mathlib.Core.Path.{_≡_, refl, sym, _∙_, ap, subst}
+-- The lines of a listing: each says what it must, they stand in order, and each row, each variable and each coefficient of the
+-- objective has its line. Assumes nothing.
+use mathlib.Core.Path.{_≡_, refl, sym, _∙_, ap, subst, subst₂}
 use mathlib.Core.Logic.{_⊎_, inl, inr}
 use mathlib.Core.Bool.{Bool, true, false}
-use mathlib.Core.Option.{Option}
-use mathlib.Core.List.{List, [], _∷_, _++_}
-use Prim.Native.Nat.{ℕ, zero, suc, _+_}
+use mathlib.Core.List.{List, [], _∷_, _++_, append-assoc}
+use Prim.Native.Nat.{ℕ, zero, suc, _+_, _-_, _<_, _≤_}
 use native.Mathlib.Omega.{arith}
+use native.Mathlib.Decide.{ℕ-discrete}
 use lib.Dec.{ltb}
 use lib.ListN.{length, getD}
-use Rattle.language.specs.Listed.{At, In, at-append, at-left, at-right, Split, in-nil, in-cons, in-later, in-append, in-left, in-right}
+use Rattle.language.specs.Listed.{At, In, at-getD, in-nil, in-cons, in-here, in-later, in-left, in-right}
 use Rattle.value.specs.declared.Value.{Value}
 use Rattle.value.specs.Decimal.{zeroValue, isZero}
 use Rattle.language.specs.Syntax.{Name}
@@ -16,260 +17,346 @@ use Rattle.language.specs.Syntax
 use Rattle.language.specs.Model.{Model}
 use Rattle.language.specs.Numbering.{Variable, Row, Entry, Lp, lessRows, equalRows, rows, isEqual, lowerOf, upperOf}
 use Rattle.language.specs.Listing.{Line, lpLine, rowLine, varLine, colLine, endLine, rightOf, coefficientsOf, rowLines, varLines, columnLines, colLines, linesOf}
+use Rattle.language.specs.Demand3.{Rising, Below, rank, EarlierLine, Says}
+use Rattle.language.proofs.Ordered.{rising-nil, rising-cons, rising-one, rising-append}
 use Rattle.language.proofs.Numbered.{less-in, equal-in}
 
--- the line of an entry with a number and a kind; and that of a row
-abbrev entryLine : ℕ → Bool → Entry → Line
-entryLine n q e = rowLine n q (rightOf (e .fact)) (e .source .constraint .title) (e .source .element)
+-- P of each line
+record Each (P : Line → Type 0) (ls : List Line) : Type 0 where
+  each : (l : Line) → In ls l → P l
 
-abbrev lineOf : ℕ → Entry → Line
-lineOf n e = entryLine n (isEqual (e .source .constraint .relation)) e
+module _ {P : Line → Type 0} where
+  each-nil : Each P []
+  each-nil = record { each = λ l h. absurd (in-nil l h) }
 
--- where a line comes from
-pub record OfRow (p : Lp) (n : ℕ) (q : Bool) (v : Value) : Type 0 where
-  pub number : ℕ
-  pub entry : Entry
-  pub at : At (rows p) number entry
-  pub number-is : n ≡ suc number
-  pub kind-is : q ≡ isEqual (entry .source .constraint .relation)
-  pub right-is : v ≡ rightOf (entry .fact)
-
-pub record OfVariable (p : Lp) (n : ℕ) (l : Value) (u : Option Value) : Type 0 where
-  pub number : ℕ
-  pub variable : Variable
-  pub at : At (p .variables) number variable
-  pub number-is : n ≡ suc number
-  pub lower-is : l ≡ lowerOf (p .entries) number
-  pub upper-is : u ≡ upperOf (p .entries) number
-
-abbrev pub Origin : Lp → Line → Type 0
-Origin p (lpLine a b c d s t) = Unit {0}
-Origin p (rowLine n q v s e) = OfRow p n q v
-Origin p (varLine n d l u s e) = OfVariable p n l u
-Origin p (colLine j n v) = Unit {0}
-Origin p endLine = Unit {0}
-
--- ---- each list of lines
-
-row-lines-in : (n : ℕ) (q : Bool) (es : List Entry) (l : Line) → In (rowLines n q es) l
-    → (k : ℕ) × (e : Entry) × At es k e × (entryLine (n + k) q e ≡ l)
-unfolding rowLines
-row-lines-in n q [] l h = absurd (in-nil l h)
-row-lines-in n q (e ∷ es) l h = go (in-cons _ (rowLines (suc n) q es) l h) (row-lines-in (suc n) q es l)
-  where
-    Found : ℕ → List Entry → Type 0
-    Found n es = (k : ℕ) × (e : Entry) × At es k e × (entryLine (n + k) q e ≡ l)
-
-    go : (entryLine n q e ≡ l) ⊎ In (rowLines (suc n) q es) l
-        → (In (rowLines (suc n) q es) l → Found (suc n) es) → Found n (e ∷ es)
-    go (inl k) ih = let z : n + 0 ≡ n = omega arith in (0, e, refl, ap (λ i. entryLine i q e) z ∙ k)
-    go (inr k) ih =
-        let r = ih k in
-        let z : n + suc (r .0) ≡ suc n + r .0 = omega arith in
-        (suc (r .0), r .1, r .2, ap (λ i. entryLine i q (r .1)) z ∙ r .3)
-
-in-row-lines : (n : ℕ) (q : Bool) (es : List Entry) (k : ℕ) (e : Entry) → At es k e
-    → In (rowLines n q es) (entryLine (n + k) q e)
-unfolding rowLines
-in-row-lines n q [] k e h = absurd h
-in-row-lines n q (d ∷ es) zero e h =
-    let z : n ≡ n + 0 = omega arith in
-    record { place = 0; at = λ i. entryLine (z i) q (h i) }
-in-row-lines n q (d ∷ es) (suc k) e h =
-    let z : suc n + k ≡ n + suc k = omega arith in
-    in-later _ (rowLines (suc n) q es) _
-    (subst (λ i. In (rowLines (suc n) q es) (entryLine i q e)) z (in-row-lines (suc n) q es k e h))
-
-module _ (names : List Name) (p : Lp) where
-  -- the line of variable j, counted from 0
-  abbrev pub variableLine : ℕ → Variable → Line
-  variableLine j v =
-      varLine (suc j) (ltb j (p .discrete)) (lowerOf (p .entries) j) (upperOf (p .entries) j)
-      (getD names (v .name) (record { spelling = []; place = 0; sort = Syntax.index }) .spelling) (v .element)
-
-  var-lines-in : (j : ℕ) (vs : List Variable) (l : Line) → In (varLines names p j vs) l → (k : ℕ) × (v : Variable) × At vs k v × (variableLine (j + k) v ≡ l)
-  unfolding varLines
-  var-lines-in j [] l h = absurd (in-nil l h)
-  var-lines-in j (v ∷ vs) l h = go (in-cons _ (varLines names p (suc j) vs) l h) (var-lines-in (suc j) vs l)
+  each-cons : (k : Line) (ls : List Line) → P k → Each P ls → Each P (k ∷ ls)
+  each-cons k ls p e = record { each = λ l h. go l (in-cons k ls l h) }
     where
-      go : (variableLine j v ≡ l) ⊎ In (varLines names p (suc j) vs) l
-          → (In (varLines names p (suc j) vs) l → (k : ℕ) × (w : Variable) × At vs k w × (variableLine (suc j + k) w ≡ l))
-          → (k : ℕ) × (w : Variable) × At (v ∷ vs) k w × (variableLine (j + k) w ≡ l)
-      go (inl k) ih = let z : j + 0 ≡ j = omega arith in (0, v, refl, ap (λ i. variableLine i v) z ∙ k)
+      go : (l : Line) → (k ≡ l) ⊎ In ls l → P l
+      go l (inl s) = subst P s p
+      go l (inr h) = e .each l h
+
+  each-append : (ks ls : List Line) → Each P ks → Each P ls → Each P (ks ++ ls)
+  each-append [] ls e f = f
+  each-append (k ∷ ks) ls e f =
+      each-cons k (ks ++ ls) (e .each k (in-here k ks)) (each-append ks ls (record { each = λ l h. e .each l (in-later k ks l h) }) f)
+
+  each-as : {Q : Line → Type 0} (ls : List Line) → Each P ls → ((l : Line) → P l → Q l) → Each Q ls
+  each-as ls e follows = record { each = λ l h. follows l (e .each l h) }
+
+-- ---- a line for each thing of a list, with numbers from n on
+
+module _ {A : Type 0} (line : ℕ → A → Line) where
+  unfoldable numbered : ℕ → List A → List Line
+  numbered n [] = []
+  numbered n (a ∷ l) = line n a ∷ numbered (suc n) l
+
+  numbered-append : (n : ℕ) (l m : List A) → numbered n (l ++ m) ≡ numbered n l ++ numbered (n + length l) m
+  unfolding numbered
+  numbered-append n [] m = let z : n ≡ n + 0 = omega arith in ap (λ i. numbered i m) z
+  numbered-append n (a ∷ l) m =
+      let z : suc n + length l ≡ n + suc (length l) = omega arith in
+      ap (λ x. line n a ∷ x) (numbered-append (suc n) l m ∙ ap (λ i. numbered (suc n) l ++ numbered i m) z)
+
+  numbered-in : (n : ℕ) (l : List A) (x : Line) → In (numbered n l) x → (k : ℕ) × (a : A) × At l k a × (line (n + k) a ≡ x)
+  unfolding numbered
+  numbered-in n [] x h = absurd (in-nil x h)
+  numbered-in n (a ∷ l) x h = go (in-cons (line n a) (numbered (suc n) l) x h) (numbered-in (suc n) l x)
+    where
+      Found : ℕ → List A → Type 0
+      Found n l = (k : ℕ) × (a : A) × At l k a × (line (n + k) a ≡ x)
+
+      go : (line n a ≡ x) ⊎ In (numbered (suc n) l) x → (In (numbered (suc n) l) x → Found (suc n) l) → Found n (a ∷ l)
+      go (inl k) ih = let z : n + 0 ≡ n = omega arith in (0, a, refl, ap (λ i. line i a) z ∙ k)
       go (inr k) ih =
           let r = ih k in
-          let z : j + suc (r .0) ≡ suc j + r .0 = omega arith in
-          (suc (r .0), r .1, r .2, ap (λ i. variableLine i (r .1)) z ∙ r .3)
+          let z : n + suc (r .0) ≡ suc n + r .0 = omega arith in
+          (suc (r .0), r .1, r .2, ap (λ i. line i (r .1)) z ∙ r .3)
 
-  in-var-lines : (j : ℕ) (vs : List Variable) (k : ℕ) (v : Variable) → At vs k v → In (varLines names p j vs) (variableLine (j + k) v)
-  unfolding varLines
-  in-var-lines j [] k v h = absurd h
-  in-var-lines j (w ∷ vs) zero v h = let z : j ≡ j + 0 = omega arith in record { place = 0; at = λ i. variableLine (z i) (h i) }
-  in-var-lines j (w ∷ vs) (suc k) v h =
-      let z : suc j + k ≡ j + suc k = omega arith in
-      in-later _ (varLines names p (suc j) vs) _ (subst (λ i. In (varLines names p (suc j) vs) (variableLine i v)) z (in-var-lines (suc j) vs k v h))
+  in-numbered : (n : ℕ) (l : List A) (k : ℕ) (a : A) → At l k a → In (numbered n l) (line (n + k) a)
+  unfolding numbered
+  in-numbered n [] k a h = absurd h
+  in-numbered n (b ∷ l) zero a h = let z : n ≡ n + 0 = omega arith in record { place = 0; at = λ i. line (z i) (h i) }
+  in-numbered n (b ∷ l) (suc k) a h =
+      let z : suc n + k ≡ n + suc k = omega arith in
+      in-later (line n b) (numbered (suc n) l) _ (subst (λ i. In (numbered (suc n) l) (line i a)) z (in-numbered (suc n) l k a h))
 
--- `col` lines come from nowhere else
-abbrev IsCol : Line → Type 0
-IsCol (lpLine a b c d s t) = ⊥
-IsCol (rowLine n q v s e) = ⊥
-IsCol (varLine n d l u s e) = ⊥
-IsCol (colLine j n v) = Unit {0}
-IsCol endLine = ⊥
+  -- numbered from 0
+  each-numbered : {P : Line → Type 0} (l : List A) → ((k : ℕ) (a : A) → At l k a → P (line k a)) → Each P (numbered 0 l)
+  each-numbered {P} l p =
+      record {
+        each = λ x h.
+            let r = numbered-in 0 l x h in
+            let z : r .0 ≡ 0 + r .0 = omega arith in
+            subst P (ap (λ i. line i (r .1)) z ∙ r .3) (p (r .0) (r .1) (r .2));
+      }
 
-column-lines-in : (j n : ℕ) (es : List Entry) (o : Row) (l : Line) → In (columnLines j n es o) l → IsCol l
-unfolding columnLines
-column-lines-in j n [] o l h = go (in-cons _ [] l h)
-  where
-    go : (colLine (suc j) n (getD o j zeroValue) ≡ l) ⊎ In [] l → IsCol l
-    go (inl k) = subst IsCol k tt
-    go (inr k) = absurd (in-nil l k)
-column-lines-in j n (e ∷ es) o l h = go (isZero v) h (column-lines-in j (suc n) es o l)
+  has-line : (l : List A) (k : ℕ) (a : A) → At l k a → In (numbered 0 l) (line k a)
+  has-line l k a h = let z : 0 + k ≡ k = omega arith in subst (λ i. In (numbered 0 l) (line i a)) z (in-numbered 0 l k a h)
+
+  rising-numbered : ((i j : ℕ) (a b : A) → i < j → EarlierLine (line i a) (line j b)) → (n : ℕ) (l : List A) → Rising EarlierLine (numbered n l)
+  unfolding numbered
+  rising-numbered by n [] = rising-nil
+  rising-numbered by n (a ∷ l) =
+      rising-cons (line n a) (numbered (suc n) l)
+      (λ x h. let r = numbered-in (suc n) l x h in subst (EarlierLine (line n a)) (r .3) (by n (suc n + r .0) a (r .1) (omega arith)))
+      (rising-numbered by (suc n) l)
+
+-- the line of a row and of a variable, counted from 0
+abbrev rowLineOf : ℕ → Entry → Line
+rowLineOf i e = rowLine (suc i) (isEqual (e .source .constraint .relation)) (rightOf (e .fact)) (e .source .constraint .title) (e .source .element)
+
+abbrev pub variableLine : List Name → Lp → ℕ → Variable → Line
+variableLine names p j v =
+    varLine (suc j) (ltb j (p .discrete)) (lowerOf (p .entries) j) (upperOf (p .entries) j)
+    (getD names (v .name) (record { spelling = []; place = 0; sort = Syntax.index }) .spelling) (v .element)
+
+row-lines : (n : ℕ) (q : Bool) (es : List Entry) → ((e : Entry) → In es e → isEqual (e .source .constraint .relation) ≡ q)
+    → rowLines (suc n) q es ≡ numbered rowLineOf n es
+unfolding rowLines numbered
+row-lines n q [] kind = refl
+row-lines n q (e ∷ es) kind =
+    rw (kind e (in-here e es), row-lines (suc n) q es (λ d h. kind d (in-later e es d h)))
+
+var-lines : (names : List Name) (p : Lp) (j : ℕ) (vs : List Variable) → varLines names p j vs ≡ numbered (variableLine names p) j vs
+unfolding varLines numbered
+var-lines names p j [] = refl
+var-lines names p j (v ∷ vs) = ap (λ l. variableLine names p j v ∷ l) (var-lines names p (suc j) vs)
+
+-- ---- `col` lines
+
+-- a line of variable j, counted from 0, in a row from first to last; no zero but in the last
+record OnColumn (j first last : ℕ) (l : Line) : Type 0 where
+  row : ℕ
+  coefficient : Value
+  is : colLine (suc j) row coefficient ≡ l
+  from : first ≤ row
+  to : row ≤ last
+  no-zero : row < last → isZero coefficient ≡ false
+
+-- the lines of variable j: w, its coefficient in the objective, is always given
+record Column (j first last : ℕ) (w : Value) (ls : List Line) : Type 0 where
+  lines : Each (OnColumn j first last) ls
+  rising : Rising EarlierLine ls
+  objective : In ls (colLine (suc j) last w)
+
+column : (j n last : ℕ) (es : List Entry) (o : Row) → n + length es ≡ last → Column j n last (getD o j zeroValue) (columnLines j n es o)
+unfolding columnLines rank
+column j n last [] o e =
+    let same : n ≡ last = omega arith in
+    record {
+      lines =
+          each-cons _ [] (record { row = n; coefficient = _; is = refl; from = omega arith; to = omega arith; no-zero = λ t. absurd (omega arith) }) each-nil;
+      rising = rising-one (colLine (suc j) n (getD o j zeroValue));
+      objective = record { place = 0; at = ap (λ i. colLine (suc j) i (getD o j zeroValue)) same };
+    }
+column j n last (d ∷ es) o e = go (isZero v) refl (column j (suc n) last es o (omega arith))
   where
     v : Value
-    v = getD (coefficientsOf (e .fact)) j zeroValue
+    v = getD (coefficientsOf (d .fact)) j zeroValue
 
-    first : (colLine (suc j) n v ≡ l) ⊎ In (columnLines j (suc n) es o) l → (In (columnLines j (suc n) es o) l → IsCol l) → IsCol l
-    first (inl k) ih = subst IsCol k tt
-    first (inr k) ih = ih k
+    later : List Line
+    later = columnLines j (suc n) es o
 
-    go : (t : Bool) → In (elim t [ true ↦ columnLines j (suc n) es o | false ↦ colLine (suc j) n v ∷ columnLines j (suc n) es o ]) l
-        → (In (columnLines j (suc n) es o) l → IsCol l) → IsCol l
-    go true h ih = ih h
-    go false h ih = first (in-cons _ (columnLines j (suc n) es o) l h) ih
+    OnIt : List Line → Type 0
+    OnIt = Column j n last (getD o j zeroValue)
 
-col-lines-in : (k j : ℕ) (es : List Entry) (o : Row) (l : Line) → In (colLines k j es o) l → IsCol l
-unfolding colLines
-col-lines-in zero j es o l h = absurd (in-nil l h)
-col-lines-in (suc k) j es o l h = go (in-append (columnLines j 1 es o) (colLines k (suc j) es o) l h) (col-lines-in k (suc j) es o l)
+    sooner : (l : Line) → OnColumn j (suc n) last l → OnColumn j n last l
+    sooner l r = record { row = r .row; coefficient = r .coefficient; is = r .is; from = omega (arith, r .from); to = r .to; no-zero = r .no-zero }
+
+    go : (t : Bool) → isZero v ≡ t → Column j (suc n) last (getD o j zeroValue) later → OnIt (elim t [ true ↦ later | false ↦ colLine (suc j) n v ∷ later ])
+    go true z c = record { lines = each-as later (c .lines) sooner; rising = c .rising; objective = c .objective }
+    go false z c =
+        record {
+          lines =
+              each-cons (colLine (suc j) n v) later (record { row = n; coefficient = v; is = refl; from = omega arith; to = omega arith; no-zero = λ t. z })
+              (each-as later (c .lines) sooner);
+          rising =
+              rising-cons (colLine (suc j) n v) later
+              (λ l h. let r = c .lines .each l h in subst (EarlierLine (colLine (suc j) n v)) (r .is) (inr (refl, inr (refl, inl (r .from))))) (c .rising);
+          objective = in-later _ later _ (c .objective);
+        }
+
+-- a line of one of the k variables from j on
+record OnColumns (k j last : ℕ) (l : Line) : Type 0 where
+  variable : ℕ
+  from : j ≤ variable
+  to : variable < j + k
+  on : OnColumn variable 1 last l
+
+record Columns (k j last : ℕ) (o : Row) (ls : List Line) : Type 0 where
+  lines : Each (OnColumns k j last) ls
+  rising : Rising EarlierLine ls
+  objective : (i : ℕ) → j ≤ i → i < j + k → In ls (colLine (suc i) last (getD o i zeroValue))
+
+columns : (k j : ℕ) (es : List Entry) (o : Row) → Columns k j (suc (length es)) o (colLines k j es o)
+unfolding colLines rank
+columns zero j es o = record { lines = each-nil; rising = rising-nil; objective = λ i h t. absurd (omega arith) }
+columns (suc k) j es o = go (column j 1 (suc (length es)) es o (omega arith)) (columns k (suc j) es o)
   where
-    go : In (columnLines j 1 es o) l ⊎ In (colLines k (suc j) es o) l → (In (colLines k (suc j) es o) l → IsCol l) → IsCol l
-    go (inl h) ih = column-lines-in j 1 es o l h
-    go (inr h) ih = ih h
+    first : List Line
+    first = columnLines j 1 es o
 
-col-origin : (p : Lp) (l : Line) → IsCol l → Origin p l
-col-origin p (lpLine a b c d s t) h = absurd h
-col-origin p (rowLine n q v s e) h = absurd h
-col-origin p (varLine n d l u s e) h = absurd h
-col-origin p (colLine j n v) h = tt
-col-origin p endLine h = absurd h
+    later : List Line
+    later = colLines k (suc j) es o
+
+    go : Column j 1 (suc (length es)) (getD o j zeroValue) first → Columns k (suc j) (suc (length es)) o later → Columns (suc k) j (suc (length es)) o (first ++ later)
+    go c cs =
+        record {
+          lines =
+              each-append first later (each-as first (c .lines) (λ l r. record { variable = j; from = omega arith; to = omega arith; on = r }))
+              (each-as later (cs .lines) (λ l r. record { variable = r .variable; from = omega (arith, r .from); to = omega (arith, r .to); on = r .on }));
+          rising =
+              rising-append first later (c .rising) (cs .rising)
+              (λ a b h h′.
+              let x = c .lines .each a h in
+              let y = cs .lines .each b h′ in
+              subst₂ EarlierLine (x .is) (y .on .is) (inr (refl, inl (omega (arith, y .from)))));
+          objective = λ i h t. which i h t (ℕ-discrete j i);
+        }
+      where
+        which : (i : ℕ) → j ≤ i → i < j + suc k → Dec (j ≡ i) → In (first ++ later) (colLine (suc i) (suc (length es)) (getD o i zeroValue))
+        which i h t (yes e) = in-left first later _ (subst (λ i. In first (colLine (suc i) (suc (length es)) (getD o i zeroValue))) e (c .objective))
+        which i h t (no e) = in-right first later _ (cs .objective i (omega arith) (omega arith))
+
+-- ---- the order of the parts
+
+abbrev OfKind : ℕ → Line → Type 0
+OfKind k l = (e : List ℕ) × (rank l ≡ k ∷ e)
+
+-- lines in order, of the kinds from k on
+record From (k : ℕ) (ls : List Line) : Type 0 where
+  rising : Rising EarlierLine ls
+  kinds : Each (λ l. (i : ℕ) × (k ≤ i) × OfKind i l) ls
+
+-- lines of kind k, then those of later kinds
+and-then : (k : ℕ) (ks ls : List Line) → Rising EarlierLine ks → Each (OfKind k) ks → From (suc k) ls → From k (ks ++ ls)
+and-then k ks ls r kind f =
+    record {
+      rising =
+          rising-append ks ls r (f .rising)
+          (λ a b h h′. let x = kind .each a h in let y = f .kinds .each b h′ in subst₂ Below (sym (x .1)) (sym (y .2 .1)) (inl (y .1)));
+      kinds = each-append ks ls (each-as ks kind (λ l x. (k, omega arith, x))) (each-as ls (f .kinds) (λ l y. (y .0, omega (arith, y .1), y .2)));
+    }
 
 -- ---- the whole listing
 
 module _ (m : Model) (p : Lp) where
-  less-origin : (l : Line) → In (rowLines 1 false (lessRows p)) l → Origin p l
-  unfolding lessRows equalRows rows
-  less-origin l h =
-      let r = row-lines-in 1 false (lessRows p) l h in
-      let k = less-in (p .entries) (r .1) (record { place = r .0; at = r .2 }) in
-      subst (Origin p) (r .3)
-      (record {
-        number = r .0;
-        entry = r .1;
-        at = at-left (lessRows p) (equalRows p) (r .0) (r .1) (r .2);
-        number-is = omega arith;
-        kind-is = sym (k .1);
-        right-is = refl;
-      })
+  abbrev names : List Name
+  names = m .structure .names
 
-  equal-origin : (l : Line) → In (rowLines (suc (length (lessRows p))) true (equalRows p)) l → Origin p l
-  unfolding lessRows equalRows rows
-  equal-origin l h =
-      let r = row-lines-in (suc (length (lessRows p))) true (equalRows p) l h in
-      let k = equal-in (p .entries) (r .1) (record { place = r .0; at = r .2 }) in
-      subst (Origin p) (r .3)
-      (record {
-        number = length (lessRows p) + r .0;
-        entry = r .1;
-        at = at-right (lessRows p) (equalRows p) (r .0) (r .1) (r .2);
-        number-is = omega arith;
-        kind-is = sym (k .1);
-        right-is = refl;
-      })
+  abbrev lpPart : List Line
+  lpPart = lpLine (p .discrete) (length (p .variables)) (length (lessRows p)) (length (rows p)) (m .structure .title) (m .given .title) ∷ []
 
-  var-origin : (l : Line) → In (varLines (m .structure .names) p 0 (p .variables)) l → Origin p l
-  var-origin l h =
-      let r = var-lines-in (m .structure .names) p 0 (p .variables) l h in
-      let z : 0 + r .0 ≡ r .0 = omega arith in
-      subst (Origin p) (r .3)
-      (record {
-        number = r .0;
-        variable = r .1;
-        at = r .2;
-        number-is = ap suc z;
-        lower-is = ap (lowerOf (p .entries)) z;
-        upper-is = ap (upperOf (p .entries)) z;
-      })
+  abbrev rowPart : List Line
+  rowPart = numbered rowLineOf 0 (rows p)
 
-  abbrev tail1 : List Line
-  tail1 = endLine ∷ []
+  abbrev varPart : List Line
+  varPart = numbered (variableLine names p) 0 (p .variables)
 
-  abbrev tail2 : List Line
-  tail2 = colLines (length (p .variables)) 0 (rows p) (p .objective) ++ tail1
+  abbrev colPart : List Line
+  colPart = colLines (length (p .variables)) 0 (rows p) (p .objective)
 
-  abbrev tail3 : List Line
-  tail3 = varLines (m .structure .names) p 0 (p .variables) ++ tail2
+  abbrev endPart : List Line
+  endPart = endLine ∷ []
 
-  abbrev tail4 : List Line
-  tail4 = rowLines (suc (length (lessRows p))) true (equalRows p) ++ tail3
+  row-part : rowLines 1 false (lessRows p) ++ rowLines (suc (length (lessRows p))) true (equalRows p) ≡ rowPart
+  unfolding rows lessRows equalRows
+  row-part =
+      let z : length (lessRows p) ≡ 0 + length (lessRows p) = omega arith in
+      ap (λ l. l ++ rowLines (suc (length (lessRows p))) true (equalRows p)) (row-lines 0 false (lessRows p) (λ e h. less-in (p .entries) e h .1))
+      ∙ ap (λ l. numbered rowLineOf 0 (lessRows p) ++ l)
+      (row-lines (length (lessRows p)) true (equalRows p) (λ e h. equal-in (p .entries) e h .1) ∙ ap (λ n. numbered rowLineOf n (equalRows p)) z)
+      ∙ sym (numbered-append rowLineOf 0 (lessRows p) (equalRows p))
 
-  abbrev tail5 : List Line
-  tail5 = rowLines 1 false (lessRows p) ++ tail4
+  col-part : Columns (length (p .variables)) 0 (suc (length (rows p))) (p .objective) colPart
+  col-part = columns (length (p .variables)) 0 (rows p) (p .objective)
 
-  pub origin : (l : Line) → In (linesOf m p) l → Origin p l
+  lines-are : linesOf m p ≡ lpPart ++ (rowPart ++ (varPart ++ (colPart ++ endPart)))
   unfolding linesOf
-  origin l h = first (in-cons _ tail5 l h)
-    where
-      fifth : In (colLines (length (p .variables)) 0 (rows p) (p .objective)) l ⊎ In tail1 l → Origin p l
-      fifth (inl h) = col-origin p l (col-lines-in (length (p .variables)) 0 (rows p) (p .objective) l h)
-      fifth (inr h) = sixth (in-cons endLine [] l h)
-        where
-          sixth : (endLine ≡ l) ⊎ In [] l → Origin p l
-          sixth (inl k) = subst (Origin p) k tt
-          sixth (inr k) = absurd (in-nil l k)
+  lines-are =
+      ap (λ l. lpPart ++ l)
+      (sym (append-assoc (rowLines 1 false (lessRows p)) (rowLines (suc (length (lessRows p))) true (equalRows p)) (varLines names p 0 (p .variables) ++ (colPart ++ endPart)))
+      ∙ ap (λ l. l ++ (varLines names p 0 (p .variables) ++ (colPart ++ endPart))) row-part
+      ∙ ap (λ l. rowPart ++ (l ++ (colPart ++ endPart))) (var-lines names p 0 (p .variables)))
 
-      fourth : In (varLines (m .structure .names) p 0 (p .variables)) l ⊎ In tail2 l → Origin p l
-      fourth (inl h) = var-origin l h
-      fourth (inr h) = fifth (in-append (colLines (length (p .variables)) 0 (rows p) (p .objective)) tail1 l h)
-
-      third : In (rowLines (suc (length (lessRows p))) true (equalRows p)) l ⊎ In tail3 l → Origin p l
-      third (inl h) = equal-origin l h
-      third (inr h) = fourth (in-append (varLines (m .structure .names) p 0 (p .variables)) tail2 l h)
-
-      second : In (rowLines 1 false (lessRows p)) l ⊎ In tail4 l → Origin p l
-      second (inl h) = less-origin l h
-      second (inr h) = third (in-append (rowLines (suc (length (lessRows p))) true (equalRows p)) tail3 l h)
-
-      first : (lpLine (p .discrete) (length (p .variables)) (length (lessRows p)) (length (rows p)) (m .structure .title) (m .given .title) ≡ l) ⊎ In tail5 l → Origin p l
-      first (inl k) = subst (Origin p) k tt
-      first (inr h) = second (in-append (rowLines 1 false (lessRows p)) tail4 l h)
+  in-lines : (l : Line) → In (lpPart ++ (rowPart ++ (varPart ++ (colPart ++ endPart)))) l → In (linesOf m p) l
+  in-lines l h = subst (λ ls. In ls l) (sym lines-are) h
 
   -- each row has its line
-  pub row-line : (i : ℕ) (e : Entry) → At (rows p) i e → In (linesOf m p) (lineOf (suc i) e)
-  unfolding linesOf rows lessRows equalRows
-  row-line i e h = in-later _ tail5 _ (go (at-append (lessRows p) (equalRows p) i e h))
-    where
-      go : Split (lessRows p) (equalRows p) i e → In tail5 (lineOf (suc i) e)
-      go (inl h) =
-          let k = less-in (p .entries) e (record { place = i; at = h }) in
-          let z : 1 + i ≡ suc i = omega arith in
-          in-left (rowLines 1 false (lessRows p)) tail4 _
-          (subst (λ n. In (rowLines 1 false (lessRows p)) (entryLine n (isEqual (e .source .constraint .relation)) e)) z
-          (subst (λ q. In (rowLines 1 false (lessRows p)) (entryLine (1 + i) q e)) (sym (k .1))
-          (in-row-lines 1 false (lessRows p) i e h)))
-      go (inr r) =
-          let k = equal-in (p .entries) e (record { place = r .0; at = r .2 }) in
-          let z : suc (length (lessRows p)) + r .0 ≡ suc i = omega (arith, r .1) in
-          in-right (rowLines 1 false (lessRows p)) tail4 _ (in-left (rowLines (suc (length (lessRows p))) true (equalRows p)) tail3 _
-          (subst (λ n. In (rowLines (suc (length (lessRows p))) true (equalRows p)) (entryLine n (isEqual (e .source .constraint .relation)) e)) z
-          (subst (λ q. In (rowLines (suc (length (lessRows p))) true (equalRows p)) (rowLine (suc (length (lessRows p)) + r .0) q (rightOf (e .fact)) (e .source .constraint .title) (e .source .element))) (sym (k .1))
-          (in-row-lines (suc (length (lessRows p))) true (equalRows p) (r .0) e (r .2)))))
+  pub row-line : (i : ℕ) (e : Entry) → At (rows p) i e → In (linesOf m p) (rowLineOf i e)
+  row-line i e h = in-lines _ (in-right lpPart _ _ (in-left rowPart _ _ (has-line rowLineOf (rows p) i e h)))
 
-  -- each variable has its line, with its bounds, its name and its index values
-  pub var-line : (j : ℕ) (v : Variable) → At (p .variables) j v → In (linesOf m p) (variableLine (m .structure .names) p j v)
-  unfolding linesOf
-  var-line j v h =
-      let z : 0 + j ≡ j = omega arith in
-      in-later _ tail5 _ (in-right (rowLines 1 false (lessRows p)) tail4 _ (in-right (rowLines (suc (length (lessRows p))) true (equalRows p)) tail3 _
-      (in-left (varLines (m .structure .names) p 0 (p .variables)) tail2 _
-      (subst (λ k. In (varLines (m .structure .names) p 0 (p .variables)) (variableLine (m .structure .names) p k v)) z (in-var-lines (m .structure .names) p 0 (p .variables) j v h)))))
+  -- each variable has its line
+  pub var-line : (j : ℕ) (v : Variable) → At (p .variables) j v → In (linesOf m p) (variableLine names p j v)
+  var-line j v h = in-lines _ (in-right lpPart _ _ (in-right rowPart _ _ (in-left varPart _ _ (has-line (variableLine names p) (p .variables) j v h))))
+
+  spelled : (v : Variable) (x : Name) (d : Name) → At names (v .name) x → getD names (v .name) d .spelling ≡ x .spelling
+  spelled v x d at = ap (λ (y : Name). y .spelling) (at-getD names (v .name) x d at)
+
+  pub variable-line : (i : ℕ) (v : Variable) (x : Name) → At (p .variables) i v → At names (v .name) x
+      → In (linesOf m p) (varLine (suc i) (ltb i (p .discrete)) (lowerOf (p .entries) i) (upperOf (p .entries) i) (x .spelling) (v .element))
+  variable-line i v x at named =
+      subst (λ s. In (linesOf m p) (varLine (suc i) (ltb i (p .discrete)) (lowerOf (p .entries) i) (upperOf (p .entries) i) s (v .element))) (spelled v x _ named) (var-line i v at)
+
+  -- and each its coefficient in the objective
+  pub objective-line : (i : ℕ) → i < length (p .variables) → (w : Value) × In (linesOf m p) (colLine (suc i) (suc (length (rows p))) w)
+  objective-line i h = (
+    _,
+    in-lines _ (in-right lpPart _ _ (in-right rowPart _ _ (in-right varPart _ _ (in-left colPart _ _ (col-part .objective i (omega arith) (omega arith)))))),
+  )
+
+  -- every line says what it must, where each variable's name stands in the table
+  pub every-line : ((j : ℕ) (v : Variable) → At (p .variables) j v → (x : Name) × At names (v .name) x) → (l : Line) → In (linesOf m p) l → Says m p l
+  every-line table l h =
+      let says : Each (Says m p) (lpPart ++ (rowPart ++ (varPart ++ (colPart ++ endPart)))) =
+      each-append lpPart _ (each-cons _ [] (record { discrete-is = refl; variables-is = refl; less-is = refl; rows-is = refl; title-is = refl; data-title-is = refl }) each-nil)
+      (each-append rowPart _
+      (each-numbered rowLineOf (rows p)
+      (λ i e at. record { number = i; entry = e; at = at; number-is = refl; kind-is = refl; right-is = refl; title-is = refl; element-is = refl }))
+      (each-append varPart _ (each-numbered (variableLine names p) (p .variables) of-variable)
+      (each-append colPart _ (each-as colPart (col-part .lines) of-column) (each-cons endLine [] tt each-nil)))) in
+      says .each l (subst (λ ls. In ls l) lines-are h)
+    where
+      of-variable : (j : ℕ) (v : Variable) → At (p .variables) j v → Says m p (variableLine names p j v)
+      of-variable j v at =
+          let x = table j v at in
+          record {
+            number = j;
+            variable = v;
+            at = at;
+            number-is = refl;
+            kind-is = refl;
+            lower-is = refl;
+            upper-is = refl;
+            name = x .0;
+            declared = x .1;
+            name-is = spelled v (x .0) _ (x .1);
+            element-is = refl;
+          }
+
+      of-column : (l : Line) → OnColumns (length (p .variables)) 0 (suc (length (rows p))) l → Says m p l
+      of-column l c =
+          let r = c .on in
+          subst (Says m p) (r .is)
+          (record {
+            variable = c .variable;
+            row = r .row - 1;
+            variable-is = refl;
+            variable-within = omega (arith, c .to);
+            row-is = omega (arith, r .from);
+            row-within = omega (arith, r .to);
+            no-zero = λ t. r .no-zero (omega (arith, r .from));
+          })
+
+  pub in-order : Rising EarlierLine (linesOf m p)
+  unfolding rank
+  in-order =
+      subst (Rising EarlierLine) (sym lines-are)
+      (and-then 0 lpPart _ (rising-one _) (each-cons _ [] ([], refl) each-nil)
+      (and-then 1 rowPart _ (rising-numbered rowLineOf (λ i j a b h. inr (refl, inl (omega arith))) 0 (rows p)) (each-numbered rowLineOf (rows p) (λ i e at. (suc i ∷ [], refl)))
+      (and-then 2 varPart _ (rising-numbered (variableLine names p) (λ i j a b h. inr (refl, inl (omega arith))) 0 (p .variables))
+      (each-numbered (variableLine names p) (p .variables) (λ j v at. (suc j ∷ [], refl)))
+      (and-then 3 colPart endPart (col-part .rising)
+      (each-as colPart (col-part .lines) (λ l c. subst (OfKind 3) (c .on .is) (_, refl)))
+      (record { rising = rising-one endLine; kinds = each-cons endLine [] (4, omega arith, ([], refl)) each-nil })))) .rising)

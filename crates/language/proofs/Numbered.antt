@@ -1,29 +1,28 @@
--- The variables and the rows have their numbers one to one. Assumes nothing.
+-- The variables and the rows have their numbers one to one, in the order of declarations, constraints and elements; discrete
+-- variables and rows from `<=` and `>=` come first. Assumes nothing.
 use mathlib.Core.Path.{_≡_, refl, sym, _∙_, ap, subst}
-use mathlib.Core.Logic.{_⊎_, inl, inr}
+use mathlib.Core.Logic.{_↔_, _⊎_, inl, inr}
 use mathlib.Core.Bool.{Bool, true, false, cond}
 use mathlib.Core.Option.{Option, none, some}
 use mathlib.Core.List.{List, [], _∷_, _++_, map}
-use Prim.Native.Nat.{ℕ, suc, _+_}
+use Prim.Native.Nat.{ℕ, suc, _+_, _<_}
 use native.Mathlib.Omega.{arith}
-use lib.IntN.{ℤ}
-use Rattle.language.specs.Listed.{At, In, Distinct, at-unique, in-nil, in-cons, in-later, in-append, in-left, in-right, in-map, map-in, distinct-cons, distinct-nil, distinct-tail, distinct-head, distinct-append, distinct-map}
-use Rattle.language.specs.Outcome.{none-some, done, done-injective, some-injective}
+use lib.Dec.{ltb}
+use lib.ListN.{length}
+use borrow.Author.Tests.{ltb-true, lt-ltb}
+use Rattle.language.specs.Listed.{At, In, Split, at-unique, at-length, at-append, in-nil, in-cons, in-here, in-later, in-append, in-left, in-right, in-map, map-in, distinct-from-map}
+use Rattle.language.specs.Outcome.{none-some, done}
 use Rattle.language.specs.Scope.{Scope}
 use Rattle.language.specs.Syntax.{Name, Sort, Spans, Relation, Side, bare, form}
 use Rattle.language.specs.Syntax
-use Rattle.language.specs.Written.{InDomain}
 use Rattle.language.specs.Model.{Model, start, Declaration, declared, asDiscrete, asContinuous, discretes, continuouses}
-use Rattle.language.specs.Numbering.{Variable, Entry, Fact, factOf, isRow, isEqual, keep, lessRow, equalRow}
-use Rattle.language.specs.Demand3.{Declared, OneToOne, RowSource, IsForm, sourceOf}
-use Rattle.language.proofs.Listwise.{collect}
-use Rattle.language.proofs.Collected.{collect-in, in-collect, distinct-collect}
-use Rattle.language.proofs.Elements.{over-in, in-over, distinct-over}
-use Rattle.language.proofs.Entries.{variableFor, variablesOf, Placed, placed, distinct-placed, entryFor, entriesOf, madeOf, entryFor-done, only, entry-made, made-entry, of-bare, of-form}
-
--- a list of one has no repeats
-single : {A : Type 0} (a : A) (l : List A) → a ∷ [] ≡ l → Distinct l
-single a l e = subst Distinct e (distinct-cons a [] (in-nil a) distinct-nil)
+use Rattle.language.specs.Numbering.{Variable, Source, Entry, Fact, factOf, isRow, isEqual, keep, lessRow, equalRow}
+use Rattle.language.specs.Demand3.{Declared, OneToOne, RowSource, IsForm, sourceOf, Rising, Precedes, Among, EarlierVariable, EarlierRow}
+use Rattle.language.specs.Demand3
+use Rattle.language.proofs.Ordered.{rising-nil, rising-cons, rising-head, rising-tail, rising-append, rising-as, distinct-rising, not-itself}
+use Rattle.language.proofs.Collected.{collect-append}
+use Rattle.language.proofs.Elements.{Before, walk, walk-in, in-walk, rising-walk, only}
+use Rattle.language.proofs.Entries.{variables, entries, placed, rising-placed, entry-made, made-entry, of-bare, of-form}
 
 true-false : {A : Type 0} → true ≡ false → A
 true-false e = let z : _≡_ {A = ℕ} 0 1 = cc in absurd (omega arith)
@@ -36,7 +35,6 @@ record Declares (f : Sort → Option Spans) (i : ℕ) (xs : List Name) (d : Decl
   at : At xs ordinal name
   name-is : d .name ≡ i + ordinal
   domain-is : f (name .sort) ≡ some (d .domain)
-  place-is : d .place ≡ name .place
 
 declares : (f : Sort → Option Spans) (i : ℕ) (xs : List Name) (d : Declaration) → In (declared f i xs) d → Declares f i xs d
 unfolding declared
@@ -51,7 +49,6 @@ declares f i (x ∷ xs) d h = go (f (x .sort)) refl h (declares f (suc i) xs d)
           at = r .at;
           name-is = r .name-is ∙ omega arith;
           domain-is = r .domain-is;
-          place-is = r .place-is;
         }
 
     first : (s : Spans) → f (x .sort) ≡ some s → (record { name = i; domain = s; place = x .place } ≡ d) ⊎ In (declared f (suc i) xs) d
@@ -63,7 +60,6 @@ declares f i (x ∷ xs) d h = go (f (x .sort)) refl h (declares f (suc i) xs d)
           at = refl;
           name-is = sym (ap (λ (y : Declaration). y .name) k) ∙ omega arith;
           domain-is = fs ∙ ap (λ (y : Declaration). some (y .domain)) k;
-          place-is = sym (ap (λ (y : Declaration). y .place) k);
         }
     first s fs (inr k) ih = later (ih k)
 
@@ -73,29 +69,23 @@ declares f i (x ∷ xs) d h = go (f (x .sort)) refl h (declares f (suc i) xs d)
     go (some s) fs h ih = first s fs (in-cons _ (declared f (suc i) xs) d h) ih
     go none fs h ih = later (ih h)
 
-distinct-declared : (f : Sort → Option Spans) (i : ℕ) (xs : List Name) → Distinct (declared f i xs)
+rising-declared : (f : Sort → Option Spans) (i : ℕ) (xs : List Name) → Rising (λ (d e : Declaration). d .name < e .name) (declared f i xs)
 unfolding declared
-distinct-declared f i [] = distinct-nil
-distinct-declared f i (x ∷ xs) = go (f (x .sort)) (distinct-declared f (suc i) xs)
+rising-declared f i [] = rising-nil
+rising-declared f i (x ∷ xs) = go (f (x .sort)) (rising-declared f (suc i) xs)
   where
-    go : (o : Option Spans) → Distinct (declared f (suc i) xs)
-        → Distinct {A = Declaration} (elim o [ some s ↦ record { name = i; domain = s; place = x .place } ∷ declared f (suc i) xs | none ↦ declared f (suc i) xs ])
-    go (some s) ih = distinct-cons _ (declared f (suc i) xs) (λ h. let r = declares f (suc i) xs _ h in omega (arith, r .name-is)) ih
+    ByName : List Declaration → Type 0
+    ByName l = Rising (λ (d e : Declaration). d .name < e .name) l
+
+    go : (o : Option Spans) → ByName (declared f (suc i) xs)
+        → ByName (elim o [ some s ↦ record { name = i; domain = s; place = x .place } ∷ declared f (suc i) xs | none ↦ declared f (suc i) xs ])
+    go (some s) ih = rising-cons _ (declared f (suc i) xs) (λ d h. omega (arith, declares f (suc i) xs d h .name-is)) ih
     go none ih = ih
 
 same-name : (f g : Sort → Option Spans) (xs : List Name) (d e : Declaration) (a : Declares f 0 xs d) (b : Declares g 0 xs e) → d .name ≡ e .name → a .name ≡ b .name
 same-name f g xs d e a b h =
     let same : a .ordinal ≡ b .ordinal = omega (arith, a .name-is, b .name-is) in
     at-unique xs (b .ordinal) (a .name) (b .name) (subst (λ k. At xs k (a .name)) same (a .at)) (b .at)
-
-same-declaration : (f : Sort → Option Spans) (xs : List Name) (d e : Declaration) → In (declared f 0 xs) d → In (declared f 0 xs) e → d .name ≡ e .name → d ≡ e
-same-declaration f xs d e h k n =
-    let a = declares f 0 xs d h in
-    let b = declares f 0 xs e k in
-    let x : a .name ≡ b .name = same-name f f xs d e a b n in
-    let domain : d .domain ≡ e .domain = some-injective (sym (a .domain-is) ∙ ap (λ (y : Name). f (y .sort)) x ∙ b .domain-is) in
-    let place : d .place ≡ e .place = a .place-is ∙ ap (λ (y : Name). y .place) x ∙ sym (b .place-is) in
-    λ i. record { name = n i; domain = domain i; place = place i }
 
 not-both : (s : Sort) (d e : Spans) → asDiscrete s ≡ some d → asContinuous s ≡ some e → ⊥
 unfolding asDiscrete asContinuous
@@ -107,7 +97,7 @@ not-both (Syntax.discrete x) d e h k = none-some k
 not-both (Syntax.continuous x) d e h k = none-some h
 
 module _ (m : Model) where
-  abbrev pub allDeclared : List Declaration
+  abbrev allDeclared : List Declaration
   allDeclared = discretes m ++ continuouses m
 
   apart : (d e : Declaration) → In (discretes m) d → In (continuouses m) e → d .name ≡ e .name → ⊥
@@ -119,61 +109,107 @@ module _ (m : Model) where
       let x : a .name ≡ b .name = same-name asDiscrete asContinuous xs d e a b n in
       not-both (b .name .sort) (d .domain) (e .domain) (sym (ap (λ (y : Name). asDiscrete (y .sort)) x) ∙ a .domain-is) (b .domain-is)
 
-  pub distinct-declarations : Distinct allDeclared
-  unfolding discretes continuouses
-  distinct-declarations =
-      distinct-append (discretes m) (continuouses m) (distinct-declared asDiscrete 0 (m .structure .names)) (distinct-declared asContinuous 0 (m .structure .names))
-      (λ d h k. apart d d h k refl)
-
-  pub named-once : (d e : Declaration) → In allDeclared d → In allDeclared e → d .name ≡ e .name → d ≡ e
-  unfolding discretes continuouses
-  named-once d e h k n = go (in-append (discretes m) (continuouses m) d h) (in-append (discretes m) (continuouses m) e k)
-    where
-      go : In (discretes m) d ⊎ In (continuouses m) d → In (discretes m) e ⊎ In (continuouses m) e → d ≡ e
-      go (inl a) (inl b) = same-declaration asDiscrete (m .structure .names) d e a b n
-      go (inl a) (inr b) = absurd (apart d e a b n)
-      go (inr a) (inl b) = absurd (apart e d b a (sym n))
-      go (inr a) (inr b) = same-declaration asContinuous (m .structure .names) d e a b n
-
 -- ---- variables
 
-module _ (m : Model) (vs : List Variable) (generated : collect (variablesOf (start m)) (allDeclared m) ≡ done vs) where
-  at-variable : (d : Declaration) (s : Scope) (e : List ℤ) (l : List Variable) → variableFor d s e ≡ done l → record { name = d .name; element = e } ∷ [] ≡ l
-  unfolding variableFor
-  at-variable d s e l h = done-injective h
+-- the variables of a model, of which the first n are discrete
+pub record Variables (m : Model) (vs : List Variable) (n : ℕ) : Type 0 where
+  pub discrete : List Variable
+  pub continuous : List Variable
+  pub discrete-made : walk variables (start m) (discretes m) ≡ done discrete
+  pub continuous-made : walk variables (start m) (continuouses m) ≡ done continuous
+  pub joined : discrete ++ continuous ≡ vs
+  pub counted : length discrete ≡ n
 
-  variable-name : (d : Declaration) (l : List Variable) (v : Variable) → variablesOf (start m) d ≡ done l → In l v → d .name ≡ v .name
-  unfolding variablesOf
-  variable-name d l v e h =
-      let i = over-in (d .domain) (start m) (variableFor d) l e v h in
-      ap (λ (w : Variable). w .name) (only _ v (i .result) (at-variable d _ (i .element) (i .result) (i .gives)) (i .holds))
+module _ (m : Model) where
+  among : (ds : List Declaration) (vs : List Variable) → walk variables (start m) ds ≡ done vs → (v : Variable) → In vs v → Among ds v
+  among ds vs g v h =
+      let w = walk-in variables (start m) ds vs g v h in
+      record { declaration = w .source; listed = w .listed; named = w .number-is }
 
-  pub variable-numbers : OneToOne vs (Declared m)
-  unfolding variablesOf
-  variable-numbers =
-      record {
-        has-number = λ v p.
-            let r = in-collect (variablesOf (start m)) (allDeclared m) vs generated (p .declaration) (p .listed) in
-            let i = in-over (p .declaration .domain) (start m) (variableFor (p .declaration)) (r .0) (r .1) (v .element) (p .inside) in
-            let a = at-variable (p .declaration) _ (v .element) (i .0) (i .1) in
-            r .2 v (i .2 v (subst (λ l. In l v) a (record { place = 0; at = λ k. record { name = p .named k; element = v .element } })));
-        of-number = λ j v h.
-            let r = collect-in (variablesOf (start m)) (allDeclared m) vs generated v (record { place = j; at = h }) in
-            let i = over-in (r .source .domain) (start m) (variableFor (r .source)) (r .result) (r .gives) v (r .holds) in
-            let a = only _ v (i .result) (at-variable (r .source) _ (i .element) (i .result) (i .gives)) (i .holds) in
-            record {
-              declaration = r .source;
-              listed = r .listed;
-              named = ap (λ (w : Variable). w .name) a;
-              inside = subst (λ (w : Variable). InDomain (r .source .domain) (start m) (w .element)) a (i .inside);
-            };
-        once =
-            distinct-collect (variablesOf (start m)) (allDeclared m) vs generated (distinct-declarations m)
-            (λ d l e. distinct-over (d .domain) (start m) (variableFor d) l e
-            (λ t e l h. single _ l (at-variable d t e l h))
-            (λ t t′ e e′ l l′ v h h′ n n′. ap (λ (w : Variable). w .element) (only _ v l (at-variable d t e l h) n ∙ sym (only _ v l′ (at-variable d t′ e′ l′ h′) n′))))
-            (λ d d′ n n′ l l′ v e e′ h h′. named-once m d d′ n n′ (variable-name d l v e h ∙ sym (variable-name d′ l′ v e′ h′)));
-      }
+  by-name : (ds : List Declaration) (vs : List Variable) → walk variables (start m) ds ≡ done vs → Rising (λ (d e : Declaration). d .name < e .name) ds
+      → Rising (Before variables) vs
+  by-name = rising-walk variables (start m)
+
+  kinds-apart : (v w : Variable) → Among (discretes m) v → Among (continuouses m) w → v .name ≡ w .name → ⊥
+  kinds-apart v w a b n = apart m (a .declaration) (b .declaration) (a .listed) (b .listed) (a .named ∙ n ∙ sym (b .named))
+
+  earlier-apart : (v w : Variable) → EarlierVariable m v w → v ≡ w → ⊥
+  earlier-apart v w (Demand3.by-kind a b) e = kinds-apart v w a b (ap (λ (x : Variable). x .name) e)
+  earlier-apart v w (Demand3.by-declaration k n) e = omega (arith, ap (λ (x : Variable). x .name) e)
+  earlier-apart v w (Demand3.by-element n p) e = not-itself (w .element) (subst (λ (x : Variable). Precedes (x .element) (w .element)) e p)
+
+  -- the name of a declared variable stands in the table
+  pub in-table : (v : Variable) → Declared m v → (x : Name) × At (m .structure .names) (v .name) x
+  unfolding discretes continuouses
+  in-table v p = go (in-append (discretes m) (continuouses m) (p .declaration) (p .listed))
+    where
+      found : (f : Sort → Option Spans) → In (declared f 0 (m .structure .names)) (p .declaration) → (x : Name) × At (m .structure .names) (v .name) x
+      found f h =
+          let r = declares f 0 (m .structure .names) (p .declaration) h in
+          let same : r .ordinal ≡ v .name = omega (arith, r .name-is, p .named) in
+          (r .name, subst (λ i. At (m .structure .names) i (r .name)) same (r .at))
+
+      go : In (discretes m) (p .declaration) ⊎ In (continuouses m) (p .declaration) → (x : Name) × At (m .structure .names) (v .name) x
+      go (inl h) = found asDiscrete h
+      go (inr h) = found asContinuous h
+
+  module _ (vs : List Variable) (n : ℕ) (made : Variables m vs n) where
+    abbrev first : List Variable
+    first = made .discrete
+
+    abbrev later : List Variable
+    later = made .continuous
+
+    of-discrete : (v : Variable) → In first v → Among (discretes m) v
+    of-discrete = among (discretes m) first (made .discrete-made)
+
+    of-continuous : (v : Variable) → In later v → Among (continuouses m) v
+    of-continuous = among (continuouses m) later (made .continuous-made)
+
+    pub variable-order : Rising (EarlierVariable m) vs
+    unfolding discretes continuouses
+    variable-order =
+        subst (Rising (EarlierVariable m)) (made .joined)
+        (rising-append first later
+        (rising-as first (by-name (discretes m) first (made .discrete-made) (rising-declared asDiscrete 0 (m .structure .names)))
+        (λ v w h k o. earlier v w (inl (of-discrete v h, of-discrete w k)) o))
+        (rising-as later (by-name (continuouses m) later (made .continuous-made) (rising-declared asContinuous 0 (m .structure .names)))
+        (λ v w h k o. earlier v w (inr (of-continuous v h, of-continuous w k)) o))
+        (λ v w h k. Demand3.by-kind (of-discrete v h) (of-continuous w k)))
+      where
+        earlier : (v w : Variable) → (Among (discretes m) v × Among (discretes m) w) ⊎ (Among (continuouses m) v × Among (continuouses m) w)
+            → Before variables v w → EarlierVariable m v w
+        earlier v w k (inl o) = Demand3.by-declaration k o
+        earlier v w k (inr o) = Demand3.by-element (o .0) (o .1)
+
+    pub discrete-first : (i : ℕ) (v : Variable) → At vs i v → (ltb i n ≡ true) ↔ Among (discretes m) v
+    discrete-first i v at = go (at-append first later i v (subst (λ l. At l i v) (sym (made .joined)) at))
+      where
+        go : Split first later i v → (ltb i n ≡ true) ↔ Among (discretes m) v
+        go (inl h) = (λ t. of-discrete v (record { place = i; at = h }), λ a. lt-ltb i n (omega (arith, at-length first i v h, made .counted)))
+        go (inr h) = (
+          λ t. absurd (omega (arith, ltb-true i n t, h .1, made .counted)),
+          λ a. absurd (kinds-apart v v a (of-continuous v (record { place = h .0; at = h .2 })) refl),
+        )
+
+    all-made : walk variables (start m) (allDeclared m) ≡ done vs
+    all-made = collect-append _ (discretes m) (continuouses m) first later (made .discrete-made) (made .continuous-made) ∙ ap done (made .joined)
+
+    pub variable-numbers : OneToOne vs (Declared m)
+    variable-numbers =
+        record {
+          has-number = λ v p.
+              let d = p .declaration in
+              let r = in-walk variables (start m) (allDeclared m) vs all-made d (p .listed) (v .element) (p .inside) in
+              let o = variables .one d _ (v .element) (r .0 ∷ []) (r .1) in
+              let name : o .0 .name ≡ v .name = sym (o .2) ∙ p .named in
+              let same : o .0 ≡ v = (λ i. record { name = name i; element = sym (o .3) i }) in
+              subst (In vs) (sym (only (o .0) (r .0) (r .0 ∷ []) (o .1) (in-here (r .0) [])) ∙ same) (r .2);
+          of-number = λ j v h.
+              let w = walk-in variables (start m) (allDeclared m) vs all-made v (record { place = j; at = h }) in
+              record { declaration = w .source; listed = w .listed; named = w .number-is; inside = w .inside };
+          once = distinct-from-map (λ v. v) vs (distinct-rising (λ v. v) vs variable-order earlier-apart);
+        }
 
 -- ---- the entries that pass a test
 
@@ -201,13 +237,13 @@ keep-in {A} p (b ∷ l) a h = go (p b) refl h (keep-in p l a)
     go true e h ih = first e ih (in-cons b (keep p l) a h)
     go false e h ih = (in-later b l a (ih h .0), ih h .1)
 
-distinct-keep : {A : Type 0} (p : A → Bool) (l : List A) → Distinct l → Distinct (keep p l)
+rising-keep : {A : Type 0} {R : A → A → Type 0} (p : A → Bool) (l : List A) → Rising R l → Rising R (keep p l)
 unfolding keep
-distinct-keep {A} p [] d = d
-distinct-keep {A} p (b ∷ l) d = go (p b) (distinct-keep p l (distinct-tail b l d))
+rising-keep {A} {R} p [] r = r
+rising-keep {A} {R} p (b ∷ l) r = go (p b) (rising-keep p l (rising-tail b l r))
   where
-    go : (s : Bool) → Distinct (keep p l) → Distinct {A = A} (elim s [ true ↦ b ∷ keep p l | false ↦ keep p l ])
-    go true ih = distinct-cons b (keep p l) (λ h. distinct-head b l d (keep-in p l b h .0)) ih
+    go : (s : Bool) → Rising R (keep p l) → Rising R (elim s [ true ↦ b ∷ keep p l | false ↦ keep p l ])
+    go true ih = rising-cons b (keep p l) (λ a h. rising-head b l r a (keep-in p l a h .0)) ih
     go false ih = ih
 
 -- ---- rows
@@ -258,38 +294,34 @@ rows-in es e h = go (in-append (keep lessRow es) (keep equalRow es) e h)
     go (inl k) = let r = less-in es e k in (r .0, r .2)
     go (inr k) = let r = equal-in es e k in (r .0, r .2)
 
-distinct-rows : (es : List Entry) → Distinct es → Distinct (rowsOf es)
-distinct-rows es d =
-    distinct-append (keep lessRow es) (keep equalRow es) (distinct-keep lessRow es d) (distinct-keep equalRow es d)
-    (λ e h k. true-false (sym (equal-in es e k .1) ∙ less-in es e h .1))
+pub less-first : (es : List Entry) (i : ℕ) (e : Entry) → At (rowsOf es) i e → (i < length (keep lessRow es)) ↔ (isEqual (e .source .constraint .relation) ≡ false)
+less-first es i e at = go (at-append (keep lessRow es) (keep equalRow es) i e at)
+  where
+    go : Split (keep lessRow es) (keep equalRow es) i e → (i < length (keep lessRow es)) ↔ (isEqual (e .source .constraint .relation) ≡ false)
+    go (inl h) = (λ t. less-in es e (record { place = i; at = h }) .1, λ f. at-length (keep lessRow es) i e h)
+    go (inr h) = (λ t. absurd (omega (arith, h .1)), λ f. true-false (sym (equal-in es e (record { place = h .0; at = h .2 }) .1) ∙ f))
 
-module _ (m : Model) (vs : List Variable) (es : List Entry) (generated : collect (entriesOf vs (start m)) (placed 0 (m .structure .constraints)) ≡ done es) where
-  same-source : (c : Placed) (l : List Entry) (e : Entry) → entriesOf vs (start m) c ≡ done l → In l e
-      → c ≡ record { ordinal = e .source .ordinal; constraint = e .source .constraint }
-  unfolding entriesOf
-  same-source c l e g h =
-      let i = over-in (c .constraint .domain) (start m) (entryFor vs c) l g e h in
-      let a = entryFor-done m vs c _ (i .element) (i .result) (i .gives) in
-      let same = only _ e (i .result) (a .2) (i .holds) in
-      λ k. record { ordinal = same k .source .ordinal; constraint = same k .source .constraint }
+earlier-sources : (a b : Entry) → EarlierRow a b → sourceOf a ≡ sourceOf b → ⊥
+earlier-sources a b (Demand3.by-kind f t) e = true-false (sym t ∙ sym (ap (λ (o : Source). isEqual (o .constraint .relation)) e) ∙ f)
+earlier-sources a b (Demand3.by-text k n) e = omega (arith, ap (λ (o : Source). o .ordinal) e)
+earlier-sources a b (Demand3.by-element n p) e = not-itself (b .source .element) (subst (λ (o : Source). Precedes (o .element) (b .source .element)) e p)
 
-  distinct-entries : Distinct es
-  unfolding entriesOf
-  distinct-entries =
-      distinct-collect (entriesOf vs (start m)) (placed 0 (m .structure .constraints)) es generated (distinct-placed 0 (m .structure .constraints))
-      (λ c l g. distinct-over (c .constraint .domain) (start m) (entryFor vs c) l g
-      (λ t e l h. single _ l (entryFor-done m vs c t e l h .2))
-      (λ t t′ e e′ l l′ b h h′ n n′. ap (λ (d : Entry). d .source .element)
-      (only _ b l (entryFor-done m vs c t e l h .2) n ∙ sym (only _ b l′ (entryFor-done m vs c t′ e′ l′ h′ .2) n′))))
-      (λ c c′ n n′ l l′ e g g′ h h′. same-source c l e g h ∙ sym (same-source c′ l′ e g′ h′))
+module _ (m : Model) (vs : List Variable) (es : List Entry) (generated : walk (entries vs) (start m) (placed 0 (m .structure .constraints)) ≡ done es) where
+  by-ordinal : Rising (Before (entries vs)) es
+  by-ordinal =
+      rising-walk (entries vs) (start m) (placed 0 (m .structure .constraints)) es generated (rising-placed 0 (m .structure .constraints))
 
-  -- a source has one fact
-  same-entry : (a b : Entry) → In (rowsOf es) a → In (rowsOf es) b → sourceOf a ≡ sourceOf b → a ≡ b
-  same-entry a b h k e =
-      let x = entry-made m vs es generated a (rows-in es a h .0) in
-      let y = entry-made m vs es generated b (rows-in es b k .0) in
-      let f : a .fact ≡ b .fact = done-injective (sym (x .made) ∙ ap (madeOf m vs) e ∙ y .made) in
-      λ i. record { source = e i; fact = f i }
+  pub row-order : Rising EarlierRow (rowsOf es)
+  row-order =
+      rising-append (keep lessRow es) (keep equalRow es)
+      (rising-as (keep lessRow es) (rising-keep lessRow es by-ordinal) (λ a b h k o. earlier a b (less-in es a h .1 ∙ sym (less-in es b k .1)) o))
+      (rising-as (keep equalRow es) (rising-keep equalRow es by-ordinal) (λ a b h k o. earlier a b (equal-in es a h .1 ∙ sym (equal-in es b k .1)) o))
+      (λ a b h k. Demand3.by-kind (less-in es a h .1) (equal-in es b k .1))
+    where
+      earlier : (a b : Entry) → isEqual (a .source .constraint .relation) ≡ isEqual (b .source .constraint .relation)
+          → Before (entries vs) a b → EarlierRow a b
+      earlier a b k (inl o) = Demand3.by-text k o
+      earlier a b k (inr o) = Demand3.by-element (o .0) (o .1)
 
   pub row-numbers : OneToOne (map sourceOf (rowsOf es)) (RowSource m)
   row-numbers =
@@ -303,5 +335,5 @@ module _ (m : Model) (vs : List Variable) (es : List Entry) (generated : collect
             let k = rows-in es (r .0) (r .1) in
             let x = entry-made m vs es generated (r .0) (k .0) in
             subst (RowSource m) (r .2) (record { written = x .written; no-bound = row-form vs (r .0 .source .constraint .left) _ _ _ (r .0 .fact) (x .made) (k .1) });
-        once = distinct-map sourceOf (rowsOf es) same-entry (distinct-rows es distinct-entries);
+        once = distinct-rising sourceOf (rowsOf es) row-order earlier-sources;
       }
