@@ -1,2 +1,4 @@
 pub mod Steps
 pub mod Balanced
+pub mod Walked
+pub mod WalkedLinear

@@ -12,7 +12,7 @@ use Rattle.lexer.specs.Text.{Token, Kind, sameBytes}
 use Rattle.lexer.specs.Text
 use Rattle.language.specs.Outcome.{Outcome, done, refused, _>>=_, done-injective, refused-done, some-injective, none-some}
 use Rattle.language.specs.Syntax.{Name}
-use Rattle.language.specs.Reader.{Reader, Read, follow, asRead, passed, next, look, isMark, nameOf, demand, require, expect, bracket, Used, find, found, known, readKnown, isIndex, readIndex}
+use Rattle.language.specs.Reader.{Reader, Read, follow, asRead, refuse, passed, next, look, isMark, nameOf, demand, require, expect, bracket, Used, find, found, known, readKnown, isIndex, readIndex}
 use Rattle.language.specs.Formulas.{headOf}
 use Rattle.walk.specs.Walk.{skip, usedNumber, nameNumber, restAs, walkHead}
 
@@ -36,19 +36,16 @@ module _ {A B : Type 0} where
   via q (done v) l m k j e f = ap (λ x. follow x k) e ∙ f v
   via q (refused n p) l m k j e f = ap (λ x. follow x k) e
 
-  -- two walks on from one evaluation
-  pub alike : (o : Outcome A) (l m : List Token) (k j : A → Reader B) → ((v : A) → k v l ≡ j v m) → follow (asRead o l) k ≡ follow (asRead o m) j
-  alike (done v) l m k j f = f v
-  alike (refused n p) l m k j f = refl
-
   -- what is read last
   pub ends : (h : A → Outcome B) {x t : A} {l rest : List Token} → read x l ≡ read t rest → asRead (h x) l ≡ asRead (h t) rest
   ends h e = ap (λ (r : Read A). asRead (h (r .what)) (r .rest)) (done-injective e)
 
 module _ {A B C : Type 0} where
-  pub regroup : (o : Outcome A) (j : A → Outcome B) (l : List Token) (k : B → Reader C) → follow (asRead (o >>= j) l) k ≡ follow (asRead o l) (λ v m. follow (asRead (j v) m) k)
-  regroup (done v) j l k = refl
-  regroup (refused n p) j l k = refl
+  -- an evaluation joined to the one before it
+  pub onward : (q : Outcome (Read A)) (o : Outcome A) (j : A → Outcome B) (l m : List Token) (k : A → Reader C) (w : B → Reader C) → q ≡ asRead o l
+      → ((v : A) → k v l ≡ follow (asRead (j v) m) w) → follow q k ≡ follow (asRead (o >>= j) m) w
+  onward q (done v) j l m k w e f = ap (λ x. follow x k) e ∙ f v
+  onward q (refused n p) j l m k w e f = ap (λ x. follow x k) e
 
 module _ {A : Type 0} where
   pub same-what : {a b : A} {l m : List Token} → read a l ≡ read b m → a ≡ b
@@ -64,6 +61,18 @@ module _ {A : Type 0} where
   pub restAs-is : (o : Outcome A) (l : List Token) → restAs o l ≡ asRead o l
   restAs-is (done a) l = refl
   restAs-is (refused n p) l = refl
+
+  -- an evaluation with nothing behind it
+  pub stays : (q : Outcome (Read A)) (o : Outcome A) (l m : List Token) (k : A → Reader A) → q ≡ asRead o l → ((v : A) → k v l ≡ read v m) → follow q k ≡ asRead o m
+  stays q (done v) l m k e f = ap (λ x. follow x k) e ∙ f v
+  stays q (refused n p) l m k e f = ap (λ x. follow x k) e
+
+-- a walk and a reader of the same tokens: where x is read, the walk gives what h makes of x, and the same rest
+pub record Walks {X A : Type 0} (R : Reader X) (h : X → Outcome A) (W : Reader A) : Type 0 where
+  pub walks : (ts : List Token) (x : X) (rest : List Token) → R ts ≡ read x rest → W ts ≡ asRead (h x) rest
+
+pub nothing : {X A : Type 0} {h : X → Outcome A} {W : Reader A} (n : Refusal) (p : ℕ) → Walks (refuse n p) h W
+nothing n p = record { walks = λ ts x rest e. absurd (refused-done e) }
 
 -- ---- one token
 
@@ -122,6 +131,10 @@ expect-is c ts p rest e =
 
 pub skip-expect : (c : ℕ) (ts : List Token) (p : ℕ) (rest : List Token) → expect c ts ≡ read p rest → skip ts ≡ read tt rest
 skip-expect c ts p rest e = let s = expect-is c ts p rest e in skip-next ts (s .token) rest (s .stands)
+
+-- the place of a sign that was looked at before
+pub expect-place : (c : ℕ) (ts : List Token) (t : Token) (l : List Token) (p : ℕ) (m : List Token) → look ts ≡ read t l → expect c l ≡ read p m → p ≡ t .place
+expect-place c ts t l p m e h = let s = expect-is c l p m h in sym (s .at) ∙ ap (λ (u : Token). u .place) (looked ts t l (s .token) m e (s .stands))
 
 pub bracket-is : (c n : ℕ) (ts : List Token) (p : ℕ) (rest : List Token) → bracket c n ts ≡ read p rest → expect c ts ≡ read p rest
 unfolding bracket
