@@ -24,9 +24,41 @@ use Rattle.language.specs.Evaluation.{Limits, limitsOf, runOf, each, eval, eval
 use Rattle.language.specs.Numbering.{Variable, numberOf, Row, xor, signed, addAt, variableAt, gather, gatherTerm}
 use Rattle.walk.specs.Walk.{skip, behindBracket, restAs, walkHead, walkLimits, walkSubscripts, walkPrimaryBy, walkInside, valueAt}
 use Rattle.walk.specs.WalkLinear.{Gatherer, rowOnly, walkNumber, walkVariable, walkLinearTerm, walkLinearTerms, walkLinear, noSigmaWalk, walkBodyForm, walkRuns, walkSigma, gatherAt}
-use Rattle.walk.proofs.Steps.{read, after-read, on, via, stays, ends, same-what, same-rest, done-last, restAs-is, Walks, nothing, skip-next, expect-is, head-walks}
+use Rattle.walk.proofs.Steps.{read, after-read, on, via, stays, ends, same-what, same-rest, done-last, restAs-is, Walks, nothing, look-is, skip-next, expect-is, head-walks}
 use Rattle.walk.proofs.Balanced.{sigma-body-end}
 use Rattle.walk.proofs.Walked.{Agrees, limits-walk, subscripts-walk, inside-agrees, primaryBy-walks, walked}
+
+-- no sign, and no further term
+no-sign : (ts : List Token) (g : Signed) (l : List Token) → readSign ts ≡ read g l → g .written ≡ false → ts ≡ l
+unfolding readSign
+no-sign ts g l e w = after-read (look ts) _ _ e λ t m tm e. let (k, a, b) = look-is ts t m tm in a ∙ sym b ∙ go t m (isSum t) e
+  where
+    go : (t : Token) (m : List Token) (b : Bool)
+        → (elim b as (λ _. Reader Signed) [
+          | true ↦ next >>= (λ _. give (record { written = true; negative = isMark minusSign t }))
+          | false ↦ give (record { written = false; negative = false })
+        ]) m ≡ read g l
+        → m ≡ l
+    go t m true e =
+        after-read (next m) _ _ e λ _ _ _ e.
+        let h = ap (λ (s : Signed). s .written) (same-what e) ∙ w in
+        absurd (let z : _≡_ {A = ℕ} 0 1 = cc in omega arith)
+    go t m false e = same-rest e
+
+no-terms : (T : Reader Term) (k : ℕ) (ts l : List Token) → linearTerms T k ts ≡ read Syntax.end l → ts ≡ l
+unfolding linearTerms
+no-terms T zero ts l e = same-rest e
+no-terms T (suc k) ts l e = after-read (look ts) _ _ e λ t m tm e. let (h, a, b) = look-is ts t m tm in a ∙ sym b ∙ go t m (isSum t) e
+  where
+    go : (t : Token) (m : List Token) (b : Bool)
+        → (elim b as (λ _. Reader Form) [ true ↦ next >>= (λ _. T >>= (λ u. linearTerms T k >>= (λ g. give (also (isMark minusSign t) u g)))) | false ↦ give Syntax.end ]) m ≡ read Syntax.end l
+        → m ≡ l
+    go t m true e =
+        after-read (next m) _ _ e λ _ m _ e.
+        after-read (T m) _ _ e λ _ m _ e.
+        after-read (linearTerms T k m) _ _ e λ _ m _ e.
+        cc (same-what e)
+    go t m false e = same-rest e
 
 module _ (vs : List Variable) (names : List Name) where
   -- readers of terms and of forms, and what gathers them
@@ -203,3 +235,74 @@ module _ (vs : List Variable) (names : List Name) where
       → (s : Scope) (c : Value) (m : Bool) (r : Row) → gatherAt vs names n s c m r ts ≡ asRead (gather vs (x .form) s c m r) rest
   unfolding linearAt gatherAt
   gathered-walk n ts x rest e s c m r = linear-gathers _ _ (term-gathers (sigmaAt names n) (walkSigma vs names n) (sigma-gathers n) true n tokenLimit) s c m r .walks ts x rest e
+
+  -- ---- a left side that is one variable without sign or factor: its name's token, and its number behind it
+
+  pub record Bare (n i : ℕ) (d : Spans) (fs : Formulas) (p : ℕ) (ts rest : List Token) : Type 0 where
+    pub token : Token
+    pub behind : List Token
+    pub stands : next ts ≡ read token behind
+    pub at : token .place ≡ p
+    pub begins : headBy names true (token .kind) ≡ aVariable i d
+    pub walks : (s : Scope) → walkNumber vs names n i d p s behind ≡ asRead (variableAt vs i d fs p s) rest
+
+  module _ (i : ℕ) (d : Spans) (fs : Formulas) (p : ℕ) where
+    no-sigma : (n q : ℕ) (ts rest : List Token) → sigmaAt names n q ts ≡ read (variable i d fs p) rest → ⊥
+    unfolding sigmaAt
+    no-sigma zero q ts rest e = after-read (headOf names zero ts) _ _ e λ i l il e. refused-done e
+    no-sigma (suc n) q ts rest e =
+        after-read (headOf names (suc n) ts) _ _ e λ _ l _ e.
+        after-read (partOf (formulaAt names n) comma l) _ _ e λ _ l _ e.
+        after-read (partOf (formulaAt names n) comma l) _ _ e λ _ l _ e.
+        after-read (bodyOf names (sigmaAt names n) n l) _ _ e λ _ l _ e.
+        after-read (expect closes l) _ _ e λ _ l _ e.
+        let z : _≡_ {A = ℕ} 0 1 = cc (same-what e) in
+        omega arith
+
+    bare-term : (n k : ℕ) (ts rest : List Token) → linearTerm names (sigmaAt names n) true n k ts ≡ read (variable i d fs p) rest → Bare n i d fs p ts rest
+    unfolding linearTerm
+    bare-term n zero ts rest e = absurd (refused-done e)
+    bare-term n (suc k) ts rest e = after-read (next ts) _ _ e λ x l xl e. go x l xl (headBy names true (x .kind)) refl e
+      where
+        go : (x : Token) (l : List Token) → next ts ≡ read x l → (h : Head) → headBy names true (x .kind) ≡ h
+            → (elim h as (λ _. Reader Term) [
+              | aSigma ↦ sigmaAt names n (x .place)
+              | aVariable i d ↦ subscriptsOf n (insideAt names n) d >>= (λ fs. give (variable i d fs (x .place)))
+              | aPrimary ↦ primaryBy names n (insideAt names n) (x .place) (x .kind) >>= (λ f. expect timesSign >>= (λ p. linearTerm names (sigmaAt names n) true n k >>= (λ y. give (factor f p y))))
+            ]) l ≡ read (variable i d fs p) rest
+            → Bare n i d fs p ts rest
+        go x l xl aSigma b e = absurd (no-sigma n (x .place) l rest e)
+        go x l xl (aVariable j v) b e =
+            after-read (subscriptsOf n (insideAt names n) v l) _ _ e λ gs m gm e.
+            let same = same-what e in
+            let ij : j ≡ i = cc in
+            let vd : v ≡ d = cc in
+            let gf : gs ≡ fs = cc in
+            let q : x .place ≡ p = cc in
+            record {
+              token = x;
+              behind = l;
+              stands = xl;
+              at = q;
+              begins = b ∙ ap (λ j. aVariable j v) ij ∙ ap (aVariable i) vd;
+              walks = λ s. number-walks n i d p s .walks l fs rest (rw (vd, gf, same-rest e) at gm);
+            }
+        go x l xl aPrimary b e =
+            after-read (primaryBy names n (insideAt names n) (x .place) (x .kind) l) _ _ e λ _ l _ e.
+            after-read (expect timesSign l) _ _ e λ _ l _ e.
+            after-read (linearTerm names (sigmaAt names n) true n k l) _ _ e λ _ l _ e.
+            absurd (let z : _≡_ {A = ℕ} 0 1 = cc (same-what e) in omega arith)
+
+    pub bare-walk : (n : ℕ) (ts : List Token) (x : Linear) (rest : List Token) → linearAt names n ts ≡ done (record { what = x; rest = rest })
+        → x .signed ≡ false → x .form ≡ also false (variable i d fs p) Syntax.end → Bare n i d fs p ts rest
+    unfolding linearAt linearOf
+    bare-walk n ts x rest e plain one =
+        after-read (readSign ts) _ _ e λ g l gl e.
+        after-read (linearTerm names (sigmaAt names n) true n tokenLimit l) _ _ e λ u l₁ ul e.
+        after-read (linearTerms (linearTerm names (sigmaAt names n) true n tokenLimit) tokenLimit l₁) _ _ e λ f l₂ fl e.
+        let form : also (g .negative) u f ≡ also false (variable i d fs p) Syntax.end = ap (λ (y : Linear). y .form) (same-what e) ∙ one in
+        let uv : u ≡ variable i d fs p = cc in
+        let fe : f ≡ Syntax.end = cc in
+        let r : l₁ ≡ rest = no-terms _ tokenLimit l₁ l₂ (fl ∙ ap (λ f. read f l₂) fe) ∙ same-rest e in
+        let tl : ts ≡ l = no-sign ts g l gl (ap (λ (y : Linear). y .signed) (same-what e) ∙ plain) in
+        rw tl (bare-term n tokenLimit l rest (ul ∙ ap (λ u. read u l₁) uv ∙ ap (read (variable i d fs p)) r))
