@@ -20,7 +20,8 @@ use Rattle.language.specs.Reader.{Reader, Read, _>>=_, give, refuse, next, look
 use Rattle.language.specs.Formulas.{factors, termOf, isSum, summands, Signed, readSign, formulaOf, partOf, headOf, sumFormula, formulasOf, subscriptsOf, namedBy, nestedOf, primaryBy, primaryOf, insideAt, formulaAt}
 use Rattle.language.specs.Linear.{Head, aSigma, aVariable, aPrimary, headBy, linearTerm, linearTerms, Linear, linearOf, noSigma, plainForm, bodyOf, sigmaAt}
 use Rattle.walk.specs.Walk.{opensBracket, closesBracket, behindBracket}
-use Rattle.walk.proofs.Steps.{read, after-read, same-rest, next-is, look-is, looked, expect-is, bracket-is, known-is, readIndex-is}
+use Rattle.walk.specs.Entries.{read}
+use Rattle.walk.proofs.Steps.{after-read, same-rest, next-is, look-is, look-stays, looked, expect-is, bracket-is, known-is, readIndex-is}
 
 -- ---- depths: with n brackets open, the tokens behind the last one's end
 
@@ -99,7 +100,7 @@ module _ {A : Type 0} where
           let j : t ∷ m ≡ u ∷ us = sym i ∙ next-is l u us uk in
           let mk : m ≡ us = cc in
           ap (behindBracket d) h ∙ token-depth t m d ∙ ap (λ n. behind n m) (plain t d c) ∙ ap (behindBracket d) mk ∙ k t .shifts us b rest e d
-      go ts b rest d t l tl false c e = let (m, h, i) = look-is ts t l tl in ap (behindBracket d) (h ∙ sym i) ∙ n t .shifts l b rest e d
+      go ts b rest d t l tl false c e = ap (behindBracket d) (look-stays ts t l tl) ∙ n t .shifts l b rest e d
 
 expect-shifts : (c : ℕ) → Shifts (depth c) (expect c)
 expect-shifts c =
@@ -114,7 +115,7 @@ bracket-shifts : (c n : ℕ) → Shifts (depth c) (bracket c n)
 bracket-shifts c n = record { shifts = λ ts p rest e. expect-shifts c .shifts ts p rest (bracket-is c n ts p rest e) }
 
 look-balanced : Balanced look
-look-balanced = record { shifts = λ ts t l e d. let (m, h, i) = look-is ts t l e in ap (behindBracket d) (h ∙ sym i) }
+look-balanced = record { shifts = λ ts t l e d. ap (behindBracket d) (look-stays ts t l e) }
 
 -- a plus or a minus, and the word `S`, are no brackets
 sum-plain : (t : Token) (d : ℕ) → isSum t ≡ true → depth (markOf (t .kind)) d ≡ suc d

@@ -15,11 +15,9 @@ use Rattle.language.specs.Syntax.{Name}
 use Rattle.language.specs.Reader.{Reader, Read, follow, asRead, refuse, passed, next, look, isMark, nameOf, demand, require, expect, bracket, Used, find, found, known, readKnown, isIndex, readIndex}
 use Rattle.language.specs.Formulas.{headOf}
 use Rattle.walk.specs.Walk.{skip, usedNumber, nameNumber, restAs, walkHead}
+use Rattle.walk.specs.Entries.{read}
 
 -- ---- sequences
-
-abbrev pub read : {A : Type 0} → A → List Token → Outcome (Read A)
-read a l = done (record { what = a; rest = l })
 
 module _ {A B : Type 0} where
   -- what a sequence that reads something is made of
@@ -98,6 +96,9 @@ look-is [] t l e = absurd (refused-done e)
 look-is (u ∷ us) t l e =
     let h : read u (u ∷ us) ≡ read t l = passed-is (u .kind) u (u ∷ us) _ e in
     (us, ap (λ x. x ∷ us) (same-what h), sym (same-rest h) ∙ ap (λ x. x ∷ us) (same-what h))
+
+pub look-stays : (ts : List Token) (t : Token) (l : List Token) → look ts ≡ read t l → ts ≡ l
+look-stays ts t l e = let (m, a, b) = look-is ts t l e in a ∙ sym b
 
 -- the one looked at is the next
 pub looked : (ts : List Token) (t : Token) (l : List Token) (u : Token) (m : List Token) → look ts ≡ read t l → next l ≡ read u m → u ≡ t

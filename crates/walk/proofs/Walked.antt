@@ -24,7 +24,8 @@ use Rattle.language.specs.Formulas.{factors, termOf, isSum, negated, summands, 
 use Rattle.language.specs.Scope.{Scope, bind, unbound, boundTo}
 use Rattle.language.specs.Evaluation.{wholeAt, Limits, limitsOf, runOf, each, addTo, eval, evalAll, within}
 use Rattle.walk.specs.Walk.{skip, behindBracket, restAs, Walk, walkFactors, walkTerm, negatedValue, walkSummands, walkFormula, walkPart, valueOnly, walkTurns, walkBody, walkHead, walkLimits, walkSum, walkList, walkSubscripts, walkDatum, walkNamed, walkFound, walkPrimaryBy, walkPrimary, walkInside, valueAt}
-use Rattle.walk.proofs.Steps.{read, after-read, on, via, onward, stays, ends, restAs-is, Walks, nothing, looked, skip-next, skip-expect, expect-place, bracket-is, known-is, head-walks}
+use Rattle.walk.specs.Entries.{read}
+use Rattle.walk.proofs.Steps.{after-read, on, via, onward, stays, ends, restAs-is, Walks, nothing, looked, skip-next, expect-is, skip-expect, expect-place, bracket-is, known-is, head-walks}
 use Rattle.walk.proofs.Balanced.{body-end}
 
 -- a reader of formulas and its walk
@@ -103,14 +104,20 @@ formula-agrees T W a s =
 
 -- ---- a formula and a sign, limits, sums, subscripts
 
+pub part-walks : (F : Reader Formula) (W : Walk) → Agrees F W → (ts : List Token) (f : Formula) (l : List Token) → F ts ≡ read f l
+    → (t : Token) (rest : List Token) → next l ≡ read t rest → (s : Scope) → walkPart W s ts ≡ asRead (eval f s) rest
+unfolding walkPart
+part-walks F W a ts f l fl t rest tl s = stays (W s ts) (eval f s) l rest _ (a s .walks ts f l fl) (λ v. on (skip l) _ tt rest _ (skip-next l t rest tl) refl)
+
 pub part-agrees : (F : Reader Formula) (W : Walk) → Agrees F W → (c : ℕ) → Agrees (partOf F c) (walkPart W)
-unfolding partOf walkPart
+unfolding partOf
 part-agrees F W a c s =
     record {
       walks = λ ts t rest e.
           after-read (F ts) _ _ e λ f l fl e.
           after-read (expect c l) _ _ e λ p m pm e.
-          stays (W s ts) (eval f s) l m _ (a s .walks ts f l fl) (λ v. on (skip l) _ tt m _ (skip-expect c l p m pm) refl) ∙ ends (λ x. eval x s) e;
+          let x = expect-is c l p m pm in
+          part-walks F W a ts f l fl (x .token) m (x .stands) s ∙ ends (λ x. eval x s) e;
     }
 
 module _ (F : Reader Formula) (W : Walk) (a : Agrees F W) (s : Scope) where

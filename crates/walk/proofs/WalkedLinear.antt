@@ -24,14 +24,15 @@ use Rattle.language.specs.Evaluation.{Limits, limitsOf, runOf, each, eval, eval
 use Rattle.language.specs.Numbering.{Variable, numberOf, Row, xor, signed, addAt, variableAt, gather, gatherTerm}
 use Rattle.walk.specs.Walk.{skip, behindBracket, restAs, walkHead, walkLimits, walkSubscripts, walkPrimaryBy, walkInside, valueAt}
 use Rattle.walk.specs.WalkLinear.{Gatherer, rowOnly, walkNumber, walkVariable, walkLinearTerm, walkLinearTerms, walkLinear, noSigmaWalk, walkBodyForm, walkRuns, walkSigma, gatherAt}
-use Rattle.walk.proofs.Steps.{read, after-read, on, via, stays, ends, same-what, same-rest, done-last, restAs-is, Walks, nothing, look-is, skip-next, expect-is, head-walks}
+use Rattle.walk.specs.Entries.{read}
+use Rattle.walk.proofs.Steps.{after-read, on, via, stays, ends, same-what, same-rest, done-last, restAs-is, Walks, nothing, look-stays, skip-next, expect-is, head-walks}
 use Rattle.walk.proofs.Balanced.{sigma-body-end}
 use Rattle.walk.proofs.Walked.{Agrees, limits-walk, subscripts-walk, inside-agrees, primaryBy-walks, walked}
 
 -- no sign, and no further term
 no-sign : (ts : List Token) (g : Signed) (l : List Token) → readSign ts ≡ read g l → g .written ≡ false → ts ≡ l
 unfolding readSign
-no-sign ts g l e w = after-read (look ts) _ _ e λ t m tm e. let (k, a, b) = look-is ts t m tm in a ∙ sym b ∙ go t m (isSum t) e
+no-sign ts g l e w = after-read (look ts) _ _ e λ t m tm e. look-stays ts t m tm ∙ go t m (isSum t) e
   where
     go : (t : Token) (m : List Token) (b : Bool)
         → (elim b as (λ _. Reader Signed) [
@@ -48,7 +49,7 @@ no-sign ts g l e w = after-read (look ts) _ _ e λ t m tm e. let (k, a, b) = loo
 no-terms : (T : Reader Term) (k : ℕ) (ts l : List Token) → linearTerms T k ts ≡ read Syntax.end l → ts ≡ l
 unfolding linearTerms
 no-terms T zero ts l e = same-rest e
-no-terms T (suc k) ts l e = after-read (look ts) _ _ e λ t m tm e. let (h, a, b) = look-is ts t m tm in a ∙ sym b ∙ go t m (isSum t) e
+no-terms T (suc k) ts l e = after-read (look ts) _ _ e λ t m tm e. look-stays ts t m tm ∙ go t m (isSum t) e
   where
     go : (t : Token) (m : List Token) (b : Bool)
         → (elim b as (λ _. Reader Form) [ true ↦ next >>= (λ _. T >>= (λ u. linearTerms T k >>= (λ g. give (also (isMark minusSign t) u g)))) | false ↦ give Syntax.end ]) m ≡ read Syntax.end l
