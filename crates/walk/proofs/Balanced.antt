@@ -3,7 +3,7 @@
 use mathlib.Core.Path.{_≡_, refl, sym, _∙_, ap}
 use mathlib.Core.Bool.{Bool, true, false, cond, _||_}
 use mathlib.Core.Logic.{_⊎_, inl, inr}
-use mathlib.Core.List.{List, [], _∷_}
+use mathlib.Core.List.{List, _∷_}
 use Prim.Native.Nat.{ℕ, zero, suc}
 use native.Mathlib.Omega.{arith}
 use lib.Dec.{eqb, eqb→eq}
@@ -13,15 +13,15 @@ use Rattle.rules.specs.Limits.{tokenLimit}
 use Rattle.lexer.specs.Marks.{plusSign, minusSign, timesSign, comma, opens, closes, opensList, closesList, sumWord, sigmaWord}
 use Rattle.lexer.specs.Text.{Token, Kind}
 use Rattle.lexer.specs.Text
-use Rattle.language.specs.Outcome.{Outcome, done, refused, refused-done}
-use Rattle.language.specs.Syntax.{Formula, Formulas, Spans, Name, Sort, Form, Term, factor, variable, point, span}
+use Rattle.language.specs.Outcome.{refused-done}
+use Rattle.language.specs.Syntax.{Formula, Spans, Name, Sort, Form, Term, factor, variable, point, span}
 use Rattle.language.specs.Syntax
-use Rattle.language.specs.Reader.{Reader, Read, _>>=_, give, refuse, next, look, markOf, isMark, expect, bracket, Used, known, readIndex}
-use Rattle.language.specs.Formulas.{factors, termOf, isSum, summands, Signed, readSign, formulaOf, partOf, headOf, sumFormula, formulasOf, subscriptsOf, namedBy, nestedOf, primaryBy, primaryOf, insideAt, formulaAt}
-use Rattle.language.specs.Linear.{Head, aSigma, aVariable, aPrimary, headBy, linearTerm, linearTerms, Linear, linearOf, noSigma, plainForm, bodyOf, sigmaAt}
+use Rattle.language.specs.Reader.{Reader, _>>=_, give, refuse, next, look, markOf, isMark, expect, bracket, known, readIndex}
+use Rattle.language.specs.Formulas.{factors, termOf, isSum, summands, readSign, formulaOf, partOf, headOf, sumFormula, formulasOf, subscriptsOf, namedBy, nestedOf, primaryBy, primaryOf, insideAt, formulaAt}
+use Rattle.language.specs.Linear.{Head, aSigma, aVariable, aPrimary, headBy, linearTerm, linearTerms, linearOf, noSigma, plainForm, bodyOf, sigmaAt}
 use Rattle.walk.specs.Walk.{opensBracket, closesBracket, behindBracket}
 use Rattle.walk.specs.Entries.{read}
-use Rattle.walk.proofs.Steps.{after-read, same-rest, next-is, look-is, look-stays, looked, expect-is, bracket-is, known-is, readIndex-is}
+use Rattle.walk.proofs.Steps.{after-read, same-rest, next-is, look-is, look-stays, expect-is, bracket-is, known-is, readIndex-is}
 
 -- ---- depths: with n brackets open, the tokens behind the last one's end
 

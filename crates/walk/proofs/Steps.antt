@@ -7,7 +7,7 @@ use mathlib.Core.List.{List, [], _∷_}
 use Prim.Native.Nat.{ℕ, zero, suc}
 use Rattle.rules.specs.declared.Refusal.{Refusal}
 use Rattle.rules.specs.declared.Refusal.the-variants.{Misplaced}
-use Rattle.lexer.specs.Marks.{comma}
+use Rattle.lexer.specs.Marks.{comma, opens}
 use Rattle.lexer.specs.Text.{Token, Kind, sameBytes}
 use Rattle.lexer.specs.Text
 use Rattle.language.specs.Outcome.{Outcome, done, refused, _>>=_, done-injective, refused-done, some-injective, none-some}
@@ -44,6 +44,12 @@ module _ {A B C : Type 0} where
       → ((v : A) → k v l ≡ follow (asRead (j v) m) w) → follow q k ≡ follow (asRead (o >>= j) m) w
   onward q (done v) j l m k w e f = ap (λ x. follow x k) e ∙ f v
   onward q (refused n p) j l m k w e f = ap (λ x. follow x k) e
+
+  -- an evaluation of which something is made, and what follows it
+  pub via-made : (q : Outcome (Read B)) (o : Outcome A) (b : A → B) (l m : List Token) (k : B → Reader C) (j : A → Outcome C) → q ≡ asRead (o >>= λ a. done (b a)) l
+      → ((v : A) → k (b v) l ≡ asRead (j v) m) → follow q k ≡ asRead (o >>= j) m
+  via-made q (done v) b l m k j e f = ap (λ x. follow x k) e ∙ f v
+  via-made q (refused n p) b l m k j e f = ap (λ x. follow x k) e
 
 module _ {A : Type 0} where
   pub same-what : {a b : A} {l m : List Token} → read a l ≡ read b m → a ≡ b
@@ -107,6 +113,7 @@ looked ts t l u m e h =
     let c : u ∷ m ≡ t ∷ k = sym (next-is l u m h) ∙ b in
     cc
 
+-- what was read is passed over
 pub skip-next : (ts : List Token) (t : Token) (m : List Token) → next ts ≡ read t m → skip ts ≡ read tt m
 unfolding skip
 skip-next ts t m e = rw (next-is ts t m e) refl
@@ -144,6 +151,7 @@ bracket-is c (suc n) ts p rest e = e
 
 -- ---- names
 
+-- a name's number does not depend on where it is used
 found-at : (l : List ℕ) (names : List Name) (i p : ℕ) (u : Used) → find l names i p ≡ some u → (usedNumber (find l names i 0) ≡ u .number) × (p ≡ u .place)
 unfolding find
 found-at l [] i p u e = absurd (none-some e)
@@ -205,11 +213,11 @@ module _ (names : List Name) where
   pub head-walks : (n : ℕ) (ts : List Token) (u : Used) (rest : List Token) → headOf names n ts ≡ read u rest → walkHead names ts ≡ read (u .number) rest
   unfolding headOf walkHead
   head-walks n ts u rest e =
-      after-read (bracket _ n ts) _ _ e λ b l bl e.
+      after-read (bracket opens n ts) _ _ e λ b l bl e.
       after-read (readIndex names l) _ _ e λ v l₁ vl e.
       after-read (expect comma l₁) _ _ e λ p l₂ pl e.
       let x = readIndex-is l v l₁ vl in
-      on (skip ts) _ tt l _ (skip-expect _ ts b l (bracket-is _ n ts b l bl))
+      on (skip ts) _ tt l _ (skip-expect opens ts b l (bracket-is opens n ts b l bl))
       (on (next l) _ (x .token) l₁ _ (x .stands)
       (on (skip l₁) _ tt l₂ _ (skip-expect comma l₁ p l₂ pl)
       (ap (λ i. read i l₂) (x .number) ∙ ap (λ (r : Read Used). read (r .what .number) (r .rest)) (done-injective e))))

@@ -1,31 +1,29 @@
 -- A formula that is walked has the value of the tree that is read from its tokens, or its refusal, and leaves the same tokens.
 -- Assumes nothing.
-use mathlib.Core.Path.{_≡_, refl, sym, _∙_, ap, fun-ext}
+use mathlib.Core.Path.{_≡_, refl, _∙_, ap, fun-ext}
 use mathlib.Core.Bool.{Bool, true, false, cond}
-use mathlib.Core.Option.{Option, none, some}
-use mathlib.Core.List.{List, [], _∷_}
+use mathlib.Core.List.{List}
 use Prim.Native.Nat.{ℕ, zero, suc}
 use lib.Dec.{eqb}
 use lib.IntN.{ℤ}
-use Rattle.rules.specs.declared.Refusal.{Refusal}
-use Rattle.rules.specs.declared.Refusal.the-variants.{Misplaced, Full, Missing}
+use Rattle.rules.specs.declared.Refusal.the-variants.{Misplaced, Full}
 use Rattle.rules.specs.Limits.{tokenLimit}
 use Rattle.value.specs.declared.Value.{Value}
-use Rattle.value.specs.Decimal.{zeroValue, negate, sumOf, productOf}
+use Rattle.value.specs.Decimal.{zeroValue, sumOf, productOf}
 use Rattle.lexer.specs.Marks.{minusSign, timesSign, comma, opens, closes, opensList, closesList, sumWord}
 use Rattle.lexer.specs.Text.{Token, Kind}
 use Rattle.lexer.specs.Text
-use Rattle.language.specs.Outcome.{Outcome, done, refused, orRefuse, fitting, done-injective, refused-done}
+use Rattle.language.specs.Outcome.{Outcome, done, refused, fitting, done-injective}
 use Rattle.language.specs.Outcome as Outcome
-use Rattle.language.specs.Syntax.{Formula, Formulas, Spans, Name, Sort, point, span, datum, minus, plus, times, sum, more}
+use Rattle.language.specs.Syntax.{Formula, Formulas, Spans, Name, Sort, point, span, datum, plus, times}
 use Rattle.language.specs.Syntax
-use Rattle.language.specs.Reader.{Reader, Read, follow, asRead, _>>=_, give, refuse, lift, next, look, isMark, expect, bracket, Used, find, known}
-use Rattle.language.specs.Formulas.{factors, termOf, isSum, negated, summands, Signed, readSign, formulaOf, partOf, headOf, sumFormula, formulasOf, subscriptsOf, namedBy, nestedOf, primaryBy, primaryOf, insideAt, formulaAt}
-use Rattle.language.specs.Scope.{Scope, bind, unbound, boundTo}
-use Rattle.language.specs.Evaluation.{wholeAt, Limits, limitsOf, runOf, each, addTo, eval, evalAll, within}
-use Rattle.walk.specs.Walk.{skip, behindBracket, restAs, Walk, walkFactors, walkTerm, negatedValue, walkSummands, walkFormula, walkPart, valueOnly, walkTurns, walkBody, walkHead, walkLimits, walkSum, walkList, walkSubscripts, walkDatum, walkNamed, walkFound, walkPrimaryBy, walkPrimary, walkInside, valueAt}
+use Rattle.language.specs.Reader.{Reader, Read, follow, asRead, _>>=_, give, next, look, isMark, expect, bracket, known}
+use Rattle.language.specs.Formulas.{factors, termOf, isSum, negated, summands, readSign, formulaOf, partOf, headOf, sumFormula, formulasOf, subscriptsOf, namedBy, nestedOf, primaryBy, primaryOf, insideAt, formulaAt}
+use Rattle.language.specs.Scope.{Scope, bind, unbound}
+use Rattle.language.specs.Evaluation.{wholeAt, limitsOf, runOf, each, addTo, eval, evalAll, within}
+use Rattle.walk.specs.Walk.{skip, behindBracket, Walk, walkFactors, walkTerm, negatedValue, walkSummands, walkFormula, walkPart, valueOnly, walkTurns, walkBody, walkHead, walkLimits, walkSum, walkList, walkSubscripts, walkDatum, walkNamed, walkFound, walkPrimaryBy, walkPrimary, walkInside, valueAt}
 use Rattle.walk.specs.Entries.{read}
-use Rattle.walk.proofs.Steps.{after-read, on, via, onward, stays, ends, restAs-is, Walks, nothing, looked, skip-next, expect-is, skip-expect, expect-place, bracket-is, known-is, head-walks}
+use Rattle.walk.proofs.Steps.{after-read, on, via, onward, stays, ends, restAs-is, Walks, nothing, skip-next, expect-is, skip-expect, expect-place, bracket-is, known-is, head-walks}
 use Rattle.walk.proofs.Balanced.{body-end}
 
 -- a reader of formulas and its walk

@@ -2,7 +2,7 @@
 --
 -- A declaration is read with the names before it, and its tokens are walked with the same names: a name that is declared later
 -- could not be used in them, and no law is needed for names that grow.
-use mathlib.Core.Path.{_≡_, refl, sym, _∙_, ap}
+use mathlib.Core.Path.{_≡_, refl, _∙_, ap}
 use mathlib.Core.Bool.{Bool, true, false, _&&_, not}
 use mathlib.Core.List.{List, [], _∷_}
 use Prim.Native.Nat.{ℕ, zero, suc}
@@ -15,17 +15,17 @@ use Rattle.rules.specs.declared.Refusal.the-variants.{Misplaced, Outside}
 use Rattle.rules.specs.Limits.{nestingLimit}
 use Rattle.lexer.specs.Marks.{comma, closes, atMost}
 use Rattle.lexer.specs.Text.{Token}
-use Rattle.language.specs.Outcome.{Outcome, done, refused, check}
+use Rattle.language.specs.Outcome.{Outcome, done, check}
 use Rattle.language.specs.Outcome as Outcome
 use Rattle.language.specs.Syntax.{Formula, Spans, Name, point, span}
-use Rattle.language.specs.Reader.{Reader, Read, follow, asRead, _>>=_, give, next, look, isMark, expect, Used, readIndex}
+use Rattle.language.specs.Reader.{Reader, asRead, _>>=_, give, next, look, isMark, expect, Used, readIndex}
 use Rattle.language.specs.Formulas.{partOf, Entry, entryOf, spanOf, entriesOf, inDomain}
 use Rattle.language.specs.Declarations.{isIn, readDue, dueOf}
 use Rattle.language.specs.Scope.{Scope, bind}
 use Rattle.language.specs.Evaluation.{wholeAt, Limits, limitsOf, eval, within}
 use Rattle.walk.specs.Walk.{skip, Walk, walkPart, walkList, walkSubscripts, Bounds, walkEntry, walkWithin, inDomainWalk}
 use Rattle.walk.specs.Entries.{read, ReadsEntry, ReadsSpans, indexCount}
-use Rattle.walk.proofs.Steps.{after-read, on, via, onward, stays, same-what, same-rest, look-stays, skip-next, expect-is, skip-expect, Named, required-is, readIndex-is}
+use Rattle.walk.proofs.Steps.{after-read, on, via, onward, via-made, same-what, same-rest, look-stays, expect-is, skip-expect, Named, required-is, readIndex-is}
 use Rattle.walk.proofs.Walked.{part-walks, part-agrees, inside-agrees}
 
 list-count : (F : Walk) (d : Spans) (s : Scope) (p : ℕ) (ts : List Token) (ks : List ℤ) (rest : List Token) → walkList F d s p ts ≡ read ks rest → length ks ≡ indexCount d
@@ -36,12 +36,6 @@ list-count F (span i f g q d) s p ts ks rest e =
     after-read (asRead (wholeAt p v) l) _ _ e λ k l₁ _ e.
     after-read (walkList F d s p l₁) _ _ e λ js m jm e.
     rw (← same-what e) (ap suc (list-count F d s p l₁ js m jm))
-
--- an evaluation of which something is made, and what follows it
-via-made : {A B C : Type 0} (q : Outcome (Read B)) (o : Outcome A) (b : A → B) (l m : List Token) (k : B → Reader C) (j : A → Outcome C) → q ≡ asRead (Outcome._>>=_ o λ a. done (b a)) l
-    → ((a : A) → k (b a) l ≡ asRead (j a) m) → follow q k ≡ asRead (Outcome._>>=_ o j) m
-via-made q (done a) b l m k j e f = ap (λ x. follow x k) e ∙ f a
-via-made q (refused n p) b l m k j e f = ap (λ x. follow x k) e
 
 module _ (names : List Name) where
   -- ---- what is read of a domain writes its entries
@@ -65,9 +59,9 @@ module _ (names : List Name) where
         named = i .stands;
         number = i .number ∙ ap (λ (x : Entry). x .number) same;
         place = i .at ∙ ap (λ (x : Entry). x .place) same;
+        signPlace = p;
         atUpper = l₃;
-        sign = p;
-        passed = pl;
+        sign = pl;
         atEnd = l;
         upper = gl ∙ ap (λ (x : Entry). read (x .upper) l₄) same ∙ ap (read (x .upper)) (same-rest e);
         last = t;
@@ -135,7 +129,7 @@ module _ (names : List Name) where
       onward (walkPart (inDomainWalk names) s ts) (eval f s) _ (r .atIndex) rest _ bounds (part-agrees _ _ F atMost s .walks ts f (r .atIndex) (r .lower)) (λ v.
       on (next (r .atIndex)) _ (r .index) (r .atSign) _ (r .named) (rw (r .place, r .number)
       (onward (asRead (wholeAt q v) (r .atSign)) (wholeAt q v) _ (r .atSign) rest _ bounds refl λ a.
-      on (skip (r .atSign)) _ tt (r .atUpper) _ (skip-expect atMost (r .atSign) (r .sign) (r .atUpper) (r .passed))
+      on (skip (r .atSign)) _ tt (r .atUpper) _ (skip-expect atMost (r .atSign) (r .signPlace) (r .atUpper) (r .sign))
       (onward (walkPart (inDomainWalk names) s (r .atUpper)) (eval g s) _ rest rest _ bounds (part-walks _ _ F (r .atUpper) g (r .atEnd) (r .upper) (r .last) rest (r .ended) s) λ w.
       onward (asRead (wholeAt q w) rest) (wholeAt q w) _ rest rest _ bounds refl λ b. refl))))
       ∙ via (asRead (limitsOf (eval f s) (eval g s) q) rest) (limitsOf (eval f s) (eval g s) q) rest rest bounds _ refl (λ l. refl)

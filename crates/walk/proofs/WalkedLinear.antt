@@ -2,30 +2,29 @@
 -- tokens. Assumes nothing.
 use mathlib.Core.Path.{_≡_, refl, sym, _∙_, ap, fun-ext}
 use mathlib.Core.Bool.{Bool, true, false}
-use mathlib.Core.List.{List, [], _∷_}
+use mathlib.Core.List.{List}
 use Prim.Native.Nat.{ℕ, zero, suc}
 use native.Mathlib.Omega.{arith}
 use lib.IntN.{ℤ}
-use Rattle.rules.specs.declared.Refusal.{Refusal}
-use Rattle.rules.specs.declared.Refusal.the-variants.{Misplaced, Full, Outside}
+use Rattle.rules.specs.declared.Refusal.the-variants.{Misplaced, Full}
 use Rattle.rules.specs.Limits.{tokenLimit}
 use Rattle.value.specs.declared.Value.{Value}
 use Rattle.value.specs.Decimal.{productOf}
 use Rattle.lexer.specs.Marks.{minusSign, timesSign, comma, closes, sigmaWord}
 use Rattle.lexer.specs.Text.{Token}
-use Rattle.language.specs.Outcome.{Outcome, done, refused, orRefuse, fitting, refused-done}
-use Rattle.language.specs.Syntax.{Formulas, Spans, Name, Form, Term, also, factor, variable, sigma}
+use Rattle.language.specs.Outcome.{Outcome, done, refused, fitting, refused-done}
+use Rattle.language.specs.Syntax.{Formulas, Spans, Name, Form, Term, also, factor, variable}
 use Rattle.language.specs.Syntax
-use Rattle.language.specs.Reader.{Reader, Read, follow, asRead, _>>=_, give, refuse, lift, next, look, isMark, expect}
+use Rattle.language.specs.Reader.{Reader, asRead, _>>=_, give, lift, next, look, isMark, expect}
 use Rattle.language.specs.Formulas.{isSum, Signed, readSign, partOf, headOf, subscriptsOf, primaryBy, insideAt, formulaAt}
 use Rattle.language.specs.Linear.{Head, aSigma, aVariable, aPrimary, headBy, linearTerm, linearTerms, Linear, linearOf, noSigma, plainForm, bodyOf, sigmaAt, linearAt}
 use Rattle.language.specs.Scope.{Scope, bind, unbound}
-use Rattle.language.specs.Evaluation.{Limits, limitsOf, runOf, each, eval, evalAll, within}
-use Rattle.language.specs.Numbering.{Variable, numberOf, Row, xor, signed, addAt, variableAt, gather, gatherTerm}
-use Rattle.walk.specs.Walk.{skip, behindBracket, restAs, walkHead, walkLimits, walkSubscripts, walkPrimaryBy, walkInside, valueAt}
+use Rattle.language.specs.Evaluation.{limitsOf, runOf, each, eval, evalAll, within}
+use Rattle.language.specs.Numbering.{Variable, Row, xor, signed, variableAt, gather, gatherTerm}
+use Rattle.walk.specs.Walk.{skip, behindBracket, walkHead, walkLimits, walkSubscripts, walkPrimaryBy, walkInside, valueAt}
 use Rattle.walk.specs.WalkLinear.{Gatherer, rowOnly, walkNumber, walkVariable, walkLinearTerm, walkLinearTerms, walkLinear, noSigmaWalk, walkBodyForm, walkRuns, walkSigma, gatherAt}
 use Rattle.walk.specs.Entries.{read}
-use Rattle.walk.proofs.Steps.{after-read, on, via, stays, ends, same-what, same-rest, done-last, restAs-is, Walks, nothing, look-stays, skip-next, expect-is, head-walks}
+use Rattle.walk.proofs.Steps.{after-read, on, via, ends, same-what, same-rest, done-last, restAs-is, Walks, nothing, look-stays, skip-next, expect-is, head-walks}
 use Rattle.walk.proofs.Balanced.{sigma-body-end}
 use Rattle.walk.proofs.Walked.{Agrees, limits-walk, subscripts-walk, inside-agrees, primaryBy-walks, walked}
 

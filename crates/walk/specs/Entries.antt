@@ -24,9 +24,9 @@ pub record ReadsEntry (names : List Name) (i : ℕ) (f g : Formula) (q : ℕ) (t
   pub named : next atIndex ≡ read index atSign
   pub number : nameNumber names (index .kind) ≡ i
   pub place : index .place ≡ q
+  pub signPlace : ℕ
   pub atUpper : List Token
-  pub sign : ℕ
-  pub passed : expect atMost atSign ≡ read sign atUpper
+  pub sign : expect atMost atSign ≡ read signPlace atUpper
   pub atEnd : List Token
   pub upper : inDomain names atUpper ≡ read g atEnd
   pub last : Token
