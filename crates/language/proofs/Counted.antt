@@ -1,20 +1,18 @@
 -- The tokens that count: those before the first `INIT`, `CLOSE`, end or refusal. A text has at most 4,096 of them, and every token of
 -- a phrase is one of them, so that readers of the grammar leave fewer and fewer. Assumes nothing.
-use mathlib.Core.Path.{_≡_, refl, sym, _∙_, ap, subst}
+use mathlib.Core.Path.{_≡_, refl, _∙_}
 use mathlib.Core.Bool.{Bool, true, false, cond}
 use mathlib.Core.List.{List, [], _∷_, _++_, append-assoc}
-use Prim.Native.Nat.{ℕ, zero, suc, _+_, _<_, _≤_}
+use Prim.Native.Nat.{ℕ, zero, suc, _+_, _≤_}
 use native.Mathlib.Omega.{arith}
 use lib.Dec.{leb}
 use lib.ListN.{length, length-append}
 use Rattle.rules.specs.declared.Refusal.the-variants.{LongText, Full}
 use Rattle.rules.specs.Limits.{byteLimit, tokenLimit}
-use Rattle.lexer.specs.Text.{Token, Kind, mark, wrong, uncounted, counted, tokensFrom, tokens}
-use Rattle.language.specs.Outcome.{done}
-use Rattle.language.specs.Syntax.{Name, Relation, atMost, atLeast, equal}
-use Rattle.language.specs.Reader.{Read, Reader}
+use Rattle.lexer.specs.Text.{Token, mark, wrong, uncounted, counted, tokensFrom, tokens}
+use Rattle.language.specs.Syntax.{Name, Relation, atMost, atLeast, equal, Structure}
 use Rattle.language.specs.Phrases
-use Rattle.language.specs.Phrases.{_at_, Wrote, Reads, relationSign, goalWord, Phrase, Writes, oneTerm, plusTerm, minusTerm, addition, difference, onePrimary, product, integer, real, declared, sumOver, nested, runOver, unsubscripted, inBrackets, lastFormula, oneFormula, between, lastEntry, oneEntry, inParentheses, noDomain, aDomain, unsigned, signed, noTerm, plusNext, minusNext, multiple, aVariable, aSigma, discrete, continuous, sigmaOver, innerSigma, innerForm, oneConstraint, alone, withSign, withFactor, withSigma, withSecond, lastConstraint, moreConstraints, noSubscripts, withDomain, lastIndex, oneIndex, indexSort, integerSort, realSort, formulaSort, discreteSort, continuousSort}
+use Rattle.language.specs.Phrases.{relationSign, goalWord, Phrase, Writes, oneTerm, plusTerm, minusTerm, addition, difference, onePrimary, product, integer, real, declared, sumOver, nested, runOver, unsubscripted, inBrackets, lastFormula, oneFormula, between, lastEntry, oneEntry, inParentheses, noDomain, aDomain, unsigned, signed, noTerm, plusNext, minusNext, multiple, aVariable, aSigma, discrete, continuous, sigmaOver, innerSigma, innerForm, oneConstraint, alone, withSign, withFactor, withSigma, withSecond, lastConstraint, moreConstraints, noSubscripts, withDomain, lastIndex, oneIndex, indexSort, integerSort, realSort, formulaSort, discreteSort, continuousSort, WritesList, lastName, oneName, WritesOptionalList, noList, aList, WritesDeclarations, sixLists, WritesStructure, wholeModel}
 
 -- how many tokens count
 unfoldable pub live : List Token → ℕ
@@ -127,3 +125,26 @@ phrase-counts (realSort w) = phrase-counts w
 phrase-counts (formulaSort p w) = cons refl (phrase-counts w)
 phrase-counts (discreteSort w) = phrase-counts w
 phrase-counts (continuousSort w) = phrase-counts w
+
+names-count : {word : ℕ} {names all : List Name} {l : List Token} → WritesList word names all l → Counted l
+unfolding uncounted
+names-count (lastName p q u n w) = cons refl (join (phrase-counts w) (cons refl nil))
+names-count (oneName p q u n w v) = cons refl (join (phrase-counts w) (cons refl (names-count v)))
+
+-- with the word in front, if it stands there
+pub list-counts : {word : ℕ} {names all : List Name} {l : List Token} → uncounted (mark word) ≡ false → WritesOptionalList word names all l → Counted l
+list-counts e noList = nil
+list-counts e (aList p w) = cons e (names-count w)
+
+declarations-count : {names : List Name} {l : List Token} → WritesDeclarations names l → Counted l
+unfolding uncounted
+declarations-count (sixLists u v w x y z) = join (list-counts refl u) (join (list-counts refl v) (join (list-counts refl w) (join (list-counts refl x) (join (list-counts refl y) (list-counts refl z)))))
+
+goal-counts : (m : Bool) → uncounted (mark (goalWord m)) ≡ false
+unfolding uncounted
+goal-counts true = refl
+goal-counts false = refl
+
+pub structure-counts : {s : Structure} {l : List Token} → WritesStructure s l → Counted l
+unfolding uncounted
+structure-counts (wholeModel p q r t m u v w n) = cons refl (cons refl (join (declarations-count u) (cons (goal-counts m) (cons refl (join (phrase-counts v) (phrase-counts w))))))

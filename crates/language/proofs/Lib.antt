@@ -2,10 +2,12 @@ pub mod Taken
 pub mod Phrased
 pub mod PhrasedLinear
 pub mod PhrasedModel
+pub mod Sides
 pub mod Shapes
 pub mod Literals
 pub mod Facts
 pub mod Counted
+pub mod DataTaken
 pub mod Turns
 pub mod Evaluated
 pub mod Gathered

@@ -1,24 +1,24 @@
 -- Whatever the readers of formulas and domains give was written: the tokens that they take are a phrase of it. Assumes nothing.
-use mathlib.Core.Path.{_≡_, refl, sym, _∙_, ap, subst}
+use mathlib.Core.Path.{_≡_, refl, sym, subst}
 use mathlib.Core.Bool.{Bool, true, false, cond, _||_}
-use mathlib.Core.List.{List, [], _∷_, _++_, append-assoc, append-nil}
-use Prim.Native.Nat.{ℕ, zero, suc, _+_, _-_, _≤_}
+use mathlib.Core.List.{List, [], _∷_, _++_, append-assoc}
+use Prim.Native.Nat.{ℕ, zero, suc, _-_, _≤_}
 use native.Mathlib.Omega.{arith}
 use lib.Dec.{eqb}
 use lib.ListN.{length}
 use borrow.Author.Tests.{eqb-true}
 use Rattle.rules.specs.declared.Refusal.the-variants.{Misplaced}
 use Rattle.rules.specs.Limits.{tokenLimit, nestingLimit, indexLimit}
-use Rattle.lexer.specs.Marks.{plusSign, minusSign, timesSign, comma, atMost, opens, closes, opensList, closesList, sumWord}
+use Rattle.lexer.specs.Marks.{plusSign, minusSign, timesSign, comma, opens, sumWord}
 use Rattle.lexer.specs.Text.{Token, Kind, mark, name}
 use Rattle.lexer.specs.Text
-use Rattle.language.specs.Syntax.{Formula, Formulas, Spans, Name, Sort, more, point, span, datum, times, plus, minus, sum}
+use Rattle.language.specs.Syntax.{Formula, Spans, Name, Sort, point, span, times, plus}
 use Rattle.language.specs.Syntax
-use Rattle.language.specs.Reader.{Reader, Read, _>>=_, refuse, isMark, Used, readIndex}
-use Rattle.language.specs.Formulas.{factors, termOf, isSum, negated, summands, Signed, readSign, formulaOf, partOf, headOf, sumFormula, formulasOf, subscriptsOf, namedBy, nestedOf, primaryBy, primaryOf, insideAt, formulaAt, Entry, entryOf, entriesOf, spanOf, domainOf, inDomain, optionalDomain}
+use Rattle.language.specs.Reader.{Reader, _>>=_, refuse, isMark, Used, readIndex}
+use Rattle.language.specs.Formulas.{factors, termOf, isSum, negated, summands, Signed, readSign, formulaOf, partOf, headOf, sumFormula, formulasOf, subscriptsOf, namedBy, nestedOf, primaryBy, primaryOf, insideAt, formulaAt, entryOf, entriesOf, domainOf, optionalDomain}
 use Rattle.language.specs.Phrases
 use Rattle.language.specs.Phrases.{_at_, Means, indices, Reads, Writes, formula, term, primary, run, subscripts, formulas, entry, entries, domain, anyDomain, oneTerm, plusTerm, minusTerm, addition, difference, onePrimary, product, declared, sumOver, nested, runOver, unsubscripted, inBrackets, lastFormula, oneFormula, between, lastEntry, oneEntry, inParentheses, noDomain, aDomain}
-use Rattle.language.proofs.Taken.{gives, refuses, weaken, then, last, then-next, then-look, look-else, look-next, then-expect, then-bracket, then-known, then-index, index-read, NameAt, marked, Grows, stays, grow}
+use Rattle.language.proofs.Taken.{gives, refuses, weaken, then, last, then-next, look-else, look-next, then-expect, then-bracket, then-known, then-index, index-read, NameAt, marked, Grows, stays, grow}
 
 -- ---- signs
 
@@ -189,7 +189,7 @@ module _ (names : List Name) where
         (λ t et. last _ (entries-read n) (λ d k ws. (rw (marked _ t et) (oneEntry (t .place) (w .0) (ws .0)), omega arith)))
         (then-expect _ (λ q. gives (lastEntry q (w .0), omega arith))))
 
-  domain-read : Reads (domainOf names) (λ x. Writes names (domain x))
+  pub domain-read : Reads (domainOf names) (λ x. Writes names (domain x))
   unfolding domainOf indexLimit
   domain-read = then-bracket _ nestingLimit (λ p. weaken (entries-read _ (inside-read nestingLimit) (indexLimit - 1)) (λ d l w. inParentheses p (w .0) (omega (arith, w .1))))
 

@@ -1,23 +1,22 @@
 -- Whatever the readers of linear forms give was written, and a left side is a bound exactly where one variable stands without
 -- sign or factor. Assumes nothing.
-use mathlib.Core.Path.{_≡_, refl, sym, _∙_, ap, subst}
+use mathlib.Core.Path.{_≡_, refl, sym, subst}
 use mathlib.Core.Bool.{Bool, true, false, cond, _&&_}
 use mathlib.Core.Option.{Option, none, some}
 use mathlib.Core.Logic.{_↔_}
-use mathlib.Core.List.{List, [], _∷_, _++_, append-nil}
+use mathlib.Core.List.{List, _∷_, _++_, append-nil}
 use Prim.Native.Nat.{ℕ, zero, suc}
 use native.Mathlib.Omega.{arith}
 use lib.Dec.{eqb}
 use borrow.Author.Tests.{eqb-true}
-use Rattle.rules.specs.declared.Refusal.the-variants.{Misplaced}
-use Rattle.rules.specs.Limits.{tokenLimit, nestingLimit}
-use Rattle.lexer.specs.Marks.{minusSign, timesSign, comma, closes, sigmaWord}
+use Rattle.rules.specs.Limits.{tokenLimit}
+use Rattle.lexer.specs.Marks.{minusSign, timesSign, sigmaWord}
 use Rattle.lexer.specs.Text.{Token, Kind, mark, name}
 use Rattle.lexer.specs.Text
-use Rattle.language.specs.Syntax.{Formula, Formulas, Spans, Name, Sort, Form, Term, also, factor, Side, bare, form}
+use Rattle.language.specs.Syntax.{Formula, Formulas, Spans, Name, Sort, Form, Term, also, factor, bare, form}
 use Rattle.language.specs.Syntax
-use Rattle.language.specs.Reader.{Reader, Read, _>>=_, give, refuse, isMark, expect, Used, find}
-use Rattle.language.specs.Formulas.{isSum, Signed, readSign, subscriptsOf, primaryBy, insideAt, formulaAt}
+use Rattle.language.specs.Reader.{Reader, _>>=_, give, isMark, expect, Used, find}
+use Rattle.language.specs.Formulas.{isSum, Signed, subscriptsOf, primaryBy, insideAt, formulaAt}
 use Rattle.language.specs.Linear.{Head, headBySort, headByName, headBy, linearTerm, linearTerms, Linear, linearOf, noSigma, plainForm, bodyOf, sigmaAt, linearAt, sideOfTerm, sideOf}
 use Rattle.language.specs.Linear
 use Rattle.language.specs.Phrases
@@ -25,27 +24,27 @@ use Rattle.language.specs.Phrases.{_at_, Means, Reads, Writes, variable,
 use Rattle.language.proofs.Taken.{gives, refuses, weaken, then, last, then-next, look-next, then-expect, marked, means}
 use Rattle.language.proofs.Phrased.{signMark, sign-is, SignOf, noSign, aSign, sign-read, head-read, then-run, subscripts-read, primary-by, inside-read, formula-at}
 
-module _ (names : List Name) where
-  -- a linear term; S reads a sigma behind its word, R reads what stands behind a factor
-  module _ (S : ℕ → Reader Term) (sigmas : Bool) (rs : (p : ℕ) → sigmas ≡ true → Reads (S p) (λ t l. Writes names (sigma t) (mark sigmaWord at p ∷ l))) (n : ℕ) where
-    abbrev onHead : Reader Term → ℕ → Kind → Head → Reader Term
-    onHead R p k h = elim h as (λ _. Reader Term) [
-      | Linear.aSigma ↦ S p
-      | Linear.aVariable i d ↦ do
-        fs ← subscriptsOf n (insideAt names n) d
-        give (Syntax.variable i d fs p)
-      | Linear.aPrimary ↦ do
-        f ← primaryBy names n (insideAt names n) p k
-        q ← expect timesSign
-        r ← R
-        give (factor f q r)
-    ]
+-- a linear term of which a token of kind k at p is read; S reads a sigma behind its word, R what stands behind a factor
+abbrev pub onHead : List Name → (ℕ → Reader Term) → ℕ → Reader Term → ℕ → Kind → Head → Reader Term
+onHead names S n R p k h = elim h as (λ _. Reader Term) [
+  | Linear.aSigma ↦ S p
+  | Linear.aVariable i d ↦ do
+    fs ← subscriptsOf n (insideAt names n) d
+    give (Syntax.variable i d fs p)
+  | Linear.aPrimary ↦ do
+    f ← primaryBy names n (insideAt names n) p k
+    q ← expect timesSign
+    r ← R
+    give (factor f q r)
+]
 
+module _ (names : List Name) where
+  module _ (S : ℕ → Reader Term) (sigmas : Bool) (rs : (p : ℕ) → sigmas ≡ true → Reads (S p) (λ t l. Writes names (sigma t) (mark sigmaWord at p ∷ l))) (n : ℕ) where
     module _ (R : Reader Term) (rr : Reads R (λ x. Writes names (formTerm sigmas x))) (p : ℕ) where
-      factor-read : (k : Kind) → Reads (onHead R p k Linear.aPrimary) (λ t l. Writes names (formTerm sigmas t) (k at p ∷ l))
+      factor-read : (k : Kind) → Reads (onHead names S n R p k Linear.aPrimary) (λ t l. Writes names (formTerm sigmas t) (k at p ∷ l))
       factor-read k = then (primary-by names _ (inside-read names n) n p k) (λ f l w. then-expect _ (λ q. last _ rr (λ r j v. multiple q w v)))
 
-      sort-read : (l : List ℕ) (i : ℕ) (s : Sort) → Means names l i s → Reads (onHead R p (name l) (headBySort i s)) (λ t k. Writes names (formTerm sigmas t) (name l at p ∷ k))
+      sort-read : (l : List ℕ) (i : ℕ) (s : Sort) → Means names l i s → Reads (onHead names S n R p (name l) (headBySort i s)) (λ t k. Writes names (formTerm sigmas t) (name l at p ∷ k))
       unfolding headBySort
       sort-read l i Syntax.index m = factor-read (name l)
       sort-read l i (Syntax.integer d) m = factor-read (name l)
@@ -54,18 +53,18 @@ module _ (names : List Name) where
       sort-read l i (Syntax.discrete d) m = last _ (subscripts-read names _ (inside-read names n) n d) (λ fs k w. Phrases.aVariable (Phrases.discrete p m w))
       sort-read l i (Syntax.continuous d) m = last _ (subscripts-read names _ (inside-read names n) n d) (λ fs k w. Phrases.aVariable (Phrases.continuous p m w))
 
-      name-head : (l : List ℕ) (o : Option Used) → find l names 0 0 ≡ o → Reads (onHead R p (name l) (headByName o)) (λ t k. Writes names (formTerm sigmas t) (name l at p ∷ k))
+      name-head : (l : List ℕ) (o : Option Used) → find l names 0 0 ≡ o → Reads (onHead names S n R p (name l) (headByName o)) (λ t k. Writes names (formTerm sigmas t) (name l at p ∷ k))
       unfolding headByName
       name-head l none e = factor-read (name l)
       name-head l (some u) e = sort-read l (u .number) (u .sort) (means names l 0 u e)
 
-      mark-head : (c : ℕ) (a b : Bool) → sigmas ≡ a → eqb c sigmaWord ≡ b → Reads (onHead R p (mark c) (cond (a && b) Linear.aSigma Linear.aPrimary)) (λ t k. Writes names (formTerm sigmas t) (mark c at p ∷ k))
+      mark-head : (c : ℕ) (a b : Bool) → sigmas ≡ a → eqb c sigmaWord ≡ b → Reads (onHead names S n R p (mark c) (cond (a && b) Linear.aSigma Linear.aPrimary)) (λ t k. Writes names (formTerm sigmas t) (mark c at p ∷ k))
       mark-head c true true ea eb = weaken (rs p ea) (λ t l w. rw (eqb-true c sigmaWord eb, ea) (aSigma w))
       mark-head c true false ea eb = factor-read (mark c)
       mark-head c false true ea eb = factor-read (mark c)
       mark-head c false false ea eb = factor-read (mark c)
 
-      at-head : (k : Kind) → Reads (onHead R p k (headBy names sigmas k)) (λ t l. Writes names (formTerm sigmas t) (k at p ∷ l))
+      at-head : (k : Kind) → Reads (onHead names S n R p k (headBy names sigmas k)) (λ t l. Writes names (formTerm sigmas t) (k at p ∷ l))
       unfolding headBy
       at-head (Text.mark c) = mark-head c sigmas (eqb c sigmaWord) refl refl
       at-head (Text.name l) = name-head l (find l names 0 0) refl

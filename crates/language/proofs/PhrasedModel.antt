@@ -2,24 +2,22 @@
 use mathlib.Core.Path.{_≡_, refl, sym, _∙_, ap, subst}
 use mathlib.Core.Bool.{Bool, true, false, cond, _&&_, _||_, not}
 use mathlib.Core.Option.{Option, none, some}
-use mathlib.Core.Logic.{_⊎_, inl, inr}
+use mathlib.Core.Logic.{inl, inr}
 use mathlib.Core.List.{List, [], _∷_, _++_, append-nil}
 use Prim.Native.Nat.{ℕ, zero, suc, _+_, _-_, _<_, _≤_}
 use native.Mathlib.Omega.{arith}
-use lib.Dec.{eqb, ltb}
+use lib.Dec.{eqb}
 use lib.ListN.{length}
 use borrow.Author.Tests.{eqb-true, eqb-false, ltb-true, not-true}
-use Rattle.rules.specs.declared.Refusal.the-variants.{Misplaced}
 use Rattle.rules.specs.Limits.{tokenLimit, nestingLimit, nameLimit, indexLimit, constraintLimit}
 use Rattle.lexer.specs.Marks as Marks
-use Rattle.lexer.specs.Marks.{comma, semicolon, colon, equals, opens, closes, opensList, closesList, openWord, maximizeWord, minimizeWord, indexWord, integerWord, realWord, formulaWord, discreteWord, continuousWord}
-use Rattle.lexer.specs.Text.{Token, Kind, mark, name, string, sameBytes, tokens}
+use Rattle.lexer.specs.Marks.{comma, equals, closes, opensList, maximizeWord, minimizeWord, formulaWord}
+use Rattle.lexer.specs.Text.{Token, mark, name, sameBytes, tokens}
 use Rattle.language.specs.Outcome.{done, some-injective}
-use Rattle.language.specs.Syntax.{Formula, Spans, Name, Sort, point, span, Relation, atMost, atLeast, equal, Constraint, Structure}
+use Rattle.language.specs.Syntax.{Formula, Spans, Name, Sort, point, span, Relation, atMost, atLeast, equal, Structure}
 use Rattle.language.specs.Syntax
-use Rattle.language.specs.Reader.{Reader, Read, _>>=_, give, refuse, isMark, isSome, isString, Titled, Used, find, readIndex}
-use Rattle.language.specs.Formulas.{formulaAt, Entry, entryOf, inDomain}
-use Rattle.language.specs.Linear.{sideOf}
+use Rattle.language.specs.Reader.{Reader, Read, isMark, isSome, isString, Used, find}
+use Rattle.language.specs.Formulas.{entryOf, inDomain}
 use Rattle.language.specs.Declarations.{newName, indicesOf, isIn, readDue, dueOf, subscripted, indexEntry, formulaEntry, domainEntry, entriesFrom, listOf}
 use Rattle.language.specs.Declarations
 use Rattle.language.specs.Grammar.{relationOf, readRelation, constraintOf, constraintsOf, readGoal, structure}
@@ -170,7 +168,7 @@ module _ (names : List Name) where
   due-all (lastIndex {i = i} p q m) = domain-due [] i [] (all-indices (lastIndex p q m))
   due-all (oneIndex {i = i} {is = is} p q m w) = domain-due is i [] (all-indices (oneIndex p q m w))
 
-  subscripted-read : Reads (subscripted names) (λ x. Writes names (declaredDomain x))
+  pub subscripted-read : Reads (subscripted names) (λ x. Writes names (declaredDomain x))
   unfolding subscripted indexLimit
   subscripted-read =
       look-else (isMark opensList)
@@ -188,7 +186,7 @@ module _ (names : List Name) where
 
   -- ---- constraints
 
-  constraint-read : Reads (constraintOf names) (λ x. Writes names (constraint x))
+  pub constraint-read : Reads (constraintOf names) (λ x. Writes names (constraint x))
   unfolding constraintOf
   constraint-read =
       then-string λ s. then (linear-read names nestingLimit) λ x a w. then relation-read λ r l m. rw (m .1)
@@ -224,11 +222,11 @@ module _ (word : ℕ) (E : List Name → Reader Sort) (re : (names : List Name) 
       (λ e. weaken (entries-read n (with names (x .title) (x .place) s)) (λ all m y. rw (marked _ t e) (oneName (x .place) (t .place) (w .1) (w .2) v y)))
       (λ _. then-require _ _ _ (λ _ e. gives (rw (marked _ t e) (lastName (x .place) (t .place) (w .1) (w .2) v)))))
 
-  list-read : (names : List Name) → Reads (listOf (suc word) E names) (WritesOptionalList (suc word) names)
+  pub list-read : (names : List Name) → Reads (listOf (suc word) E names) (WritesOptionalList (suc word) names)
   unfolding listOf
   list-read names = look-next (isMark (suc word)) (λ t e. weaken (entries-read tokenLimit names) (λ all l w. rw (marked _ t e) (aList (t .place) w))) (gives noList)
 
-declarations-read : Reads Declarations.declarations WritesDeclarations
+pub declarations-read : Reads Declarations.declarations WritesDeclarations
 unfolding Declarations.declarations indexEntry
 declarations-read =
     then (list-read _ indexEntry (λ names. gives indexSort) []) λ u a wa.
