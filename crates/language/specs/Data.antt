@@ -21,7 +21,7 @@ use Rattle.language.specs.Store.{Store, scopeOf, Portion, portionBy, Bou
 
 -- ---- a portion's head
 
--- An entry is a fixed whole number (digits, optionally signed) or an index name, which only marks its position
+-- An entry is a fixed whole number (digits, optionally signed; decision 38) or an index name, which only marks its position
 pub data Entry : Type 0 where
   fixed : ℤ → Entry
   marked : ℕ → Entry
@@ -118,7 +118,8 @@ orderFrom names (suc n) = do
       give (i .number ∷ [])
   ]
 
--- an optional order `(` indices `)`: a rearrangement of the marks, else 7 at the portion's name; without it, left to right
+-- an optional order `(` indices `)`: a rearrangement of the marks, else 7 at the portion's name (decision 31); without it, left
+-- to right
 unfoldable pub readOrder : List Name → ℕ → List ℕ → Reader (List ℕ)
 readOrder names p marks = do
   t ← look
@@ -151,6 +152,7 @@ signedValue true v = negate v
 signedValue false v = v
 
 -- A number is `+` or `-`, then a literal: a sign awaited and not found is 10 there, a sign without a literal 3 at what follows
+-- (decision 35)
 unfoldable pub readNumber : Portion → List ℤ → Store → Reader Store
 readNumber x e st = do
   t ← next
@@ -164,7 +166,8 @@ unfoldable pub eachRead : {A : Type 0} → (ℤ → A → Reader A) → List ℤ
 eachRead f [] a = give a
 eachRead f (k ∷ ks) a = f k a >>= λ b. eachRead f ks b
 
--- the positions still to run, outermost first: limits once the next token has passed its tests up to 5. Each run takes one number
+-- the positions still to run, outermost first: limits once the next token has passed its tests up to 5 (decision 33). Each run
+-- takes one number; empty runs take none (decision 37)
 unfoldable pub runs : Portion → List ℕ → Bound → Store → Reader Store
 runs x [] b st = readNumber x (elementOf b) st
 runs x (j ∷ js) b st = do
@@ -172,7 +175,7 @@ runs x (j ∷ js) b st = do
   ks ← lift (positionRun (x .domain) b j (scopeOf st))
   eachRead (λ k st. runs x js (setAt j k b) st) ks st
 
--- marks are tested at the `]`, an order at its `)`
+-- marks are tested at the `]`, an order at its `)` (decision 31)
 unfoldable pub subscriptedPortion : List Name → Portion → Store → Reader Store
 subscriptedPortion names x st = do
   _ ← bracket opensList nestingLimit
@@ -206,7 +209,7 @@ pub record Given : Type 0 where
   pub title : List ℕ  -- empty if there is no data section
   pub store : Store
 
--- behind the last portion: `CLOSE`; a sign is one number too many
+-- behind the last portion: `CLOSE`; a sign is one number too many (decision 36)
 unfoldable pub readClose : Reader (Unit {0})
 readClose = do
   t ← next
@@ -229,7 +232,7 @@ isEnd (Text.string l) = false
 isEnd Text.end = true
 isEnd (Text.wrong r) = false
 
--- only blanks may follow `CLOSE`
+-- only blanks may follow `CLOSE` (decision 8)
 unfoldable pub readEnd : Reader (Unit {0})
 readEnd = do
   t ← next

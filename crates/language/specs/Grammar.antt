@@ -37,7 +37,7 @@ constraintOf names = do
   d ← optionalDomain names
   give (record { title = s .title; place = s .place; left = sideOf (l .signed) (l .form); relation = r; right = f; domain = d })
 
--- one or more constraints, at most n; one more is 6 at its string
+-- one or more constraints, at most n; one more is 6 at its string, before its linear form (decision 15)
 unfoldable pub constraintsOf : List Name → ℕ → Reader (List Constraint)
 constraintsOf names zero = do
   t ← look

@@ -32,7 +32,7 @@ unfoldable pub headByName : Option Used → Head
 headByName none = aPrimary
 headByName (some u) = headBySort (u .number) (u .sort)
 
--- sigmas are allowed or not
+-- sigmas are allowed or not: an `S` where none is allowed is no primary, so 3 at it (decision 17)
 unfoldable pub headBy : List Name → Bool → Kind → Head
 headBy names sigmas (Text.mark c) = cond (sigmas && eqb c sigmaWord) aSigma aPrimary
 headBy names sigmas (Text.name l) = headByName (find l names 0 0)
@@ -96,7 +96,7 @@ plainForm names n = do
   l ← linearOf (linearTerm names noSigma false n tokenLimit)
   give (l .form)
 
--- a sigma's body: another sigma, read by S, or a linear form without sigma
+-- a sigma's body: another sigma, read by S, or a linear form without sigma (decision 17)
 unfoldable pub bodyOf : List Name → (ℕ → Reader Term) → ℕ → Reader Form
 bodyOf names S n = do
   t ← look
@@ -124,7 +124,7 @@ sigmaAt names (suc n) p = do
 unfoldable pub linearAt : List Name → ℕ → Reader Linear
 linearAt names n = linearOf (linearTerm names (sigmaAt names n) true n tokenLimit)
 
--- A constraint whose left side is one variable, without sign or factor, is a bound
+-- A constraint whose left side is one variable, without sign or factor, is a bound (decision 29)
 unfoldable pub sideOfTerm : Term → Form → Side
 sideOfTerm (factor f p t) r = form (also false (factor f p t) r)
 sideOfTerm (sigma i f g h p) r = form (also false (sigma i f g h p) r)
