@@ -1,6 +1,6 @@
 -- Demand 3 for every text and buffer length: where the answer's number is 0, the listing keeps the model's meaning, and its bytes
 -- are those of no other lines. Assumes nothing.
-use mathlib.Core.Path.{_≡_, refl, sym, _∙_, ap}
+use mathlib.Core.Path.{_≡_, refl, sym, _∙_, ap, subst}
 use mathlib.Core.List.{List, _++_}
 use Prim.Native.Nat.{ℕ, _-_}
 use native.Mathlib.Omega.{arith}
@@ -10,11 +10,17 @@ use Rattle.rules.specs.declared.Refusal.{Refusal}
 use Rattle.rules.specs.declared.Refusal.the-variants.{LongText, StrangeByte, Misplaced, BadName, Unfit, Full, BadIndex, NotWhole, Outside, Missing, LongListing}
 use Rattle.rules.specs.Refusals.{refusalNumber}
 use Rattle.language.specs.All.{All}
+use Rattle.lexer.specs.Text.{tokens}
 use Rattle.language.specs.Outcome.{Outcome, done, refused, after, after-check, done-injective}
 use Rattle.language.specs.Listing.{linesOf, bytesOfAll}
 use Rattle.language.specs.Answer.{Answer, accepted, accepted-of, listingOf, listing, respond, answer}
 use Rattle.language.specs.Proper.{Proper}
-use Rattle.language.specs.Demand3.{Demand3, Statement}
+use Rattle.language.specs.Syntax.{Structure}
+use Rattle.language.specs.Phrases.{WritesStructure}
+use Rattle.language.specs.Model.{Model, readModel}
+use Rattle.language.specs.Demand3.{Begins, Demand3, Statement}
+use Rattle.language.proofs.PhrasedModel.{structure-written}
+use Rattle.language.proofs.Facts.{model-read}
 use Rattle.language.proofs.Kept.{keeps}
 use Rattle.language.proofs.DefinedText.{accepted-defined}
 use Rattle.language.proofs.ProperText.{accepted-proper}
@@ -33,6 +39,13 @@ numbered NotWhole e = omega arith
 numbered Outside e = omega arith
 numbered Missing e = omega arith
 numbered LongListing e = omega arith
+
+-- a model that was read is written by the text's first tokens
+written : (text : List ℕ) (m : Model) → readModel text ≡ done m → Begins WritesStructure (m .structure) (tokens text)
+written text m e =
+    let r = model-read text m e in
+    let w = structure-written text (r .first) (r .structure-done) in
+    record { phrase = w .phrase; behind = r .first .rest; parts = w .taken; writes = subst (λ (s : Structure). WritesStructure s (w .phrase)) (r .structure-is) (w .writes) }
 
 pub kept : Statement
 unfolding answer listing listingOf respond
@@ -54,6 +67,7 @@ kept text n e = go (listing text n) refl e
         record {
           found = a;
           reads = of .0;
+          written = written text (a .model) (of .0);
           defined = accepted-defined text a ea;
           keeps = keeps (a .model) (a .problem) (of .1);
           proper = proper;

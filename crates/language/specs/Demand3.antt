@@ -20,6 +20,8 @@ use Rattle.language.specs.Outcome.{done}
 use Rattle.value.specs.declared.Value.{Value}
 use Rattle.value.specs.Decimal.{zeroValue, isZero}
 use Rattle.language.specs.Scope.{Scope}
+use Rattle.lexer.specs.Text.{Token, tokens}
+use Rattle.language.specs.Phrases.{WritesStructure}
 use Rattle.language.specs.Syntax.{Relation, atMost, atLeast, equal, Side, bare, form, Name}
 use Rattle.language.specs.Model.{Model, readModel, start, Declaration, discretes, continuouses}
 use Rattle.language.specs.Numbering.{Variable, Source, Entry, Lp, lessRows, rows, lowerOf, upperOf, flips, isEqual}
@@ -273,11 +275,19 @@ pub record Keeps (m : Model) (p : Lp) : Type 0 where
   -- the same assignments
   pub allows : (x : Variable → ℚ) → Feasible (linesOf m p) (byNumber p x) ↔ Meets m x
 
--- a text whose call gives number 0 has a model, in which every written value is defined, and a problem, which keeps the model's
--- meaning; its lines are printed, and they are the one list of proper lines with the output bytes
+-- the tokens begin with a phrase that writes a: each written term, factor and sign stands in the tree once and in order
+pub record Begins {A : Type 0} (W : A → List Token → Type 0) (a : A) (ts : List Token) : Type 0 where
+  pub phrase : List Token
+  pub behind : List Token
+  pub parts : ts ≡ phrase ++ behind
+  pub writes : W a phrase
+
+-- a text whose call gives number 0 has a model, which its tokens write and in which every written value is defined, and a
+-- problem, which keeps the model's meaning; its lines are printed, and they are the one list of proper lines with the output bytes
 pub record Demand3 (text : List ℕ) (n : ℕ) : Type 0 where
   pub found : Accepted
   pub reads : readModel text ≡ done (found .model)
+  pub written : Begins WritesStructure (found .model .structure) (tokens text)
   pub defined : DefinedModel (found .model)
   pub keeps : Keeps (found .model) (found .problem)
   pub proper : All Proper (linesOf (found .model) (found .problem))
