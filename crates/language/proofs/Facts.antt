@@ -6,14 +6,14 @@ use mathlib.Core.Bool.{Bool, true, false}
 use mathlib.Core.Option.{Option, none, some}
 use mathlib.Core.Logic.{_⊎_, inl, inr}
 use mathlib.Core.List.{List, [], _∷_, _++_, map, map-append, append-nil}
-use Prim.Native.Nat.{ℕ, zero, suc, _<_, _≤_}
+use Prim.Native.Nat.{ℕ, suc, _<_, _≤_}
 use native.Mathlib.Omega.{arith}
 use lib.ListN.{length, length-append}
 use Rattle.rules.specs.declared.Refusal.the-variants.{Misplaced}
 use Rattle.rules.specs.Limits.{byteLimit, nameLimit, constraintLimit}
 use Rattle.lexer.specs.Marks.{initWord, closeWord}
 use Rattle.value.specs.declared.Value.{Value}
-use Rattle.lexer.specs.Text.{Token, Kind, literal, sameBytes, tokens}
+use Rattle.lexer.specs.Text.{Token, literal, sameBytes, tokens}
 use Rattle.lexer.proofs.Same.{same-bytes-refl}
 use Rattle.language.specs.Outcome.{Outcome, done, refused, done-injective, refused-done}
 use Rattle.language.specs.Syntax.{Name, Sort, Constraint, Structure}
@@ -21,9 +21,9 @@ use Rattle.language.specs.Reader.{Read, Reader, _>>=_, give, next, isMar
 use Rattle.language.specs.Grammar.{structure}
 use Rattle.language.specs.Data.{Given, portionsOf, readClose, dataOf, readEnd, readData}
 use Rattle.language.specs.Model.{Model, model, readModel, whatOf}
-use Rattle.language.specs.Listed.{At, In, Distinct, distinct-nil, distinct-cons, distinct-append, in-cons, in-nil}
+use Rattle.language.specs.Listed.{In, Distinct, distinct-nil, distinct-cons, distinct-append, in-cons, in-nil}
 use Rattle.language.specs.All.{All, all-with}
-use Rattle.language.specs.Literals.{AllSort, AllNames, AllConstraint, AllLiterals}
+use Rattle.language.specs.Literals.{AllSort, AllNames, AllLiterals}
 use Rattle.language.specs.Phrases.{_at_, Unknown, Wrote, Writes, constraint, constraints, oneConstraint, lastConstraint, moreConstraints, with, WritesList, lastName, oneName, WritesOptionalList, noList, aList, WritesDeclarations, sixLists, WritesStructure, wholeModel}
 use Rattle.language.proofs.Taken.{after-read, next-read, string-read}
 use Rattle.language.proofs.PhrasedModel.{structure-written}

@@ -5,8 +5,7 @@ use mathlib.Core.List.{List}
 use Prim.Native.Nat.{ℕ}
 use Rattle.value.specs.declared.Value.{Value}
 use Rattle.lexer.specs.Text.{Token}
-use Rattle.language.specs.Syntax.{Sort, Name, variable, sigma}
-use Rattle.language.specs.Syntax
+use Rattle.language.specs.Syntax.{Sort, Name}
 use Rattle.language.specs.All.{All, all-at}
 use Rattle.language.specs.Literals.{AllFormula, AllFormulas, AllSpans, AllForm, AllTerm, AllSide, AllConstraint, AllSort, AllName, AllNames}
 use Rattle.language.specs.Phrases

@@ -17,7 +17,7 @@ use Rattle.language.specs.Syntax.{Formula, Formulas, Spans, Name, Sort, 
 use Rattle.language.specs.Syntax
 use Rattle.language.specs.Reader.{Reader, _>>=_, give, isMark, expect, Used, find}
 use Rattle.language.specs.Formulas.{isSum, Signed, subscriptsOf, primaryBy, insideAt, formulaAt}
-use Rattle.language.specs.Linear.{Head, headBySort, headByName, headBy, linearTerm, linearTerms, Linear, linearOf, noSigma, plainForm, bodyOf, sigmaAt, linearAt, sideOfTerm, sideOf}
+use Rattle.language.specs.Linear.{Head, headBySort, headByName, headBy, linearTerm, linearTerms, linearOf, noSigma, plainForm, bodyOf, sigmaAt, linearAt, sideOfTerm, sideOf}
 use Rattle.language.specs.Linear
 use Rattle.language.specs.Phrases
 use Rattle.language.specs.Phrases.{_at_, Means, Reads, Writes, variable, formTerm, signedTerms, linearForm, sigma, body, side, multiple, aSigma, noTerm, plusNext, minusNext, unsigned, signed, sigmaOver, innerSigma, innerForm, alone, withSign, withFactor, withSigma, withSecond}

@@ -13,7 +13,7 @@ use Rattle.rules.specs.Limits.{tokenLimit, nestingLimit, nameLimit, indexLimit,
 use Rattle.lexer.specs.Marks as Marks
 use Rattle.lexer.specs.Marks.{comma, equals, closes, opensList, maximizeWord, minimizeWord, formulaWord}
 use Rattle.lexer.specs.Text.{Token, mark, name, sameBytes, tokens}
-use Rattle.language.specs.Outcome.{done, some-injective}
+use Rattle.language.specs.Outcome.{done, some-injective, none-some}
 use Rattle.language.specs.Syntax.{Formula, Spans, Name, Sort, point, span, Relation, atMost, atLeast, equal, Structure}
 use Rattle.language.specs.Syntax
 use Rattle.language.specs.Reader.{Reader, Read, isMark, isSome, isString, Used, find}
@@ -23,7 +23,7 @@ use Rattle.language.specs.Declarations
 use Rattle.language.specs.Grammar.{relationOf, readRelation, constraintOf, constraintsOf, readGoal, structure}
 use Rattle.language.specs.Listed.{At, In, Distinct, at-unique, in-cons, in-here, in-later, in-nil, distinct-nil, distinct-cons}
 use Rattle.language.specs.Phrases.{_at_, Means, Unknown, indices, Wrote, Reads, Writes, entry, entries, constraint, constraints, indexList, declaredDomain, sort, WritesList, WritesOptionalList, WritesDeclarations, WritesStructure, relationSign, goalWord, lastEntry, oneEntry, inParentheses, oneConstraint, lastConstraint, moreConstraints, lastIndex, oneIndex, noSubscripts, withDomain, indexSort, integerSort, realSort, formulaSort, discreteSort, continuousSort, lastName, oneName, noList, aList, sixLists, with, wholeModel}
-use Rattle.language.proofs.Taken.{gives, refuses, weaken, either, then, last, then-next, then-look, look-else, look-next, then-require, demand-read, then-demand, then-expect, then-bracket, then-string, then-index, name-read, NameAt, marked, named, some-none, means}
+use Rattle.language.proofs.Taken.{gives, refuses, weaken, either, then, last, then-next, then-look, look-else, look-next, then-require, demand-read, then-demand, then-expect, then-bracket, then-string, then-index, name-read, NameAt, marked, named, means}
 use Rattle.language.proofs.Phrased.{inside-read, formula-at, entry-read, optional-read}
 use Rattle.language.proofs.PhrasedLinear.{linear-read, side-written}
 
@@ -37,7 +37,7 @@ pub record Stands (names : List Name) (l : List ℕ) (i : ℕ) (s : Sort) : Type
 
 find-stands : (l : List ℕ) (names : List Name) (i p : ℕ) (u : Used) → find l names i p ≡ some u → (k : ℕ) × (u .number ≡ i + k) × Stands names l k (u .sort)
 unfolding find
-find-stands l [] i p u e = absurd (some-none e)
+find-stands l [] i p u e = absurd (none-some e)
 find-stands l (x ∷ xs) i p u e = go (sameBytes l (x .spelling)) refl (find-stands l xs (suc i) p u) e
   where
     go : (b : Bool) → sameBytes l (x .spelling) ≡ b → (find l xs (suc i) p ≡ some u → (k : ℕ) × (u .number ≡ suc i + k) × Stands xs l k (u .sort))
@@ -70,7 +70,7 @@ relation-is t r e = go (isMark Marks.atMost t) refl (isMark Marks.atLeast t) ref
     go true ea b eb c ec e = subst (λ r. t ≡ mark (relationSign r) at t .place) (some-injective e) (marked _ t ea)
     go false ea true eb c ec e = subst (λ r. t ≡ mark (relationSign r) at t .place) (some-injective e) (marked _ t eb)
     go false ea false eb true ec e = subst (λ r. t ≡ mark (relationSign r) at t .place) (some-injective e) (marked _ t ec)
-    go false ea false eb false ec e = absurd (some-none e)
+    go false ea false eb false ec e = absurd (none-some e)
 
 relation-read : Reads readRelation (λ r l. (p : ℕ) × (l ≡ mark (relationSign r) at p ∷ []))
 unfolding readRelation

@@ -1,6 +1,6 @@
 -- What the tokens of a text are: names and strings of their length and bytes, literals of what literals give; their places rise,
 -- and there are no more of them than bytes and an end. Assumes nothing.
-use mathlib.Core.Path.{_≡_, refl, subst}
+use mathlib.Core.Path.{_≡_, refl}
 use mathlib.Core.Bool.{Bool, true, false, cond, _&&_, _||_}
 use mathlib.Core.List.{List, [], _∷_, _++_}
 use Prim.Native.Nat.{ℕ, zero, suc, _-_, _≤_}

@@ -9,7 +9,7 @@ use native.Mathlib.Omega.{arith}
 use borrow.Author.Tests.{eqb-true}
 use Rattle.rules.specs.declared.Refusal.{Refusal}
 use Rattle.lexer.specs.Text.{Token, Kind, mark, name, literal, string, end, wrong, sameBytes}
-use Rattle.language.specs.Outcome.{Outcome, done, refused, done-injective, refused-done, some-injective}
+use Rattle.language.specs.Outcome.{Outcome, done, refused, done-injective, refused-done, some-injective, none-some}
 use Rattle.language.specs.Syntax.{Name, Sort}
 use Rattle.language.specs.Syntax
 use Rattle.language.specs.Reader.{Read, Reader, follow, _>>=_, give, refuse, passed, next, look, markOf, nameOf, stringOf, isMark, demand, require, expect, bracket, Titled, readString, Used, find, found, known, readKnown, isIndex, readIndex}
@@ -137,29 +137,26 @@ mark-of c (wrong n) e = absurd (omega arith)
 pub marked : (c : ℕ) (t : Token) → isMark (suc c) t ≡ true → t ≡ mark (suc c) at t .place
 marked c t e = of-kind t (mark (suc c)) (mark-of c (t .kind) (eqb-true _ _ e))
 
-pub some-none : {A : Type 0} {a : A} → _≡_ {A = Option A} none (some a) → ⊥
-some-none e = let z : _≡_ {A = ℕ} 0 1 = cc in omega arith
-
 name-of : (k : Kind) (l : List ℕ) → nameOf k ≡ some l → k ≡ name l
 unfolding nameOf
-name-of (mark c) l e = absurd (some-none e)
+name-of (mark c) l e = absurd (none-some e)
 name-of (name m) l e = ap name (some-injective e)
-name-of (literal w v) l e = absurd (some-none e)
-name-of (string m) l e = absurd (some-none e)
-name-of end l e = absurd (some-none e)
-name-of (wrong n) l e = absurd (some-none e)
+name-of (literal w v) l e = absurd (none-some e)
+name-of (string m) l e = absurd (none-some e)
+name-of end l e = absurd (none-some e)
+name-of (wrong n) l e = absurd (none-some e)
 
 pub named : (t : Token) (l : List ℕ) → nameOf (t .kind) ≡ some l → t ≡ name l at t .place
 named t l e = of-kind t (name l) (name-of (t .kind) l e)
 
 string-of : (k : Kind) (l : List ℕ) → stringOf k ≡ some l → k ≡ string l
 unfolding stringOf
-string-of (mark c) l e = absurd (some-none e)
-string-of (name m) l e = absurd (some-none e)
-string-of (literal w v) l e = absurd (some-none e)
+string-of (mark c) l e = absurd (none-some e)
+string-of (name m) l e = absurd (none-some e)
+string-of (literal w v) l e = absurd (none-some e)
 string-of (string m) l e = ap string (some-injective e)
-string-of end l e = absurd (some-none e)
-string-of (wrong n) l e = absurd (some-none e)
+string-of end l e = absurd (none-some e)
+string-of (wrong n) l e = absurd (none-some e)
 
 -- ---- an expected sign, a bracket, a string
 
@@ -191,7 +188,7 @@ module _ {B : Type 0} {W : B → List Token → Type 0} where
 -- what a spelling means does not depend on where it stands
 find-anywhere : (l : List ℕ) (names : List Name) (i p : ℕ) (u : Used) → find l names i p ≡ some u → (q : ℕ) → find l names i q ≡ some (record { number = u .number; sort = u .sort; place = q })
 unfolding find
-find-anywhere l [] i p u e q = absurd (some-none e)
+find-anywhere l [] i p u e q = absurd (none-some e)
 find-anywhere l (x ∷ xs) i p u e q = go (sameBytes l (x .spelling)) (find-anywhere l xs (suc i) p u) e
   where
     first : Bool → ℕ → Option Used
