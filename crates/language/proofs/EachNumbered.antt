@@ -32,7 +32,7 @@ unfolding sameWhole
 sameWhole-refl (pos n) = eq-eqb n n refl
 sameWhole-refl (negsuc n) = eq-eqb n n refl
 
-sameElement-refl : (e : List ℤ) → sameElement e e ≡ true
+pub sameElement-refl : (e : List ℤ) → sameElement e e ≡ true
 unfolding sameElement
 sameElement-refl [] = refl
 sameElement-refl (k ∷ e) = rw (sameWhole-refl k, sameElement) (sameElement-refl e)

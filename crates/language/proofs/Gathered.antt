@@ -41,7 +41,7 @@ sameWhole-true (pos a) (negsuc b) e = cc
 sameWhole-true (negsuc a) (pos b) e = cc
 sameWhole-true (negsuc a) (negsuc b) e = ap negsuc (eqb-true a b e)
 
-sameElement-true : (l m : List ℤ) → sameElement l m ≡ true → l ≡ m
+pub sameElement-true : (l m : List ℤ) → sameElement l m ≡ true → l ≡ m
 unfolding sameElement
 sameElement-true [] [] e = refl
 sameElement-true [] (k ∷ m) e = cc

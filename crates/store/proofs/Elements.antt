@@ -1,10 +1,10 @@
--- Laws of elements: their numbers as a list, one number more, bounds, the test of equality. Assumes nothing.
-use mathlib.Core.Path.{_≡_, refl, sym, _∙_, ap}
+-- Laws of elements: their numbers as a list, one number more, bounds. Assumes nothing.
+use mathlib.Core.Path.{_≡_, sym}
 use mathlib.Core.Bool.{Bool, true, false, cond}
 use mathlib.Core.List.{List, [], _∷_, _++_}
 use Prim.Native.Nat.{ℕ, zero, suc, _<_, _≤_}
 use native.Mathlib.Omega.{arith}
-use borrow.Author.Tests.{lt-ltb, le-ltb, ltb-true, eq-eqb, eqb-true}
+use borrow.Author.Tests.{lt-ltb, le-ltb, ltb-true}
 use lib.Dec.{ltb}
 use lib.ListN.{length, getD, length-take, length-append, List·getD-eq-default}
 use lib.Seq.{getD-take}
@@ -12,7 +12,6 @@ use lib.IntN.{ℤ, pos, negsuc, natAbs}
 use Rattle.rules.specs.Limits.{mantissaLimit, indexLimit}
 use Rattle.store.specs.declared.Element.{Element}
 use Rattle.store.specs.Element.{listOf, extended, Bounded, Subscripts}
-use Rattle.language.specs.Scope.{sameWhole, sameElement}
 
 -- ---- the list of an element
 
@@ -102,44 +101,3 @@ bounded-none e h = rw h subscripts-none
 
 pub bounded-with : (e r : Element) (k : ℤ) → Bounded e → natAbs k ≤ mantissaLimit → listOf r ≡ extended (listOf e) k → Bounded r
 bounded-with e r k b h f = rw f (subscripts-extended (listOf e) k b h)
-
--- ---- equality
-
-same-whole : (j k : ℤ) → sameWhole j k ≡ true → j ≡ k
-unfolding sameWhole
-same-whole (pos a) (pos b) e = ap pos (eqb-true a b e)
-same-whole (pos a) (negsuc b) e = absurd (let w : _≡_ {A = ℕ} 0 1 = cc in omega arith)
-same-whole (negsuc a) (pos b) e = absurd (let w : _≡_ {A = ℕ} 0 1 = cc in omega arith)
-same-whole (negsuc a) (negsuc b) e = ap negsuc (eqb-true a b e)
-
-whole-same : (k : ℤ) → sameWhole k k ≡ true
-unfolding sameWhole
-whole-same (pos a) = eq-eqb a a refl
-whole-same (negsuc a) = eq-eqb a a refl
-
-pub same-element : (l m : List ℤ) → sameElement l m ≡ true → l ≡ m
-unfolding sameElement
-same-element [] [] e = refl
-same-element [] (k ∷ m) e = absurd (let w : _≡_ {A = ℕ} 0 1 = cc in omega arith)
-same-element (j ∷ l) [] e = absurd (let w : _≡_ {A = ℕ} 0 1 = cc in omega arith)
-same-element (j ∷ l) (k ∷ m) e = go (sameWhole j k) refl (same-element l m) e
-  where
-    go : (t : Bool) → sameWhole j k ≡ t → (sameElement l m ≡ true → l ≡ m) → elim t as (λ _. Bool) [ true ↦ sameElement l m | false ↦ false ] ≡ true → (j ∷ l) ≡ (k ∷ m)
-    go true p f e = cc (same-whole j k p, f e)
-    go false p f e = absurd (let w : _≡_ {A = ℕ} 0 1 = cc in omega arith)
-
-pub element-same : (l : List ℤ) → sameElement l l ≡ true
-unfolding sameElement
-element-same [] = refl
-element-same (k ∷ l) = rw (whole-same k, sameElement) (element-same l)
-
--- the test is any other that is true of equal lists alone
-pub same-is : (same : List ℤ → List ℤ → Bool) → ((l m : List ℤ) → same l m ≡ true → l ≡ m) → ((l : List ℤ) → same l l ≡ true)
-    → (l m : List ℤ) → same l m ≡ sameElement l m
-same-is same f g l m = go (same l m) refl (sameElement l m) refl
-  where
-    go : (s : Bool) → same l m ≡ s → (t : Bool) → sameElement l m ≡ t → s ≡ t
-    go true p true q = refl
-    go true p false q = sym (element-same m) ∙ rw (f l m p) at q
-    go false p true q = sym p ∙ rw (same-element l m q) (g m)
-    go false p false q = refl

@@ -18,7 +18,8 @@ use Rattle.language.specs.Scope.{sameElement}
 use Rattle.language.specs.Demand3.{Precedes}
 use Rattle.store.specs.Key.{digitOf, digitAt, nameBound, nameDigit, paired, threeWords, keyNumber, keyOf}
 use Rattle.store.specs.Entries.{Keyed}
-use Rattle.store.proofs.Elements.{same-element, element-same}
+use Rattle.language.proofs.Gathered.{sameElement-true}
+use Rattle.language.proofs.EachNumbered.{sameElement-refl}
 
 -- ---- digits
 
@@ -255,8 +256,8 @@ module _ {i j : ℕ} {l m : List ℤ} (a : Keyed i l) (b : Keyed j m) where
       differ f = sym (ne-eqb (keyOf j m) (keyOf i l) (λ e. let h = key-equal (sym e) in f (h .0) (h .1)))
 
       go : (s : Bool) → eqb i j ≡ s → (t : Bool) → sameElement l m ≡ t → (s && t) ≡ eqb (keyOf j m) (keyOf i l)
-      go true p true q = sym (eq-eqb (keyOf j m) (keyOf i l) (cc (eqb-true i j p, same-element l m q)))
-      go true p false q = differ (λ e f. let w : false ≡ true = sym q ∙ rw f (element-same m) in let z : _≡_ {A = ℕ} 0 1 = cc in omega arith)
+      go true p true q = sym (eq-eqb (keyOf j m) (keyOf i l) (cc (eqb-true i j p, sameElement-true l m q)))
+      go true p false q = differ (λ e f. let w : false ≡ true = sym q ∙ rw f (sameElement-refl m) in let z : _≡_ {A = ℕ} 0 1 = cc in omega arith)
       go false p true q = differ (λ e f. eqb-false i j p e)
       go false p false q = differ (λ e f. eqb-false i j p e)
 
