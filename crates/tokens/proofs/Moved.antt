@@ -13,7 +13,7 @@ use Rattle.lexer.specs.Text
 use Rattle.lexer.specs.Marks.{opens, comma, minusSign}
 use Rattle.language.specs.Outcome.{Outcome, done, refused}
 use Rattle.language.specs.Syntax.{Name}
-use Rattle.language.specs.Reader.{Reader, Read, follow, _>>=_, give, next, look, isMark, nameOf, demand, require, expect, bracket, found, known, readKnown, readIndex}
+use Rattle.language.specs.Reader.{Used, Reader, Read, follow, _>>=_, give, next, look, isMark, nameOf, demand, require, expect, bracket, found, known, readKnown, readIndex}
 use Rattle.language.specs.Formulas.{isSum, Signed, readSign, headOf}
 use Rattle.tokens.specs.declared.Move.{Move}
 use Rattle.tokens.specs.declared.Move.the-variants.{At, Refused}
@@ -41,6 +41,14 @@ module _ {A B : Type 0} (m : List Name → Reader A) (f : List Name → A → Re
       go : (names : List Name) → Named s ns names → (o : Outcome (Read A)) → Matches o s ts (At a) → Matches (follow o (f names)) s ts r
       go names d (done x) h = subst (λ l. Matches (f names (x .what) l) s ts r) (sym h) (k (x .what) .matches names d)
       go names d (refused n p) h = absurd h
+
+-- the same with the first reader's answer r, as code has it
+module _ {A B : Type 0} (m : List Name → Reader A) (f : List Name → A → Reader B) (s ns ts : List ℕ) (at : ℕ) (r : Move) (h : Moves m s ns ts at r) where
+  pub stops : (n : Refusal) (p : ℕ) → r ≡ Refused n p → Moves (λ names. m names >>= f names) s ns ts at r
+  stops n p e = subst (Moves (λ names. m names >>= f names) s ns ts at) (sym e) (then-refused m f s ns ts at n p (subst (Moves m s ns ts at) e h))
+
+  pub goes : (a : ℕ) (q : Move) → r ≡ At a → ((w : A) → Moves (λ names. f names w) s ns ts a q) → Moves (λ names. m names >>= f names) s ns ts at q
+  goes a q e k = then-at m f s ns ts at a q (subst (Moves m s ns ts at) e h) k
 
 -- a reader, and something made of what it read
 pub given : {A B : Type 0} (m : List Name → Reader A) (f : List Name → A → B) (s ns ts : List ℕ) (at : ℕ) (r : Move) → Moves m s ns ts at r
@@ -222,29 +230,29 @@ module _ (s ns ts : List ℕ) (at : ℕ) (t : Seen) (h : Looks ts at t) where
 -- ---- a bracket's head
 
 module _ (s ns ts : List ℕ) (at nest : ℕ) (r : Move) (h : Moves (bracketIn opens nest) s ns ts at r) where
+  commaRest : List Name → Used → Reader Used
+  commaRest names i = expect comma >>= (λ _. give i)
+
+  indexRest : List Name → ℕ → Reader Used
+  indexRest names _ = readIndex names >>= commaRest names
+
   pub head-open : (n : Refusal) (p : ℕ) → r ≡ Refused n p → Moves (headIn nest) s ns ts at r
-  unfolding headIn headOf bracketIn
-  head-open n p e =
-      subst (Moves (headIn nest) s ns ts at) (sym e)
-      (record { matches = then-refused (λ names. bracket opens nest) (λ names _. readIndex names >>= (λ i. expect comma >>= (λ _. give i))) s ns ts at n p (record { matches = subst (Moves (bracketIn opens nest) s ns ts at) e h .matches }) .matches })
+  unfolding headIn headOf bracketIn indexRest commaRest
+  head-open n p e = record { matches = stops (λ names. bracket opens nest) indexRest s ns ts at r (record { matches = h .matches }) n p e .matches }
 
   pub head-index : (a : ℕ) (n : Refusal) (p : ℕ) (q : Move) → r ≡ At a → Moves indexIn s ns ts a q → q ≡ Refused n p → Moves (headIn nest) s ns ts at q
-  unfolding headIn headOf bracketIn indexIn
+  unfolding headIn headOf bracketIn indexIn indexRest commaRest
   head-index a n p q e g f =
-      subst (Moves (headIn nest) s ns ts at) (sym f)
-      (record {
-        matches = then-at (λ names. bracket opens nest) (λ names _. readIndex names >>= (λ i. expect comma >>= (λ _. give i))) s ns ts at a (Refused n p)
-            (record { matches = subst (Moves (bracketIn opens nest) s ns ts at) e h .matches })
-            (λ _. then-refused (λ names. readIndex names) (λ names i. expect comma >>= (λ _. give i)) s ns ts a n p (record { matches = subst (Moves indexIn s ns ts a) f g .matches })) .matches;
-      })
+      record {
+        matches = goes (λ names. bracket opens nest) indexRest s ns ts at r (record { matches = h .matches }) a q e
+            (λ _. stops readIndex commaRest s ns ts a q (record { matches = g .matches }) n p f) .matches;
+      }
 
   pub head-comma : (a b : ℕ) (q z : Move) → r ≡ At a → Moves indexIn s ns ts a q → q ≡ At b → Moves (expectIn comma) s ns ts b z → Moves (headIn nest) s ns ts at z
-  unfolding headIn headOf bracketIn indexIn expectIn
+  unfolding headIn headOf bracketIn indexIn expectIn indexRest commaRest
   head-comma a b q z e g f y =
       record {
-        matches = then-at (λ names. bracket opens nest) (λ names _. readIndex names >>= (λ i. expect comma >>= (λ _. give i))) s ns ts at a z
-            (record { matches = subst (Moves (bracketIn opens nest) s ns ts at) e h .matches })
-            (λ _. then-at (λ names. readIndex names) (λ names i. expect comma >>= (λ _. give i)) s ns ts a b z
-            (record { matches = subst (Moves indexIn s ns ts a) f g .matches })
+        matches = goes (λ names. bracket opens nest) indexRest s ns ts at r (record { matches = h .matches }) a z e
+            (λ _. goes readIndex commaRest s ns ts a q (record { matches = g .matches }) b z f
             (λ i. given (λ names. expect comma) (λ names _. i) s ns ts b z (record { matches = y .matches }))) .matches;
       }

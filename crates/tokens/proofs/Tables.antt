@@ -22,7 +22,7 @@ use Rattle.tokens.specs.Stored.{wordOf, kindPart, placePart, payloadPart
 
 -- ---- what cannot be
 
-false-true : false ≡ true → ⊥
+pub false-true : false ≡ true → ⊥
 false-true e = subst (λ b. elim b as (λ _. Type 0) [ true ↦ ⊥ | false ↦ Unit {0} ]) e tt
 
 name-nothing : (i k c : ℕ) → found.Name i k c ≡ found.Nothing → ⊥
