@@ -1,20 +1,18 @@
 -- Laws over plain variables that answer the code's needs. Assumes nothing.
-use mathlib.Core.Path.{_≡_, refl, sym, _∙_, ap, subst}
+use mathlib.Core.Path.{_≡_, refl, sym, _∙_, subst}
 use mathlib.Core.Bool.{Bool, true, false}
-use mathlib.Core.List.{List, [], _∷_}
+use mathlib.Core.List.{List}
 use Prim.Native.Nat.{ℕ, zero, suc, _-_, _<_}
 use native.Mathlib.Omega.{arith}
 use lib.Dec.{eqb}
 use borrow.Author.Tests.{eq-eqb, ne-eqb}
 use Rattle.rules.specs.declared.Refusal.{Refusal}
-use Rattle.rules.specs.declared.Refusal.the-variants.{Misplaced, BadName, Full}
-use Rattle.language.specs.Outcome.{Outcome, done, refused}
 use Rattle.rules.specs.Limits.{nestingLimit, indexLimit}
 use Rattle.lexer.specs.Text.{Token}
 use Rattle.lexer.specs.Marks.{opens, closes, comma, atMost}
 use Rattle.language.specs.Syntax.{Name, Formula, Spans, point}
-use Rattle.language.specs.Reader.{Reader, Read, follow, _>>=_, give, Used, next, look, isMark, expect, bracket, readIndex}
-use Rattle.language.specs.Formulas.{Entry, entryOf, entriesOf, spanOf, partOf, insideAt, inDomain, domainOf, optionalDomain}
+use Rattle.language.specs.Reader.{Reader, follow, _>>=_, give, Used, next, look, isMark, expect, bracket, readIndex}
+use Rattle.language.specs.Formulas.{Entry, entryOf, entriesOf, spanOf, partOf, inDomain, domainOf, optionalDomain}
 use Rattle.tokens.specs.declared.Move.{Move}
 use Rattle.tokens.specs.declared.Move.the-variants.{At, Refused}
 use Rattle.tokens.specs.declared.Seen.{Seen}

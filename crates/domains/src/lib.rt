@@ -11,7 +11,14 @@ ghost use Rattle.domains.specs.Domains.{entryWith, entriesIn, domainIn, 
 pub fn entry(text: &[u8], names: &[u64], tokens: &[u64], at: usize) -> Move
     ensures { λ r. ⌜ Moves (entryWith indexIn) (now (text .entry)) (now (names .entry)) (now (tokens .entry)) at r ⌝ }
 {
-    let lower = formulas::part(text, names, tokens, at, rules::NESTING_LIMIT, marks::AT_MOST);
+    let lower = formulas::part(
+        text,
+        names,
+        tokens,
+        at,
+        rules::NESTING_LIMIT,
+        marks::AT_MOST,
+    );
     let Move::At(a) = lower else {
         return lower;
     };
@@ -54,7 +61,14 @@ pub fn entries(text: &[u8], names: &[u64], tokens: &[u64], at: usize, left: usiz
 pub fn domain(text: &[u8], names: &[u64], tokens: &[u64], at: usize) -> Move
     ensures { λ r. ⌜ Moves domainIn (now (text .entry)) (now (names .entry)) (now (tokens .entry)) at r ⌝ }
 {
-    let open = tokens::bracket(text, names, tokens, at, rules::NESTING_LIMIT, marks::LEFT_PAREN);
+    let open = tokens::bracket(
+        text,
+        names,
+        tokens,
+        at,
+        rules::NESTING_LIMIT,
+        marks::LEFT_PAREN,
+    );
     let Move::At(a) = open else {
         return open;
     };

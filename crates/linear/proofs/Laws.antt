@@ -1,20 +1,19 @@
 -- Laws over plain variables that answer the code's needs. Assumes nothing.
 use mathlib.Core.Path.{_≡_, refl, sym, _∙_, ap, subst}
 use mathlib.Core.Bool.{Bool, true, false, _||_, _&&_, cond}
-use mathlib.Core.List.{List, [], _∷_}
+use mathlib.Core.List.{List}
 use Prim.Native.Nat.{ℕ, zero, suc, _-_, _<_, _≤_}
 use native.Mathlib.Omega.{arith}
 use lib.Dec.{T, eqb, eqb→eq}
 use borrow.Author.Tests.{eq-eqb, ne-eqb}
 use Rattle.rules.specs.declared.Refusal.{Refusal}
-use Rattle.rules.specs.declared.Refusal.the-variants.{Misplaced, BadName, Full}
-use Rattle.language.specs.Outcome.{Outcome, done, refused}
+use Rattle.rules.specs.declared.Refusal.the-variants.{Full}
 use Rattle.rules.specs.Limits.{tokenLimit}
-use Rattle.lexer.specs.Text.{Token, Kind}
+use Rattle.lexer.specs.Text.{Token}
 use Rattle.lexer.specs.Marks.{timesSign, minusSign, sigmaWord, comma, closes}
-use Rattle.language.specs.Syntax.{Name, Sort, Formula, Formulas, Spans, Term, Form, also, factor, variable, sigma}
+use Rattle.language.specs.Syntax.{Name, Sort, Formula, Term, Form, also, factor, variable, sigma}
 use Rattle.language.specs.Syntax
-use Rattle.language.specs.Reader.{Reader, Read, follow, _>>=_, give, refuse, Used, next, look, isMark, expect, find}
+use Rattle.language.specs.Reader.{Reader, follow, _>>=_, give, refuse, Used, next, isMark, expect, find}
 use Rattle.language.specs.Formulas.{isSum, Signed, readSign, headOf, partOf, formulaAt, subscriptsOf, primaryBy, primaryOf, insideAt}
 use Rattle.language.specs.Linear.{Head, aSigma, aVariable, aPrimary, headBySort, headByName, headBy, noSigma, linearTerm, linearTerms, Linear, linearOf, plainForm, bodyOf, sigmaAt, linearAt}
 use Rattle.tokens.specs.declared.Move.{Move}
@@ -23,24 +22,24 @@ use Rattle.tokens.specs.declared.Seen.{Seen}
 use Rattle.tokens.specs.declared.Seen.the-variants as seen
 use Rattle.tokens.specs.declared.Found.{Found}
 use Rattle.tokens.specs.declared.Found.the-variants as found
-use Rattle.tokens.specs.Stored.{spelling, nameBytes, token, kindOf, from, Sees, Looks, lookUp, size, Shaped, Named, Matches, Moves}
+use Rattle.tokens.specs.Stored.{spelling, nameBytes, token, kindOf, from, Sees, Looks, lookUp, Shaped, Named, Matches, Moves}
 use Rattle.tokens.specs.Pieces.{expectIn, headIn, signIn}
-use Rattle.tokens.proofs.Tables.{false-true, mark-of, mark-same, Declared, declared, not-declared}
+use Rattle.tokens.proofs.Tables.{false-true, mark-of, mark-same, declared, not-declared}
 use Rattle.tokens.proofs.Moved.{stops, goes, then-at, given, next-is, look-is, next-wrong, look-wrong, is-sum}
-use Rattle.formulas.specs.Cycle.{insideIn, partIn, primaryIn, Subscripts}
+use Rattle.formulas.specs.Cycle.{partIn, primaryIn, Subscripts}
 use Rattle.linear.specs.Linear.{Heads, Begins, plainTermIn, termIn, sigmaIn, plainTermsIn, termsIn, plainFormIn, bodyIn, linearIn}
 
 -- ---- what a token begins
 
 module _ (s ns : List ℕ) (p x : ℕ) where
-  sort-variable : (y : Sort) (i k j c : ℕ) (b : Bool) → Shaped y j c → (eqb j 4 || eqb j 5) ≡ true → Heads (headBySort i y) b k (found.Name j c)
+  sort-variable : (y : Sort) (i k ι j c : ℕ) (b : Bool) → i ≡ ι → Shaped y j c → (eqb j 4 || eqb j 5) ≡ true → Heads (headBySort i y) b k (found.Name ι j c)
   unfolding headBySort
-  sort-variable Syntax.index i k j c b h e = absurd (false-true (subst (λ j. (eqb j 4 || eqb j 5) ≡ true) h e))
-  sort-variable (Syntax.integer d) i k j c b h e = absurd (false-true (subst (λ j. (eqb j 4 || eqb j 5) ≡ true) (h .0) e))
-  sort-variable (Syntax.real d) i k j c b h e = absurd (false-true (subst (λ j. (eqb j 4 || eqb j 5) ≡ true) (h .0) e))
-  sort-variable (Syntax.formula f) i k j c b h e = absurd (false-true (subst (λ j. (eqb j 4 || eqb j 5) ≡ true) h e))
-  sort-variable (Syntax.discrete d) i k j c b h e = h .1
-  sort-variable (Syntax.continuous d) i k j c b h e = h .1
+  sort-variable Syntax.index i k ι j c b z h e = absurd (false-true (subst (λ j. (eqb j 4 || eqb j 5) ≡ true) h e))
+  sort-variable (Syntax.integer d) i k ι j c b z h e = absurd (false-true (subst (λ j. (eqb j 4 || eqb j 5) ≡ true) (h .0) e))
+  sort-variable (Syntax.real d) i k ι j c b z h e = absurd (false-true (subst (λ j. (eqb j 4 || eqb j 5) ≡ true) (h .0) e))
+  sort-variable (Syntax.formula f) i k ι j c b z h e = absurd (false-true (subst (λ j. (eqb j 4 || eqb j 5) ≡ true) h e))
+  sort-variable (Syntax.discrete d) i k ι j c b z h e = (z, h .1)
+  sort-variable (Syntax.continuous d) i k ι j c b z h e = (z, h .1)
 
   sort-other : (y : Sort) (i k j c : ℕ) (b : Bool) → Shaped y j c → (eqb j 4 || eqb j 5) ≡ false → (k ≡ 134 → ⊥) → Heads (headBySort i y) b k found.Nothing
   unfolding headBySort
@@ -51,34 +50,34 @@ module _ (s ns : List ℕ) (p x : ℕ) where
   sort-other (Syntax.discrete d) i k j c b h e o = absurd (false-true (sym (subst (λ j. (eqb j 4 || eqb j 5) ≡ false) (h .0) e)))
   sort-other (Syntax.continuous d) i k j c b h e o = absurd (false-true (sym (subst (λ j. (eqb j 4 || eqb j 5) ≡ false) (h .0) e)))
 
-  name-head : (k : ℕ) (names : List Name) (b : Bool) → k ≡ 1 → headBy names b (kindOf s k p x) ≡ headByName (find (spelling s p x) names 0 0)
+  name-head : (k : ℕ) (names : List Name) (b : Bool) → k ≡ 1 → headBy names b (kindOf s k p x) ≡ headByName (find (spelling s p (nameBytes x)) names 0 0)
   unfolding headBy kindOf
   name-head k names b e = rw e refl
 
-  pub begins-variable : (k j c : ℕ) (f : Found) → k ≡ 1 → f ≡ lookUp s (spelling s p x) ns → f ≡ found.Name j c → (eqb j 4 || eqb j 5) ≡ true → Begins s ns k p x (found.Name j c)
+  pub begins-variable : (k ι j c : ℕ) (f : Found) → k ≡ 1 → f ≡ lookUp s (spelling s p (nameBytes x)) ns 0 → f ≡ found.Name ι j c → (eqb j 4 || eqb j 5) ≡ true → Begins s ns k p x (found.Name ι j c)
   unfolding headByName
-  begins-variable k j c f e g h t =
+  begins-variable k ι j c f e g h t =
       record {
         heads = λ names d b.
-            let u = declared s (spelling s p x) ns names 0 0 j c d (sym g ∙ h) in
-            subst (λ y. Heads y b k (found.Name j c)) (sym (name-head k names b e ∙ ap headByName (u .stands))) (sort-variable (u .used .sort) (u .used .number) k j c b (u .shaped) t);
+            let u = declared s (spelling s p (nameBytes x)) ns names 0 0 ι j c d (sym g ∙ h) in
+            subst (λ y. Heads y b k (found.Name ι j c)) (sym (name-head k names b e ∙ ap headByName (u .stands))) (sort-variable (u .used .sort) (u .used .number) k ι j c b (u .numbered) (u .shaped) t);
       }
 
-  pub begins-other : (k j c : ℕ) (f : Found) → k ≡ 1 → f ≡ lookUp s (spelling s p x) ns → f ≡ found.Name j c → (eqb j 4 || eqb j 5) ≡ false → Begins s ns k p x found.Nothing
+  pub begins-other : (k ι j c : ℕ) (f : Found) → k ≡ 1 → f ≡ lookUp s (spelling s p (nameBytes x)) ns 0 → f ≡ found.Name ι j c → (eqb j 4 || eqb j 5) ≡ false → Begins s ns k p x found.Nothing
   unfolding headByName
-  begins-other k j c f e g h t =
+  begins-other k ι j c f e g h t =
       record {
         heads = λ names d b.
-            let u = declared s (spelling s p x) ns names 0 0 j c d (sym g ∙ h) in
+            let u = declared s (spelling s p (nameBytes x)) ns names 0 0 ι j c d (sym g ∙ h) in
             subst (λ y. Heads y b k found.Nothing) (sym (name-head k names b e ∙ ap headByName (u .stands))) (sort-other (u .used .sort) (u .used .number) k j c b (u .shaped) t (λ z. omega arith));
       }
 
-  pub begins-unknown : (k : ℕ) (f : Found) → k ≡ 1 → f ≡ lookUp s (spelling s p x) ns → f ≡ found.Nothing → Begins s ns k p x found.Nothing
+  pub begins-unknown : (k : ℕ) (f : Found) → k ≡ 1 → f ≡ lookUp s (spelling s p (nameBytes x)) ns 0 → f ≡ found.Nothing → Begins s ns k p x found.Nothing
   unfolding headByName
   begins-unknown k f e g h =
       record {
         heads = λ names d b.
-            subst (λ y. Heads y b k found.Nothing) (sym (name-head k names b e ∙ ap headByName (not-declared s (spelling s p x) ns names 0 0 d (sym g ∙ h)))) (λ _ z. omega arith);
+            subst (λ y. Heads y b k found.Nothing) (sym (name-head k names b e ∙ ap headByName (not-declared s (spelling s p (nameBytes x)) ns names 0 0 d (sym g ∙ h)))) (λ _ z. omega arith);
       }
 
   mark-head : (k : ℕ) (b : Bool) → Heads (cond (b && eqb k 134) aSigma aPrimary) b k found.Nothing
@@ -105,7 +104,7 @@ module _ (s ns : List ℕ) (p x : ℕ) where
 -- ---- linear terms, for any reader of sigmas
 
 pub record TermOn (S : List Name → ℕ → Reader Term) (g : Bool) (s ns ts : List ℕ) (n at k a : ℕ) : Type 0 where
-  pub on : (z : Move) → Moves (λ names. linearTerm names (S names) g n k) s ns ts a z → Moves (λ names. linearTerm names (S names) g n 4096) s ns ts at z
+  pub on : (z : Move) → Moves (λ names. linearTerm names (S names) g n k) s ns ts a z → Moves (λ names. linearTerm names (S names) g n tokenLimit) s ns ts at z
 
 module _ (S : List Name → ℕ → Reader Term) (g : Bool) (s ns ts : List ℕ) (n : ℕ) where
   starRest : ℕ → Formula → List Name → ℕ → Reader Term
@@ -145,14 +144,14 @@ module _ (S : List Name → ℕ → Reader Term) (g : Bool) (s ns ts : List ℕ)
               (subst (λ k. Matches (turn k (token s x p y) names (headBy names g (kindOf s x p y)) (from s ts b)) s ts r) c (f names d (headBy names g (kindOf s x p y)) (h .heads names d g)));
         }
 
-    term-variable-at : (k : ℕ) → 0 < k → (x p y b j c : ℕ) (v : Found) (r : Move) → t ≡ seen.Token x p y b → Begins s ns x p y v → v ≡ found.Name j c → Subscripts s ns ts n c b r
+    term-variable-at : (k : ℕ) → 0 < k → (x p y b ι j c : ℕ) (v : Found) (r : Move) → t ≡ seen.Token x p y b → Begins s ns x p y v → v ≡ found.Name ι j c → Subscripts s ns ts n c b r
         → Moves (λ names. linearTerm names (S names) g n k) s ns ts a r
     unfolding turn
-    term-variable-at k m x p y b j c v r e h w u = term-by k m x p y b (found.Name j c) r e (subst (Begins s ns x p y) w h) go
+    term-variable-at k m x p y b ι j c v r e h w u = term-by k m x p y b (found.Name ι j c) r e (subst (Begins s ns x p y) w h) go
       where
-        go : (names : List Name) → Named s ns names → (h : Head) → Heads h g x (found.Name j c) → Matches (turn (k - 1) (token s x p y) names h (from s ts b)) s ts r
+        go : (names : List Name) → Named s ns names → (h : Head) → Heads h g x (found.Name ι j c) → Matches (turn (k - 1) (token s x p y) names h (from s ts b)) s ts r
         go names d aSigma q = absurd q
-        go names d (aVariable i z) q = given (λ names. subscriptsOf n (insideAt names n) z) (λ names fs. variable i z fs (token s x p y .place)) s ns ts b r (u .moves z q) .matches names d
+        go names d (aVariable i z) q = given (λ names. subscriptsOf n (insideAt names n) z) (λ names fs. variable i z fs (token s x p y .place)) s ns ts b r (u .moves z (q .1)) .matches names d
         go names d aPrimary q = absurd q
 
     -- a primary, read anew from its token
@@ -179,19 +178,20 @@ module _ (S : List Name → ℕ → Reader Term) (g : Bool) (s ns ts : List ℕ)
 
 module _ (S : List Name → ℕ → Reader Term) (g : Bool) (s ns ts : List ℕ) (n at : ℕ) where
   start : TermOn S g s ns ts n at 4096 at
+  unfolding tokenLimit
   start = record { on = λ z h. h }
 
   whole : Move → Type 0
-  whole r = Moves (λ names. linearTerm names (S names) g n 4096) s ns ts at r
+  whole r = Moves (λ names. linearTerm names (S names) g n tokenLimit) s ns ts at r
 
   module _ (k a : ℕ) (t : Seen) (o : TermOn S g s ns ts n at k a) (m : 0 < k) (l : Looks ts a t) where
     loop-wrong : (j : Refusal) (p : ℕ) → t ≡ seen.Refused j p → whole (Refused j p)
     unfolding whole
     loop-wrong j p e = o .on (Refused j p) (term-wrong-at S g s ns ts n a t l k m j p e)
 
-    loop-variable : (x p y b j c : ℕ) (v : Found) (r : Move) → t ≡ seen.Token x p y b → Begins s ns x p y v → v ≡ found.Name j c → Subscripts s ns ts n c b r → whole r
+    loop-variable : (x p y b ι j c : ℕ) (v : Found) (r : Move) → t ≡ seen.Token x p y b → Begins s ns x p y v → v ≡ found.Name ι j c → Subscripts s ns ts n c b r → whole r
     unfolding whole
-    loop-variable x p y b j c v r e h w u = o .on r (term-variable-at S g s ns ts n a t l k m x p y b j c v r e h w u)
+    loop-variable x p y b ι j c v r e h w u = o .on r (term-variable-at S g s ns ts n a t l k m x p y b ι j c v r e h w u)
 
     module _ (x p y b : ℕ) (v : Found) (e : t ≡ seen.Token x p y b) (h : Begins s ns x p y v) (w : v ≡ found.Nothing) (no : g ≡ true → x ≡ 134 → ⊥) (q : Move) (f : Moves (primaryIn n) s ns ts a q) where
       loop-primary : (j : Refusal) (i : ℕ) → q ≡ Refused j i → whole q
@@ -228,6 +228,7 @@ without names = noSigma
 
 module _ (s ns ts : List ℕ) (n at : ℕ) where
   pub plain-start : TermOn without false s ns ts n at 4096 at
+  unfolding tokenLimit
   plain-start = start without false s ns ts n at
 
   pub plain-none : (k a : ℕ) → TermOn without false s ns ts n at k a → k ≤ 0 → Moves (plainTermIn n) s ns ts at (Refused Full 0)
@@ -239,9 +240,9 @@ module _ (s ns ts : List ℕ) (n at : ℕ) where
     unfolding plainTermIn whole
     plain-wrong j p e = record { matches = loop-wrong without false s ns ts n at k a t o m l j p e .matches }
 
-    pub plain-variable : (x p y b j c : ℕ) (v : Found) (r : Move) → t ≡ seen.Token x p y b → Begins s ns x p y v → v ≡ found.Name j c → Subscripts s ns ts n c b r → Moves (plainTermIn n) s ns ts at r
+    pub plain-variable : (x p y b ι j c : ℕ) (v : Found) (r : Move) → t ≡ seen.Token x p y b → Begins s ns x p y v → v ≡ found.Name ι j c → Subscripts s ns ts n c b r → Moves (plainTermIn n) s ns ts at r
     unfolding plainTermIn whole
-    plain-variable x p y b j c v r e h w u = record { matches = loop-variable without false s ns ts n at k a t o m l x p y b j c v r e h w u .matches }
+    plain-variable x p y b ι j c v r e h w u = record { matches = loop-variable without false s ns ts n at k a t o m l x p y b ι j c v r e h w u .matches }
 
     module _ (x p y b : ℕ) (v : Found) (e : t ≡ seen.Token x p y b) (h : Begins s ns x p y v) (w : v ≡ found.Nothing) (q : Move) (f : Moves (primaryIn n) s ns ts a q) where
       pub plain-primary : (j : Refusal) (i : ℕ) → q ≡ Refused j i → Moves (plainTermIn n) s ns ts at q
@@ -262,6 +263,7 @@ some-sigma n names = sigmaAt names n
 
 module _ (s ns ts : List ℕ) (n at : ℕ) where
   pub top-start : TermOn (some-sigma n) true s ns ts n at 4096 at
+  unfolding tokenLimit
   top-start = start (some-sigma n) true s ns ts n at
 
   pub top-none : (k a : ℕ) → TermOn (some-sigma n) true s ns ts n at k a → k ≤ 0 → Moves (termIn n) s ns ts at (Refused Full 0)
@@ -292,9 +294,9 @@ module _ (s ns ts : List ℕ) (n at : ℕ) where
     unfolding termIn
     top-sigma x p y b r e i u = record { matches = o .on r (top-sigma-at k m x p y b r e i u) .matches }
 
-    pub top-variable : (x p y b j c : ℕ) (v : Found) (r : Move) → t ≡ seen.Token x p y b → Begins s ns x p y v → v ≡ found.Name j c → Subscripts s ns ts n c b r → Moves (termIn n) s ns ts at r
+    pub top-variable : (x p y b ι j c : ℕ) (v : Found) (r : Move) → t ≡ seen.Token x p y b → Begins s ns x p y v → v ≡ found.Name ι j c → Subscripts s ns ts n c b r → Moves (termIn n) s ns ts at r
     unfolding termIn whole
-    top-variable x p y b j c v r e h w u = record { matches = loop-variable (some-sigma n) true s ns ts n at k a t o m l x p y b j c v r e h w u .matches }
+    top-variable x p y b ι j c v r e h w u = record { matches = loop-variable (some-sigma n) true s ns ts n at k a t o m l x p y b ι j c v r e h w u .matches }
 
     module _ (x p y b : ℕ) (v : Found) (e : t ≡ seen.Token x p y b) (no : x ≡ 134 → ⊥) (h : Begins s ns x p y v) (w : v ≡ found.Nothing) (q : Move) (f : Moves (primaryIn n) s ns ts a q) where
       pub top-primary : (j : Refusal) (i : ℕ) → q ≡ Refused j i → Moves (termIn n) s ns ts at q
@@ -311,7 +313,7 @@ module _ (s ns ts : List ℕ) (n at : ℕ) where
 -- ---- terms joined by signs, for any reader of a term
 
 pub record TermsOn (T : List Name → Reader Term) (s ns ts : List ℕ) (at k a : ℕ) : Type 0 where
-  pub on : (z : Move) → Moves (λ names. linearTerms (T names) k) s ns ts a z → Moves (λ names. linearTerms (T names) 4096) s ns ts at z
+  pub on : (z : Move) → Moves (λ names. linearTerms (T names) k) s ns ts a z → Moves (λ names. linearTerms (T names) tokenLimit) s ns ts at z
 
 module _ (T : List Name → Reader Term) (s ns ts : List ℕ) where
   alsoRest : ℕ → Bool → List Name → Term → Reader Form
@@ -325,10 +327,11 @@ module _ (T : List Name → Reader Term) (s ns ts : List ℕ) where
 
   module _ (at : ℕ) where
     terms-start : TermsOn T s ns ts at 4096 at
+    unfolding tokenLimit
     terms-start = record { on = λ z h. h }
 
     all : Move → Type 0
-    all r = Moves (λ names. linearTerms (T names) 4096) s ns ts at r
+    all r = Moves (λ names. linearTerms (T names) tokenLimit) s ns ts at r
 
     terms-none : (k a : ℕ) → TermsOn T s ns ts at k a → k ≤ 0 → all (At a)
     unfolding all linearTerms
@@ -387,22 +390,23 @@ module _ (T : List Name → Reader Term) (s ns ts : List ℕ) where
 
 module _ (s ns ts : List ℕ) (n at : ℕ) where
   pub plains-start : TermsOn (plainTermIn n) s ns ts at 4096 at
+  unfolding tokenLimit
   plains-start = terms-start (plainTermIn n) s ns ts at
 
-  pub plains-none : (k a : ℕ) → TermsOn (plainTermIn n) s ns ts at k a → k ≤ 0 → Moves (plainTermsIn n 4096) s ns ts at (At a)
+  pub plains-none : (k a : ℕ) → TermsOn (plainTermIn n) s ns ts at k a → k ≤ 0 → Moves (plainTermsIn n tokenLimit) s ns ts at (At a)
   unfolding plainTermsIn all
   plains-none k a o h = record { matches = terms-none (plainTermIn n) s ns ts at k a o h .matches }
 
   module _ (k a : ℕ) (t : Seen) (o : TermsOn (plainTermIn n) s ns ts at k a) (m : 0 < k) (l : Looks ts a t) where
-    pub plains-wrong : (j : Refusal) (p : ℕ) → t ≡ seen.Refused j p → Moves (plainTermsIn n 4096) s ns ts at (Refused j p)
+    pub plains-wrong : (j : Refusal) (p : ℕ) → t ≡ seen.Refused j p → Moves (plainTermsIn n tokenLimit) s ns ts at (Refused j p)
     unfolding plainTermsIn all
     plains-wrong j p e = record { matches = terms-wrong (plainTermIn n) s ns ts at k a t o m l j p e .matches }
 
-    pub plains-end : (x p y b : ℕ) → t ≡ seen.Token x p y b → (eqb x 43 || eqb x 45) ≡ false → Moves (plainTermsIn n 4096) s ns ts at (At a)
+    pub plains-end : (x p y b : ℕ) → t ≡ seen.Token x p y b → (eqb x 43 || eqb x 45) ≡ false → Moves (plainTermsIn n tokenLimit) s ns ts at (At a)
     unfolding plainTermsIn all
     plains-end x p y b e i = record { matches = terms-end (plainTermIn n) s ns ts at k a t o m l x p y b e i .matches }
 
-    pub plains-refused : (x p y b : ℕ) (j : Refusal) (q : ℕ) (r : Move) → t ≡ seen.Token x p y b → (eqb x 43 || eqb x 45) ≡ true → Moves (plainTermIn n) s ns ts b r → r ≡ Refused j q → Moves (plainTermsIn n 4096) s ns ts at r
+    pub plains-refused : (x p y b : ℕ) (j : Refusal) (q : ℕ) (r : Move) → t ≡ seen.Token x p y b → (eqb x 43 || eqb x 45) ≡ true → Moves (plainTermIn n) s ns ts b r → r ≡ Refused j q → Moves (plainTermsIn n tokenLimit) s ns ts at r
     unfolding plainTermsIn all
     plains-refused x p y b j q r e i u z = record { matches = terms-refused (plainTermIn n) s ns ts at k a t o m l x p y b j q r e i u z .matches }
 
@@ -411,22 +415,23 @@ module _ (s ns ts : List ℕ) (n at : ℕ) where
 
 module _ (s ns ts : List ℕ) (n at : ℕ) where
   pub tops-start : TermsOn (termIn n) s ns ts at 4096 at
+  unfolding tokenLimit
   tops-start = terms-start (termIn n) s ns ts at
 
-  pub tops-none : (k a : ℕ) → TermsOn (termIn n) s ns ts at k a → k ≤ 0 → Moves (termsIn n 4096) s ns ts at (At a)
+  pub tops-none : (k a : ℕ) → TermsOn (termIn n) s ns ts at k a → k ≤ 0 → Moves (termsIn n tokenLimit) s ns ts at (At a)
   unfolding termsIn all
   tops-none k a o h = record { matches = terms-none (termIn n) s ns ts at k a o h .matches }
 
   module _ (k a : ℕ) (t : Seen) (o : TermsOn (termIn n) s ns ts at k a) (m : 0 < k) (l : Looks ts a t) where
-    pub tops-wrong : (j : Refusal) (p : ℕ) → t ≡ seen.Refused j p → Moves (termsIn n 4096) s ns ts at (Refused j p)
+    pub tops-wrong : (j : Refusal) (p : ℕ) → t ≡ seen.Refused j p → Moves (termsIn n tokenLimit) s ns ts at (Refused j p)
     unfolding termsIn all
     tops-wrong j p e = record { matches = terms-wrong (termIn n) s ns ts at k a t o m l j p e .matches }
 
-    pub tops-end : (x p y b : ℕ) → t ≡ seen.Token x p y b → (eqb x 43 || eqb x 45) ≡ false → Moves (termsIn n 4096) s ns ts at (At a)
+    pub tops-end : (x p y b : ℕ) → t ≡ seen.Token x p y b → (eqb x 43 || eqb x 45) ≡ false → Moves (termsIn n tokenLimit) s ns ts at (At a)
     unfolding termsIn all
     tops-end x p y b e i = record { matches = terms-end (termIn n) s ns ts at k a t o m l x p y b e i .matches }
 
-    pub tops-refused : (x p y b : ℕ) (j : Refusal) (q : ℕ) (r : Move) → t ≡ seen.Token x p y b → (eqb x 43 || eqb x 45) ≡ true → Moves (termIn n) s ns ts b r → r ≡ Refused j q → Moves (termsIn n 4096) s ns ts at r
+    pub tops-refused : (x p y b : ℕ) (j : Refusal) (q : ℕ) (r : Move) → t ≡ seen.Token x p y b → (eqb x 43 || eqb x 45) ≡ true → Moves (termIn n) s ns ts b r → r ≡ Refused j q → Moves (termsIn n tokenLimit) s ns ts at r
     unfolding termsIn all
     tops-refused x p y b j q r e i u z = record { matches = terms-refused (termIn n) s ns ts at k a t o m l x p y b j q r e i u z .matches }
 
@@ -437,7 +442,7 @@ module _ (s ns ts : List ℕ) (n at : ℕ) where
 
 module _ (T : List Name → Reader Term) (s ns ts : List ℕ) (at : ℕ) (r : Move) (h : Moves signIn s ns ts at r) where
   endRest : Signed → List Name → Term → Reader Linear
-  endRest g names u = linearTerms (T names) 4096 >>= (λ f. give (record { signed = g .written; form = also (g .negative) u f }))
+  endRest g names u = linearTerms (T names) tokenLimit >>= (λ f. give (record { signed = g .written; form = also (g .negative) u f }))
 
   signRest : List Name → Signed → Reader Linear
   signRest names g = T names >>= endRest g names
@@ -451,13 +456,13 @@ module _ (T : List Name → Reader Term) (s ns ts : List ℕ) (at : ℕ) (r : Mo
   form-term a m p q e u z =
       record { matches = goes (λ names. readSign) signRest s ns ts at r (record { matches = h .matches }) a q e (λ w. stops T (endRest w) s ns ts a q u m p z) .matches }
 
-  form-rest : (a b : ℕ) (q z : Move) → r ≡ At a → Moves T s ns ts a q → q ≡ At b → Moves (λ names. linearTerms (T names) 4096) s ns ts b z → Moves (λ names. linearOf (T names)) s ns ts at z
+  form-rest : (a b : ℕ) (q z : Move) → r ≡ At a → Moves T s ns ts a q → q ≡ At b → Moves (λ names. linearTerms (T names) tokenLimit) s ns ts b z → Moves (λ names. linearOf (T names)) s ns ts at z
   unfolding linearOf signIn signRest endRest tokenLimit
   form-rest a b q z e u y v =
       record {
         matches = goes (λ names. readSign) signRest s ns ts at r (record { matches = h .matches }) a z e
             (λ w. goes T (endRest w) s ns ts a q u b z y
-            (λ x. given (λ names. linearTerms (T names) 4096) (λ names f. record { signed = w .written; form = also (w .negative) x f }) s ns ts b z v)) .matches;
+            (λ x. given (λ names. linearTerms (T names) tokenLimit) (λ names f. record { signed = w .written; form = also (w .negative) x f }) s ns ts b z v)) .matches;
       }
 
 module _ (s ns ts : List ℕ) (n at : ℕ) (r : Move) (h : Moves signIn s ns ts at r) where
@@ -471,7 +476,7 @@ module _ (s ns ts : List ℕ) (n at : ℕ) (r : Move) (h : Moves signIn s ns ts 
   pub plain-term : (a : ℕ) (m : Refusal) (p : ℕ) (q : Move) → r ≡ At a → Moves (plainTermIn n) s ns ts a q → q ≡ Refused m p → Moves (plainFormIn n) s ns ts at q
   plain-term a m p q e u z = plain-as q (form-term (plainTermIn n) s ns ts at r h a m p q e u z)
 
-  pub plain-rest : (a b : ℕ) (q z : Move) → r ≡ At a → Moves (plainTermIn n) s ns ts a q → q ≡ At b → Moves (plainTermsIn n 4096) s ns ts b z → Moves (plainFormIn n) s ns ts at z
+  pub plain-rest : (a b : ℕ) (q z : Move) → r ≡ At a → Moves (plainTermIn n) s ns ts a q → q ≡ At b → Moves (plainTermsIn n tokenLimit) s ns ts b z → Moves (plainFormIn n) s ns ts at z
   unfolding plainTermsIn
   plain-rest a b q z e u y v = plain-as z (form-rest (plainTermIn n) s ns ts at r h a b q z e u y (record { matches = v .matches }))
 
@@ -485,7 +490,7 @@ module _ (s ns ts : List ℕ) (n at : ℕ) (r : Move) (h : Moves signIn s ns ts 
   pub linear-term : (a : ℕ) (m : Refusal) (p : ℕ) (q : Move) → r ≡ At a → Moves (termIn n) s ns ts a q → q ≡ Refused m p → Moves (linearIn n) s ns ts at q
   linear-term a m p q e u z = top-as q (form-term (termIn n) s ns ts at r h a m p q e u z)
 
-  pub linear-rest : (a b : ℕ) (q z : Move) → r ≡ At a → Moves (termIn n) s ns ts a q → q ≡ At b → Moves (termsIn n 4096) s ns ts b z → Moves (linearIn n) s ns ts at z
+  pub linear-rest : (a b : ℕ) (q z : Move) → r ≡ At a → Moves (termIn n) s ns ts a q → q ≡ At b → Moves (termsIn n tokenLimit) s ns ts b z → Moves (linearIn n) s ns ts at z
   unfolding termsIn
   linear-rest a b q z e u y v = top-as z (form-rest (termIn n) s ns ts at r h a b q z e u y (record { matches = v .matches }))
 

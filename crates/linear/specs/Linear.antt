@@ -6,19 +6,18 @@ use Prim.Native.Nat.{ℕ}
 use Rattle.rules.specs.Limits.{tokenLimit}
 use Rattle.language.specs.Syntax.{Name, Term, Form}
 use Rattle.language.specs.Reader.{Reader}
-use Rattle.language.specs.Linear.{Head, aSigma, aVariable, aPrimary, headBy, noSigma, linearTerm, linearTerms, Linear, linearOf, plainForm, bodyOf, sigmaAt, linearAt}
-use Rattle.tokens.specs.declared.Move.{Move}
+use Rattle.language.specs.Linear.{Head, aSigma, aVariable, aPrimary, headBy, noSigma, linearTerm, linearTerms, Linear, plainForm, bodyOf, sigmaAt, linearAt}
 use Rattle.tokens.specs.declared.Found.{Found}
 use Rattle.tokens.specs.declared.Found.the-variants as found
-use Rattle.tokens.specs.Stored.{kindOf, size, Named, Moves}
+use Rattle.tokens.specs.Stored.{kindOf, size, Named}
 
--- what code found where a token of kind k begins a linear term: a variable and its number of indices, or none
+-- what code found where a token of kind k begins a linear term: a variable with its number and its number of indices, or none
 abbrev pub Heads : Head → Bool → ℕ → Found → Type 0
-Heads (aVariable i d) sigmas k (found.Name o j c) = size d ≡ c
+Heads (aVariable i d) sigmas k (found.Name ι j c) = (i ≡ ι) × (size d ≡ c)
 Heads (aVariable i d) sigmas k found.Nothing = ⊥
-Heads aSigma sigmas k (found.Name o j c) = ⊥
+Heads aSigma sigmas k (found.Name ι j c) = ⊥
 Heads aSigma sigmas k found.Nothing = (sigmas ≡ true) × (k ≡ 134)
-Heads aPrimary sigmas k (found.Name o j c) = ⊥
+Heads aPrimary sigmas k (found.Name ι j c) = ⊥
 Heads aPrimary sigmas k found.Nothing = sigmas ≡ true → k ≡ 134 → ⊥
 
 pub record Begins (s ns : List ℕ) (k p x : ℕ) (r : Found) : Type 0 where
