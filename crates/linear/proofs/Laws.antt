@@ -15,7 +15,7 @@ use Rattle.language.specs.Syntax.{Name, Sort, Formula, Term, Form, also, factor
 use Rattle.language.specs.Syntax
 use Rattle.language.specs.Reader.{Reader, follow, _>>=_, give, refuse, Used, next, isMark, expect, find}
 use Rattle.language.specs.Formulas.{isSum, Signed, readSign, headOf, partOf, formulaAt, subscriptsOf, primaryBy, primaryOf, insideAt}
-use Rattle.language.specs.Linear.{Head, aSigma, aVariable, aPrimary, headBySort, headByName, headBy, noSigma, linearTerm, linearTerms, Linear, linearOf, plainForm, bodyOf, sigmaAt, linearAt}
+use Rattle.language.specs.Linear.{Head, aSigma, aVariable, aPrimary, headBySort, headByName, headBy, linearTerm, linearTerms, Linear, linearOf, plainForm, bodyOf, sigmaAt, linearAt}
 use Rattle.tokens.specs.declared.Move.{Move}
 use Rattle.tokens.specs.declared.Move.the-variants.{At, Refused}
 use Rattle.tokens.specs.declared.Seen.{Seen}
@@ -27,7 +27,7 @@ use Rattle.tokens.specs.Pieces.{expectIn, headIn, signIn}
 use Rattle.tokens.proofs.Tables.{false-true, mark-of, mark-same, declared, not-declared}
 use Rattle.tokens.proofs.Moved.{stops, goes, then-at, given, next-is, look-is, next-wrong, look-wrong, is-sum}
 use Rattle.formulas.specs.Cycle.{partIn, primaryIn, Subscripts}
-use Rattle.linear.specs.Linear.{Heads, Begins, plainTermIn, termIn, sigmaIn, plainTermsIn, termsIn, plainFormIn, bodyIn, linearIn}
+use Rattle.linear.specs.Linear.{Heads, Begins, sigmasIn, termIn, sigmaIn, termsIn, formIn, bodyIn, linearIn}
 
 -- ---- what a token begins
 
@@ -101,53 +101,65 @@ module _ (s ns : List ℕ) (p x : ℕ) where
       go names b (suc (suc (suc (suc (suc zero))))) e = λ _ z. omega arith
       go names b (suc (suc (suc (suc (suc (suc k)))))) e = mark-head (suc (suc (suc (suc (suc (suc k)))))) b
 
--- ---- linear terms, for any reader of sigmas
+-- ---- linear terms, with and without sigmas
 
-pub record TermOn (S : List Name → ℕ → Reader Term) (g : Bool) (s ns ts : List ℕ) (n at k a : ℕ) : Type 0 where
-  pub on : (z : Move) → Moves (λ names. linearTerm names (S names) g n k) s ns ts a z → Moves (λ names. linearTerm names (S names) g n tokenLimit) s ns ts at z
+pub record TermOn (g : Bool) (s ns ts : List ℕ) (n at k a : ℕ) : Type 0 where
+  pub on : (z : Move) → Moves (λ names. linearTerm names (sigmasIn g n names) g n k) s ns ts a z → Moves (termIn g n) s ns ts at z
 
-module _ (S : List Name → ℕ → Reader Term) (g : Bool) (s ns ts : List ℕ) (n : ℕ) where
+module _ (g : Bool) (s ns ts : List ℕ) (n : ℕ) where
   starRest : ℕ → Formula → List Name → ℕ → Reader Term
-  starRest k f names p = linearTerm names (S names) g n k >>= (λ r. give (factor f p r))
+  starRest k f names p = linearTerm names (sigmasIn g n names) g n k >>= (λ r. give (factor f p r))
 
   factorRest : ℕ → List Name → Formula → Reader Term
   factorRest k names f = expect timesSign >>= starRest k f names
 
   turn : ℕ → Token → List Name → Head → Reader Term
   turn k t names h = elim h as (λ _. Reader Term) [
-    | aSigma ↦ S names (t .place)
+    | aSigma ↦ sigmasIn g n names (t .place)
     | aVariable i d ↦ subscriptsOf n (insideAt names n) d >>= (λ fs. give (variable i d fs (t .place)))
     | aPrimary ↦ primaryBy names n (insideAt names n) (t .place) (t .kind) >>= factorRest k names
   ]
 
-  term-none-at : (k a : ℕ) → k ≤ 0 → Moves (λ names. linearTerm names (S names) g n k) s ns ts a (Refused Full 0)
-  unfolding linearTerm
-  term-none-at zero a h = record { matches = λ names d. (refl, refl) }
-  term-none-at (suc k) a h = absurd (omega arith)
-
   module _ (a : ℕ) (t : Seen) (l : Looks ts a t) where
-    term-wrong-at : (k : ℕ) → 0 < k → (j : Refusal) (p : ℕ) → t ≡ seen.Refused j p → Moves (λ names. linearTerm names (S names) g n k) s ns ts a (Refused j p)
+    term-wrong-at : (k : ℕ) → 0 < k → (j : Refusal) (p : ℕ) → t ≡ seen.Refused j p → Moves (λ names. linearTerm names (sigmasIn g n names) g n k) s ns ts a (Refused j p)
     unfolding linearTerm turn factorRest starRest
     term-wrong-at zero m j p e = absurd (omega arith)
     term-wrong-at (suc k) m j p e = record { matches = next-wrong (λ names t. turn k t names (headBy names g (t .kind))) s ns ts a j p t l e .matches }
 
-    term-by : (k : ℕ) → 0 < k → (x p y b : ℕ) (v : Found) (r : Move) → t ≡ seen.Token x p y b → Begins s ns x p y v
-        → ((names : List Name) → Named s ns names → (h : Head) → Heads h g x v → Matches (turn (k - 1) (token s x p y) names h (from s ts b)) s ts r)
-        → Moves (λ names. linearTerm names (S names) g n k) s ns ts a r
+    -- what the token begins is h
+    term-by : (k : ℕ) → 0 < k → (x p y b : ℕ) (r : Move) → t ≡ seen.Token x p y b
+        → ((names : List Name) → Named s ns names → Matches (turn (k - 1) (token s x p y) names (headBy names g (kindOf s x p y)) (from s ts b)) s ts r)
+        → Moves (λ names. linearTerm names (sigmasIn g n names) g n k) s ns ts a r
     unfolding linearTerm turn factorRest starRest token
-    term-by zero m x p y b v r e h f = absurd (omega arith)
-    term-by (suc k) m x p y b v r e h f =
+    term-by zero m x p y b r e f = absurd (omega arith)
+    term-by (suc k) m x p y b r e f =
         let c : suc k - 1 ≡ k = omega arith in
         record {
           matches = λ names d.
               subst (λ o. Matches (follow o (λ t. turn k t names (headBy names g (t .kind)))) s ts r) (sym (next-is s ts a x p y b (subst (Sees s ts a) e (l .sees s))))
-              (subst (λ k. Matches (turn k (token s x p y) names (headBy names g (kindOf s x p y)) (from s ts b)) s ts r) c (f names d (headBy names g (kindOf s x p y)) (h .heads names d g)));
+              (subst (λ k. Matches (turn k (token s x p y) names (headBy names g (kindOf s x p y)) (from s ts b)) s ts r) c (f names d));
         }
 
+    sigma-begins : (x p y : ℕ) (names : List Name) → g ≡ true → x ≡ 134 → headBy names g (kindOf s x p y) ≡ aSigma
+    unfolding headBy kindOf
+    sigma-begins x p y names e i = rw (e, i) refl
+
+    sigmas-read : (p b : ℕ) (r : Move) → g ≡ true → Moves (sigmaIn n p) s ns ts b r → Moves (λ names. sigmasIn g n names p) s ns ts b r
+    unfolding sigmasIn sigmaIn
+    sigmas-read p b r e h = record { matches = λ names d. subst (λ g. Matches (sigmasIn g n names p (from s ts b)) s ts r) (sym e) (h .matches names d) }
+
+    term-sigma-at : (k : ℕ) → 0 < k → (x p y b : ℕ) (r : Move) → t ≡ seen.Token x p y b → g ≡ true → x ≡ 134 → Moves (sigmaIn n p) s ns ts b r
+        → Moves (λ names. linearTerm names (sigmasIn g n names) g n k) s ns ts a r
+    unfolding turn token
+    term-sigma-at k m x p y b r e w i u =
+        term-by k m x p y b r e
+        (λ names d. subst (λ h. Matches (turn (k - 1) (token s x p y) names h (from s ts b)) s ts r) (sym (sigma-begins x p y names w i)) (sigmas-read p b r w u .matches names d))
+
     term-variable-at : (k : ℕ) → 0 < k → (x p y b ι j c : ℕ) (v : Found) (r : Move) → t ≡ seen.Token x p y b → Begins s ns x p y v → v ≡ found.Name ι j c → Subscripts s ns ts n c b r
-        → Moves (λ names. linearTerm names (S names) g n k) s ns ts a r
+        → Moves (λ names. linearTerm names (sigmasIn g n names) g n k) s ns ts a r
     unfolding turn
-    term-variable-at k m x p y b ι j c v r e h w u = term-by k m x p y b (found.Name ι j c) r e (subst (Begins s ns x p y) w h) go
+    term-variable-at k m x p y b ι j c v r e h w u =
+        term-by k m x p y b r e (λ names d. go names d (headBy names g (kindOf s x p y)) (subst (Begins s ns x p y) w h .heads names d g))
       where
         go : (names : List Name) → Named s ns names → (h : Head) → Heads h g x (found.Name ι j c) → Matches (turn (k - 1) (token s x p y) names h (from s ts b)) s ts r
         go names d aSigma q = absurd q
@@ -163,194 +175,113 @@ module _ (S : List Name → ℕ → Reader Term) (g : Bool) (s ns ts : List ℕ)
               subst (λ o. Matches (follow o (λ t. primaryBy names n (insideAt names n) (t .place) (t .kind))) s ts q) (next-is s ts a x p y b (subst (Sees s ts a) e (l .sees s))) (h .matches names d);
         }
 
-    term-primary-at : (k : ℕ) → 0 < k → (x p y b : ℕ) (v : Found) (r : Move) → t ≡ seen.Token x p y b → Begins s ns x p y v → v ≡ found.Nothing → (g ≡ true → x ≡ 134 → ⊥)
+    no-sigma : (x : ℕ) → (g && eqb x 134) ≡ false → g ≡ true → x ≡ 134 → ⊥
+    no-sigma x e w i = false-true (sym (subst (λ v. (v && eqb x 134) ≡ false) w e) ∙ eq-eqb x 134 i)
+
+    term-primary-at : (k : ℕ) → 0 < k → (x p y b : ℕ) (v : Found) (r : Move) → t ≡ seen.Token x p y b → (g && eqb x 134) ≡ false → Begins s ns x p y v → v ≡ found.Nothing
         → Moves (λ names. primaryBy names n (insideAt names n) p (kindOf s x p y) >>= factorRest (k - 1) names) s ns ts b r
-        → Moves (λ names. linearTerm names (S names) g n k) s ns ts a r
+        → Moves (λ names. linearTerm names (sigmasIn g n names) g n k) s ns ts a r
     unfolding turn token
-    term-primary-at k m x p y b v r e h w o u = term-by k m x p y b found.Nothing r e (subst (Begins s ns x p y) w h) go
+    term-primary-at k m x p y b v r e o h w u =
+        term-by k m x p y b r e (λ names d. go names d (headBy names g (kindOf s x p y)) (subst (Begins s ns x p y) w h .heads names d g))
       where
         go : (names : List Name) → Named s ns names → (h : Head) → Heads h g x found.Nothing → Matches (turn (k - 1) (token s x p y) names h (from s ts b)) s ts r
-        go names d aSigma q = absurd (o (q .0) (q .1))
+        go names d aSigma q = absurd (no-sigma x o (q .0) (q .1))
         go names d (aVariable i z) q = absurd q
         go names d aPrimary q = u .matches names d
 
 -- ---- the loop
 
-module _ (S : List Name → ℕ → Reader Term) (g : Bool) (s ns ts : List ℕ) (n at : ℕ) where
-  start : TermOn S g s ns ts n at 4096 at
-  unfolding tokenLimit
-  start = record { on = λ z h. h }
+both : (g h : Bool) → (g && h) ≡ true → g ≡ true
+both true h e = refl
+both false h e = e
 
-  whole : Move → Type 0
-  whole r = Moves (λ names. linearTerm names (S names) g n tokenLimit) s ns ts at r
+module _ (g : Bool) (s ns ts : List ℕ) (n at : ℕ) where
+  pub term-start : TermOn g s ns ts n at 4096 at
+  unfolding tokenLimit termIn
+  term-start = record { on = λ z h. record { matches = h .matches } }
 
-  module _ (k a : ℕ) (t : Seen) (o : TermOn S g s ns ts n at k a) (m : 0 < k) (l : Looks ts a t) where
-    loop-wrong : (j : Refusal) (p : ℕ) → t ≡ seen.Refused j p → whole (Refused j p)
-    unfolding whole
-    loop-wrong j p e = o .on (Refused j p) (term-wrong-at S g s ns ts n a t l k m j p e)
+  pub term-none : (k a : ℕ) → TermOn g s ns ts n at k a → k ≤ 0 → Moves (termIn g n) s ns ts at (Refused Full 0)
+  unfolding linearTerm
+  term-none zero a o h = o .on (Refused Full 0) (record { matches = λ names d. (refl, refl) })
+  term-none (suc k) a o h = absurd (omega arith)
 
-    loop-variable : (x p y b ι j c : ℕ) (v : Found) (r : Move) → t ≡ seen.Token x p y b → Begins s ns x p y v → v ≡ found.Name ι j c → Subscripts s ns ts n c b r → whole r
-    unfolding whole
-    loop-variable x p y b ι j c v r e h w u = o .on r (term-variable-at S g s ns ts n a t l k m x p y b ι j c v r e h w u)
+  module _ (k a : ℕ) (t : Seen) (o : TermOn g s ns ts n at k a) (m : 0 < k) (l : Looks ts a t) where
+    pub term-wrong : (j : Refusal) (p : ℕ) → t ≡ seen.Refused j p → Moves (termIn g n) s ns ts at (Refused j p)
+    term-wrong j p e = o .on (Refused j p) (term-wrong-at g s ns ts n a t l k m j p e)
 
-    module _ (x p y b : ℕ) (v : Found) (e : t ≡ seen.Token x p y b) (h : Begins s ns x p y v) (w : v ≡ found.Nothing) (no : g ≡ true → x ≡ 134 → ⊥) (q : Move) (f : Moves (primaryIn n) s ns ts a q) where
-      loop-primary : (j : Refusal) (i : ℕ) → q ≡ Refused j i → whole q
-      unfolding whole
-      loop-primary j i z =
+    pub term-sigma : (x p y b : ℕ) (r : Move) → t ≡ seen.Token x p y b → (g && eqb x 134) ≡ true → Moves (sigmaIn n p) s ns ts b r → Moves (termIn g n) s ns ts at r
+    term-sigma x p y b r e i u =
+        let w : g ≡ true = both g (eqb x 134) i in
+        o .on r (term-sigma-at g s ns ts n a t l k m x p y b r e w (eqb→eq x 134 (subst T (sym (subst (λ v. (v && eqb x 134) ≡ true) w i)) tt)) u)
+
+    pub term-variable : (x p y b ι j c : ℕ) (v : Found) (r : Move) → t ≡ seen.Token x p y b → Begins s ns x p y v → v ≡ found.Name ι j c → Subscripts s ns ts n c b r → Moves (termIn g n) s ns ts at r
+    term-variable x p y b ι j c v r e h w u = o .on r (term-variable-at g s ns ts n a t l k m x p y b ι j c v r e h w u)
+
+    module _ (x p y b : ℕ) (v : Found) (e : t ≡ seen.Token x p y b) (no : (g && eqb x 134) ≡ false) (h : Begins s ns x p y v) (w : v ≡ found.Nothing) (q : Move) (f : Moves (primaryIn n) s ns ts a q) where
+      pub term-primary : (j : Refusal) (i : ℕ) → q ≡ Refused j i → Moves (termIn g n) s ns ts at q
+      term-primary j i z =
           o .on q
-          (term-primary-at S g s ns ts n a t l k m x p y b v q e h w no
-          (stops (λ names. primaryBy names n (insideAt names n) p (kindOf s x p y)) (factorRest S g s ns ts n (k - 1)) s ns ts b q (primary-read S g s ns ts n a t l x p y b q e f) j i z))
+          (term-primary-at g s ns ts n a t l k m x p y b v q e no h w
+          (stops (λ names. primaryBy names n (insideAt names n) p (kindOf s x p y)) (factorRest g s ns ts n (k - 1)) s ns ts b q (primary-read g s ns ts n a t l x p y b q e f) j i z))
 
-      loop-star : (c : ℕ) (j : Refusal) (i : ℕ) (r : Move) → q ≡ At c → Moves (expectIn timesSign) s ns ts c r → r ≡ Refused j i → whole r
-      unfolding whole factorRest expectIn
-      loop-star c j i r z u ε =
+      pub term-star : (c : ℕ) (j : Refusal) (i : ℕ) (r : Move) → q ≡ At c → Moves (expectIn timesSign) s ns ts c r → r ≡ Refused j i → Moves (termIn g n) s ns ts at r
+      unfolding factorRest expectIn
+      term-star c j i r z u ε =
           o .on r
-          (term-primary-at S g s ns ts n a t l k m x p y b v r e h w no
-          (goes (λ names. primaryBy names n (insideAt names n) p (kindOf s x p y)) (factorRest S g s ns ts n (k - 1)) s ns ts b q (primary-read S g s ns ts n a t l x p y b q e f) c r z
-          (λ φ. stops (λ names. expect timesSign) (starRest S g s ns ts n (k - 1) φ) s ns ts c r (record { matches = u .matches }) j i ε)))
+          (term-primary-at g s ns ts n a t l k m x p y b v r e no h w
+          (goes (λ names. primaryBy names n (insideAt names n) p (kindOf s x p y)) (factorRest g s ns ts n (k - 1)) s ns ts b q (primary-read g s ns ts n a t l x p y b q e f) c r z
+          (λ φ. stops (λ names. expect timesSign) (starRest g s ns ts n (k - 1) φ) s ns ts c r (record { matches = u .matches }) j i ε)))
 
-      loop-on : (c d : ℕ) (r : Move) → q ≡ At c → Moves (expectIn timesSign) s ns ts c r → r ≡ At d → TermOn S g s ns ts n at (k - 1) d
+      pub term-on : (c d : ℕ) (r : Move) → q ≡ At c → Moves (expectIn timesSign) s ns ts c r → r ≡ At d → TermOn g s ns ts n at (k - 1) d
       unfolding factorRest expectIn starRest
-      loop-on c d r z u ε =
+      term-on c d r z u ε =
           record {
             on = λ ζ η.
                 o .on ζ
-                (term-primary-at S g s ns ts n a t l k m x p y b v ζ e h w no
-                (goes (λ names. primaryBy names n (insideAt names n) p (kindOf s x p y)) (factorRest S g s ns ts n (k - 1)) s ns ts b q (primary-read S g s ns ts n a t l x p y b q e f) c ζ z
-                (λ φ. goes (λ names. expect timesSign) (starRest S g s ns ts n (k - 1) φ) s ns ts c r (record { matches = u .matches }) d ζ ε
-                (λ π. given (λ names. linearTerm names (S names) g n (k - 1)) (λ names ρ. factor φ π ρ) s ns ts d ζ η))));
+                (term-primary-at g s ns ts n a t l k m x p y b v ζ e no h w
+                (goes (λ names. primaryBy names n (insideAt names n) p (kindOf s x p y)) (factorRest g s ns ts n (k - 1)) s ns ts b q (primary-read g s ns ts n a t l x p y b q e f) c ζ z
+                (λ φ. goes (λ names. expect timesSign) (starRest g s ns ts n (k - 1) φ) s ns ts c r (record { matches = u .matches }) d ζ ε
+                (λ π. given (λ names. linearTerm names (sigmasIn g n names) g n (k - 1)) (λ names ρ. factor φ π ρ) s ns ts d ζ η))));
           }
 
--- ---- terms without sigma
+-- ---- terms joined by signs
 
-abbrev pub without : List Name → ℕ → Reader Term
-without names = noSigma
+pub record TermsOn (g : Bool) (s ns ts : List ℕ) (n at k a : ℕ) : Type 0 where
+  pub on : (z : Move) → Moves (termsIn g n k) s ns ts a z → Moves (termsIn g n tokenLimit) s ns ts at z
 
-module _ (s ns ts : List ℕ) (n at : ℕ) where
-  pub plain-start : TermOn without false s ns ts n at 4096 at
-  unfolding tokenLimit
-  plain-start = start without false s ns ts n at
-
-  pub plain-none : (k a : ℕ) → TermOn without false s ns ts n at k a → k ≤ 0 → Moves (plainTermIn n) s ns ts at (Refused Full 0)
-  unfolding plainTermIn
-  plain-none k a o h = record { matches = o .on (Refused Full 0) (term-none-at without false s ns ts n k a h) .matches }
-
-  module _ (k a : ℕ) (t : Seen) (o : TermOn without false s ns ts n at k a) (m : 0 < k) (l : Looks ts a t) where
-    pub plain-wrong : (j : Refusal) (p : ℕ) → t ≡ seen.Refused j p → Moves (plainTermIn n) s ns ts at (Refused j p)
-    unfolding plainTermIn whole
-    plain-wrong j p e = record { matches = loop-wrong without false s ns ts n at k a t o m l j p e .matches }
-
-    pub plain-variable : (x p y b ι j c : ℕ) (v : Found) (r : Move) → t ≡ seen.Token x p y b → Begins s ns x p y v → v ≡ found.Name ι j c → Subscripts s ns ts n c b r → Moves (plainTermIn n) s ns ts at r
-    unfolding plainTermIn whole
-    plain-variable x p y b ι j c v r e h w u = record { matches = loop-variable without false s ns ts n at k a t o m l x p y b ι j c v r e h w u .matches }
-
-    module _ (x p y b : ℕ) (v : Found) (e : t ≡ seen.Token x p y b) (h : Begins s ns x p y v) (w : v ≡ found.Nothing) (q : Move) (f : Moves (primaryIn n) s ns ts a q) where
-      pub plain-primary : (j : Refusal) (i : ℕ) → q ≡ Refused j i → Moves (plainTermIn n) s ns ts at q
-      unfolding plainTermIn whole
-      plain-primary j i z = record { matches = loop-primary without false s ns ts n at k a t o m l x p y b v e h w (λ u _. false-true u) q f j i z .matches }
-
-      pub plain-star : (c : ℕ) (j : Refusal) (i : ℕ) (r : Move) → q ≡ At c → Moves (expectIn timesSign) s ns ts c r → r ≡ Refused j i → Moves (plainTermIn n) s ns ts at r
-      unfolding plainTermIn whole
-      plain-star c j i r z u ε = record { matches = loop-star without false s ns ts n at k a t o m l x p y b v e h w (λ u _. false-true u) q f c j i r z u ε .matches }
-
-      pub plain-on : (c d : ℕ) (r : Move) → q ≡ At c → Moves (expectIn timesSign) s ns ts c r → r ≡ At d → TermOn without false s ns ts n at (k - 1) d
-      plain-on c d r z u ε = loop-on without false s ns ts n at k a t o m l x p y b v e h w (λ u _. false-true u) q f c d r z u ε
-
--- ---- terms with sigmas
-
-abbrev pub some-sigma : ℕ → List Name → ℕ → Reader Term
-some-sigma n names = sigmaAt names n
-
-module _ (s ns ts : List ℕ) (n at : ℕ) where
-  pub top-start : TermOn (some-sigma n) true s ns ts n at 4096 at
-  unfolding tokenLimit
-  top-start = start (some-sigma n) true s ns ts n at
-
-  pub top-none : (k a : ℕ) → TermOn (some-sigma n) true s ns ts n at k a → k ≤ 0 → Moves (termIn n) s ns ts at (Refused Full 0)
-  unfolding termIn
-  top-none k a o h = record { matches = o .on (Refused Full 0) (term-none-at (some-sigma n) true s ns ts n k a h) .matches }
-
-  module _ (k a : ℕ) (t : Seen) (o : TermOn (some-sigma n) true s ns ts n at k a) (m : 0 < k) (l : Looks ts a t) where
-    pub top-wrong : (j : Refusal) (p : ℕ) → t ≡ seen.Refused j p → Moves (termIn n) s ns ts at (Refused j p)
-    unfolding termIn whole
-    top-wrong j p e = record { matches = loop-wrong (some-sigma n) true s ns ts n at k a t o m l j p e .matches }
-
-    sigma-begins : (x p y : ℕ) (names : List Name) → x ≡ 134 → headBy names true (kindOf s x p y) ≡ aSigma
-    unfolding headBy kindOf
-    sigma-begins x p y names e = rw e refl
-
-    top-sigma-at : (k : ℕ) → 0 < k → (x p y b : ℕ) (r : Move) → t ≡ seen.Token x p y b → x ≡ 134 → Moves (sigmaIn n p) s ns ts b r
-        → Moves (λ names. linearTerm names (sigmaAt names n) true n k) s ns ts a r
-    unfolding linearTerm turn factorRest starRest token sigmaIn
-    top-sigma-at zero m x p y b r e i u = absurd (omega arith)
-    top-sigma-at (suc k) m x p y b r e i u =
-        record {
-          matches = λ names d.
-              subst (λ o. Matches (follow o (λ t. turn (some-sigma n) true s ns ts n k t names (headBy names true (t .kind)))) s ts r) (sym (next-is s ts a x p y b (subst (Sees s ts a) e (l .sees s))))
-              (subst (λ h. Matches (turn (some-sigma n) true s ns ts n k (token s x p y) names h (from s ts b)) s ts r) (sym (sigma-begins x p y names i)) (u .matches names d));
-        }
-
-    pub top-sigma : (x p y b : ℕ) (r : Move) → t ≡ seen.Token x p y b → x ≡ 134 → Moves (sigmaIn n p) s ns ts b r → Moves (termIn n) s ns ts at r
-    unfolding termIn
-    top-sigma x p y b r e i u = record { matches = o .on r (top-sigma-at k m x p y b r e i u) .matches }
-
-    pub top-variable : (x p y b ι j c : ℕ) (v : Found) (r : Move) → t ≡ seen.Token x p y b → Begins s ns x p y v → v ≡ found.Name ι j c → Subscripts s ns ts n c b r → Moves (termIn n) s ns ts at r
-    unfolding termIn whole
-    top-variable x p y b ι j c v r e h w u = record { matches = loop-variable (some-sigma n) true s ns ts n at k a t o m l x p y b ι j c v r e h w u .matches }
-
-    module _ (x p y b : ℕ) (v : Found) (e : t ≡ seen.Token x p y b) (no : x ≡ 134 → ⊥) (h : Begins s ns x p y v) (w : v ≡ found.Nothing) (q : Move) (f : Moves (primaryIn n) s ns ts a q) where
-      pub top-primary : (j : Refusal) (i : ℕ) → q ≡ Refused j i → Moves (termIn n) s ns ts at q
-      unfolding termIn whole
-      top-primary j i z = record { matches = loop-primary (some-sigma n) true s ns ts n at k a t o m l x p y b v e h w (λ _ u. no u) q f j i z .matches }
-
-      pub top-star : (c : ℕ) (j : Refusal) (i : ℕ) (r : Move) → q ≡ At c → Moves (expectIn timesSign) s ns ts c r → r ≡ Refused j i → Moves (termIn n) s ns ts at r
-      unfolding termIn whole
-      top-star c j i r z u ε = record { matches = loop-star (some-sigma n) true s ns ts n at k a t o m l x p y b v e h w (λ _ u. no u) q f c j i r z u ε .matches }
-
-      pub top-on : (c d : ℕ) (r : Move) → q ≡ At c → Moves (expectIn timesSign) s ns ts c r → r ≡ At d → TermOn (some-sigma n) true s ns ts n at (k - 1) d
-      top-on c d r z u ε = loop-on (some-sigma n) true s ns ts n at k a t o m l x p y b v e h w (λ _ u. no u) q f c d r z u ε
-
--- ---- terms joined by signs, for any reader of a term
-
-pub record TermsOn (T : List Name → Reader Term) (s ns ts : List ℕ) (at k a : ℕ) : Type 0 where
-  pub on : (z : Move) → Moves (λ names. linearTerms (T names) k) s ns ts a z → Moves (λ names. linearTerms (T names) tokenLimit) s ns ts at z
-
-module _ (T : List Name → Reader Term) (s ns ts : List ℕ) where
+module _ (g : Bool) (s ns ts : List ℕ) (n : ℕ) where
   alsoRest : ℕ → Bool → List Name → Term → Reader Form
-  alsoRest k b names u = linearTerms (T names) k >>= (λ f. give (also b u f))
+  alsoRest k b names u = linearTerms (termIn g n names) k >>= (λ f. give (also b u f))
 
   joint : ℕ → Token → List Name → Bool → Reader Form
   joint k t names b = elim b as (λ _. Reader Form) [
-    | true ↦ next >>= (λ _. T names >>= alsoRest k (isMark minusSign t) names)
+    | true ↦ next >>= (λ _. termIn g n names >>= alsoRest k (isMark minusSign t) names)
     | false ↦ give Syntax.end
   ]
 
   module _ (at : ℕ) where
-    terms-start : TermsOn T s ns ts at 4096 at
+    pub terms-start : TermsOn g s ns ts n at 4096 at
     unfolding tokenLimit
     terms-start = record { on = λ z h. h }
 
-    all : Move → Type 0
-    all r = Moves (λ names. linearTerms (T names) tokenLimit) s ns ts at r
-
-    terms-none : (k a : ℕ) → TermsOn T s ns ts at k a → k ≤ 0 → all (At a)
-    unfolding all linearTerms
+    pub terms-none : (k a : ℕ) → TermsOn g s ns ts n at k a → k ≤ 0 → Moves (termsIn g n tokenLimit) s ns ts at (At a)
+    unfolding termsIn linearTerms
     terms-none zero a o h = o .on (At a) (record { matches = λ names d. refl })
     terms-none (suc k) a o h = absurd (omega arith)
 
-    module _ (k a : ℕ) (t : Seen) (o : TermsOn T s ns ts at k a) (m : 0 < k) (l : Looks ts a t) where
-      terms-wrong-at : (k : ℕ) → 0 < k → (j : Refusal) (p : ℕ) → t ≡ seen.Refused j p → Moves (λ names. linearTerms (T names) k) s ns ts a (Refused j p)
-      unfolding linearTerms joint alsoRest
+    module _ (k a : ℕ) (t : Seen) (o : TermsOn g s ns ts n at k a) (m : 0 < k) (l : Looks ts a t) where
+      terms-wrong-at : (k : ℕ) → 0 < k → (j : Refusal) (p : ℕ) → t ≡ seen.Refused j p → Moves (termsIn g n k) s ns ts a (Refused j p)
+      unfolding termsIn linearTerms joint alsoRest
       terms-wrong-at zero m j p e = absurd (omega arith)
       terms-wrong-at (suc k) m j p e = record { matches = look-wrong (λ names t. joint k t names (isSum t)) s ns ts a j p t l e .matches }
 
-      terms-wrong : (j : Refusal) (p : ℕ) → t ≡ seen.Refused j p → all (Refused j p)
-      unfolding all
+      pub terms-wrong : (j : Refusal) (p : ℕ) → t ≡ seen.Refused j p → Moves (termsIn g n tokenLimit) s ns ts at (Refused j p)
       terms-wrong j p e = o .on (Refused j p) (terms-wrong-at k m j p e)
 
       terms-by : (k : ℕ) → 0 < k → (x p y b : ℕ) (v : Bool) (r : Move) → t ≡ seen.Token x p y b → (eqb x 43 || eqb x 45) ≡ v
-          → ((names : List Name) → Named s ns names → Matches (joint (k - 1) (token s x p y) names v (from s ts a)) s ts r) → Moves (λ names. linearTerms (T names) k) s ns ts a r
-      unfolding linearTerms joint alsoRest
+          → ((names : List Name) → Named s ns names → Matches (joint (k - 1) (token s x p y) names v (from s ts a)) s ts r) → Moves (termsIn g n k) s ns ts a r
+      unfolding termsIn linearTerms joint alsoRest
       terms-by zero m x p y b v r e i f = absurd (omega arith)
       terms-by (suc k) m x p y b v r e i f =
           let c : suc k - 1 ≡ k = omega arith in
@@ -361,138 +292,64 @@ module _ (T : List Name → Reader Term) (s ns ts : List ℕ) where
                 (subst (λ k. Matches (joint k (token s x p y) names v (from s ts a)) s ts r) c (f names d)));
           }
 
-      terms-end : (x p y b : ℕ) → t ≡ seen.Token x p y b → (eqb x 43 || eqb x 45) ≡ false → all (At a)
-      unfolding all joint
+      pub terms-end : (x p y b : ℕ) → t ≡ seen.Token x p y b → (eqb x 43 || eqb x 45) ≡ false → Moves (termsIn g n tokenLimit) s ns ts at (At a)
+      unfolding joint
       terms-end x p y b e i = o .on (At a) (terms-by k m x p y b false (At a) e i (λ names d. refl))
 
       next-read : (x p y b : ℕ) → t ≡ seen.Token x p y b → Moves (λ names. next) s ns ts a (At b)
       next-read x p y b e = record { matches = λ names d. rw (next-is s ts a x p y b (subst (Sees s ts a) e (l .sees s))) refl }
 
-      terms-refused : (x p y b : ℕ) (j : Refusal) (q : ℕ) (r : Move) → t ≡ seen.Token x p y b → (eqb x 43 || eqb x 45) ≡ true → Moves T s ns ts b r → r ≡ Refused j q → all r
-      unfolding all joint
+      pub terms-refused : (x p y b : ℕ) (j : Refusal) (q : ℕ) (r : Move) → t ≡ seen.Token x p y b → (eqb x 43 || eqb x 45) ≡ true → Moves (termIn g n) s ns ts b r → r ≡ Refused j q
+          → Moves (termsIn g n tokenLimit) s ns ts at r
+      unfolding joint
       terms-refused x p y b j q r e i u z =
           o .on r
           (terms-by k m x p y b true r e i
-          (λ names d. then-at (λ names. next) (λ names _. T names >>= alsoRest (k - 1) (isMark minusSign (token s x p y)) names) s ns ts a b r (next-read x p y b e)
-          (λ _. stops T (alsoRest (k - 1) (isMark minusSign (token s x p y))) s ns ts b r u j q z) .matches names d))
+          (λ names d. then-at (λ names. next) (λ names _. termIn g n names >>= alsoRest (k - 1) (isMark minusSign (token s x p y)) names) s ns ts a b r (next-read x p y b e)
+          (λ _. stops (termIn g n) (alsoRest (k - 1) (isMark minusSign (token s x p y))) s ns ts b r u j q z) .matches names d))
 
-      terms-on : (x p y b c : ℕ) (r : Move) → t ≡ seen.Token x p y b → (eqb x 43 || eqb x 45) ≡ true → Moves T s ns ts b r → r ≡ At c → TermsOn T s ns ts at (k - 1) c
-      unfolding joint alsoRest
+      pub terms-on : (x p y b c : ℕ) (r : Move) → t ≡ seen.Token x p y b → (eqb x 43 || eqb x 45) ≡ true → Moves (termIn g n) s ns ts b r → r ≡ At c → TermsOn g s ns ts n at (k - 1) c
+      unfolding joint alsoRest termsIn
       terms-on x p y b c r e i u z =
           record {
             on = λ ζ η.
                 o .on ζ
                 (terms-by k m x p y b true ζ e i
-                (λ names d. then-at (λ names. next) (λ names _. T names >>= alsoRest (k - 1) (isMark minusSign (token s x p y)) names) s ns ts a b ζ (next-read x p y b e)
-                (λ _. goes T (alsoRest (k - 1) (isMark minusSign (token s x p y))) s ns ts b r u c ζ z
-                (λ w. given (λ names. linearTerms (T names) (k - 1)) (λ names f. also (isMark minusSign (token s x p y)) w f) s ns ts c ζ η)) .matches names d));
+                (λ names d. then-at (λ names. next) (λ names _. termIn g n names >>= alsoRest (k - 1) (isMark minusSign (token s x p y)) names) s ns ts a b ζ (next-read x p y b e)
+                (λ _. goes (termIn g n) (alsoRest (k - 1) (isMark minusSign (token s x p y))) s ns ts b r u c ζ z
+                (λ w. given (λ names. linearTerms (termIn g n names) (k - 1)) (λ names f. also (isMark minusSign (token s x p y)) w f) s ns ts c ζ (record { matches = η .matches }))) .matches names d));
           }
 
-module _ (s ns ts : List ℕ) (n at : ℕ) where
-  pub plains-start : TermsOn (plainTermIn n) s ns ts at 4096 at
-  unfolding tokenLimit
-  plains-start = terms-start (plainTermIn n) s ns ts at
+-- ---- forms
 
-  pub plains-none : (k a : ℕ) → TermsOn (plainTermIn n) s ns ts at k a → k ≤ 0 → Moves (plainTermsIn n tokenLimit) s ns ts at (At a)
-  unfolding plainTermsIn all
-  plains-none k a o h = record { matches = terms-none (plainTermIn n) s ns ts at k a o h .matches }
-
-  module _ (k a : ℕ) (t : Seen) (o : TermsOn (plainTermIn n) s ns ts at k a) (m : 0 < k) (l : Looks ts a t) where
-    pub plains-wrong : (j : Refusal) (p : ℕ) → t ≡ seen.Refused j p → Moves (plainTermsIn n tokenLimit) s ns ts at (Refused j p)
-    unfolding plainTermsIn all
-    plains-wrong j p e = record { matches = terms-wrong (plainTermIn n) s ns ts at k a t o m l j p e .matches }
-
-    pub plains-end : (x p y b : ℕ) → t ≡ seen.Token x p y b → (eqb x 43 || eqb x 45) ≡ false → Moves (plainTermsIn n tokenLimit) s ns ts at (At a)
-    unfolding plainTermsIn all
-    plains-end x p y b e i = record { matches = terms-end (plainTermIn n) s ns ts at k a t o m l x p y b e i .matches }
-
-    pub plains-refused : (x p y b : ℕ) (j : Refusal) (q : ℕ) (r : Move) → t ≡ seen.Token x p y b → (eqb x 43 || eqb x 45) ≡ true → Moves (plainTermIn n) s ns ts b r → r ≡ Refused j q → Moves (plainTermsIn n tokenLimit) s ns ts at r
-    unfolding plainTermsIn all
-    plains-refused x p y b j q r e i u z = record { matches = terms-refused (plainTermIn n) s ns ts at k a t o m l x p y b j q r e i u z .matches }
-
-    pub plains-on : (x p y b c : ℕ) (r : Move) → t ≡ seen.Token x p y b → (eqb x 43 || eqb x 45) ≡ true → Moves (plainTermIn n) s ns ts b r → r ≡ At c → TermsOn (plainTermIn n) s ns ts at (k - 1) c
-    plains-on x p y b c r e i u z = terms-on (plainTermIn n) s ns ts at k a t o m l x p y b c r e i u z
-
-module _ (s ns ts : List ℕ) (n at : ℕ) where
-  pub tops-start : TermsOn (termIn n) s ns ts at 4096 at
-  unfolding tokenLimit
-  tops-start = terms-start (termIn n) s ns ts at
-
-  pub tops-none : (k a : ℕ) → TermsOn (termIn n) s ns ts at k a → k ≤ 0 → Moves (termsIn n tokenLimit) s ns ts at (At a)
-  unfolding termsIn all
-  tops-none k a o h = record { matches = terms-none (termIn n) s ns ts at k a o h .matches }
-
-  module _ (k a : ℕ) (t : Seen) (o : TermsOn (termIn n) s ns ts at k a) (m : 0 < k) (l : Looks ts a t) where
-    pub tops-wrong : (j : Refusal) (p : ℕ) → t ≡ seen.Refused j p → Moves (termsIn n tokenLimit) s ns ts at (Refused j p)
-    unfolding termsIn all
-    tops-wrong j p e = record { matches = terms-wrong (termIn n) s ns ts at k a t o m l j p e .matches }
-
-    pub tops-end : (x p y b : ℕ) → t ≡ seen.Token x p y b → (eqb x 43 || eqb x 45) ≡ false → Moves (termsIn n tokenLimit) s ns ts at (At a)
-    unfolding termsIn all
-    tops-end x p y b e i = record { matches = terms-end (termIn n) s ns ts at k a t o m l x p y b e i .matches }
-
-    pub tops-refused : (x p y b : ℕ) (j : Refusal) (q : ℕ) (r : Move) → t ≡ seen.Token x p y b → (eqb x 43 || eqb x 45) ≡ true → Moves (termIn n) s ns ts b r → r ≡ Refused j q → Moves (termsIn n tokenLimit) s ns ts at r
-    unfolding termsIn all
-    tops-refused x p y b j q r e i u z = record { matches = terms-refused (termIn n) s ns ts at k a t o m l x p y b j q r e i u z .matches }
-
-    pub tops-on : (x p y b c : ℕ) (r : Move) → t ≡ seen.Token x p y b → (eqb x 43 || eqb x 45) ≡ true → Moves (termIn n) s ns ts b r → r ≡ At c → TermsOn (termIn n) s ns ts at (k - 1) c
-    tops-on x p y b c r e i u z = terms-on (termIn n) s ns ts at k a t o m l x p y b c r e i u z
-
--- ---- forms, for any reader of a term
-
-module _ (T : List Name → Reader Term) (s ns ts : List ℕ) (at : ℕ) (r : Move) (h : Moves signIn s ns ts at r) where
+module _ (g : Bool) (s ns ts : List ℕ) (n at : ℕ) (r : Move) (h : Moves signIn s ns ts at r) where
   endRest : Signed → List Name → Term → Reader Linear
-  endRest g names u = linearTerms (T names) tokenLimit >>= (λ f. give (record { signed = g .written; form = also (g .negative) u f }))
+  endRest z names u = linearTerms (termIn g n names) tokenLimit >>= (λ f. give (record { signed = z .written; form = also (z .negative) u f }))
 
   signRest : List Name → Signed → Reader Linear
-  signRest names g = T names >>= endRest g names
+  signRest names z = termIn g n names >>= endRest z names
 
-  form-sign : (m : Refusal) (p : ℕ) → r ≡ Refused m p → Moves (λ names. linearOf (T names)) s ns ts at r
-  unfolding linearOf signIn signRest endRest tokenLimit
+  pub form-sign : (m : Refusal) (p : ℕ) → r ≡ Refused m p → Moves (formIn g n) s ns ts at r
+  unfolding formIn linearOf signIn signRest endRest
   form-sign m p e = record { matches = stops (λ names. readSign) signRest s ns ts at r (record { matches = h .matches }) m p e .matches }
 
-  form-term : (a : ℕ) (m : Refusal) (p : ℕ) (q : Move) → r ≡ At a → Moves T s ns ts a q → q ≡ Refused m p → Moves (λ names. linearOf (T names)) s ns ts at q
-  unfolding linearOf signIn signRest endRest tokenLimit
+  pub form-term : (a : ℕ) (m : Refusal) (p : ℕ) (q : Move) → r ≡ At a → Moves (termIn g n) s ns ts a q → q ≡ Refused m p → Moves (formIn g n) s ns ts at q
+  unfolding formIn linearOf signIn signRest endRest
   form-term a m p q e u z =
-      record { matches = goes (λ names. readSign) signRest s ns ts at r (record { matches = h .matches }) a q e (λ w. stops T (endRest w) s ns ts a q u m p z) .matches }
+      record { matches = goes (λ names. readSign) signRest s ns ts at r (record { matches = h .matches }) a q e (λ w. stops (termIn g n) (endRest w) s ns ts a q u m p z) .matches }
 
-  form-rest : (a b : ℕ) (q z : Move) → r ≡ At a → Moves T s ns ts a q → q ≡ At b → Moves (λ names. linearTerms (T names) tokenLimit) s ns ts b z → Moves (λ names. linearOf (T names)) s ns ts at z
-  unfolding linearOf signIn signRest endRest tokenLimit
+  pub form-rest : (a b : ℕ) (q z : Move) → r ≡ At a → Moves (termIn g n) s ns ts a q → q ≡ At b → Moves (termsIn g n tokenLimit) s ns ts b z → Moves (formIn g n) s ns ts at z
+  unfolding formIn linearOf signIn signRest endRest termsIn
   form-rest a b q z e u y v =
       record {
         matches = goes (λ names. readSign) signRest s ns ts at r (record { matches = h .matches }) a z e
-            (λ w. goes T (endRest w) s ns ts a q u b z y
-            (λ x. given (λ names. linearTerms (T names) tokenLimit) (λ names f. record { signed = w .written; form = also (w .negative) x f }) s ns ts b z v)) .matches;
+            (λ w. goes (termIn g n) (endRest w) s ns ts a q u b z y
+            (λ x. given (λ names. linearTerms (termIn g n names) tokenLimit) (λ names f. record { signed = w .written; form = also (w .negative) x f }) s ns ts b z (record { matches = v .matches }))) .matches;
       }
 
-module _ (s ns ts : List ℕ) (n at : ℕ) (r : Move) (h : Moves signIn s ns ts at r) where
-  plain-as : (z : Move) → Moves (λ names. linearOf (plainTermIn n names)) s ns ts at z → Moves (plainFormIn n) s ns ts at z
-  unfolding plainFormIn plainForm plainTermIn tokenLimit
-  plain-as z u = record { matches = given (λ names. linearOf (plainTermIn n names)) (λ names l. l .form) s ns ts at z u .matches }
-
-  pub plain-sign : (m : Refusal) (p : ℕ) → r ≡ Refused m p → Moves (plainFormIn n) s ns ts at r
-  plain-sign m p e = plain-as r (form-sign (plainTermIn n) s ns ts at r h m p e)
-
-  pub plain-term : (a : ℕ) (m : Refusal) (p : ℕ) (q : Move) → r ≡ At a → Moves (plainTermIn n) s ns ts a q → q ≡ Refused m p → Moves (plainFormIn n) s ns ts at q
-  plain-term a m p q e u z = plain-as q (form-term (plainTermIn n) s ns ts at r h a m p q e u z)
-
-  pub plain-rest : (a b : ℕ) (q z : Move) → r ≡ At a → Moves (plainTermIn n) s ns ts a q → q ≡ At b → Moves (plainTermsIn n tokenLimit) s ns ts b z → Moves (plainFormIn n) s ns ts at z
-  unfolding plainTermsIn
-  plain-rest a b q z e u y v = plain-as z (form-rest (plainTermIn n) s ns ts at r h a b q z e u y (record { matches = v .matches }))
-
-  top-as : (z : Move) → Moves (λ names. linearOf (termIn n names)) s ns ts at z → Moves (linearIn n) s ns ts at z
-  unfolding linearIn linearAt termIn tokenLimit
-  top-as z u = record { matches = u .matches }
-
-  pub linear-sign : (m : Refusal) (p : ℕ) → r ≡ Refused m p → Moves (linearIn n) s ns ts at r
-  linear-sign m p e = top-as r (form-sign (termIn n) s ns ts at r h m p e)
-
-  pub linear-term : (a : ℕ) (m : Refusal) (p : ℕ) (q : Move) → r ≡ At a → Moves (termIn n) s ns ts a q → q ≡ Refused m p → Moves (linearIn n) s ns ts at q
-  linear-term a m p q e u z = top-as q (form-term (termIn n) s ns ts at r h a m p q e u z)
-
-  pub linear-rest : (a b : ℕ) (q z : Move) → r ≡ At a → Moves (termIn n) s ns ts a q → q ≡ At b → Moves (termsIn n tokenLimit) s ns ts b z → Moves (linearIn n) s ns ts at z
-  unfolding termsIn
-  linear-rest a b q z e u y v = top-as z (form-rest (termIn n) s ns ts at r h a b q z e u y (record { matches = v .matches }))
+pub linear-form : (s ns ts : List ℕ) (n at : ℕ) (r : Move) → Moves (formIn true n) s ns ts at r → Moves (linearIn n) s ns ts at r
+unfolding formIn linearIn linearAt termIn sigmasIn
+linear-form s ns ts n at r h = record { matches = h .matches }
 
 -- ---- sigmas
 
@@ -530,9 +387,10 @@ module _ (s ns ts : List ℕ) where
         (record { matches = λ names d. rw (next-is s ts at x p y b (subst (Sees s ts at) e (l .sees s))) refl })
         (λ _. given (λ names. sigmaAt names n p) (λ names u. also false u Syntax.end) s ns ts b r (record { matches = u .matches })) .matches names d)
 
-    pub body-plain : (x p y b : ℕ) (r : Move) → t ≡ seen.Token x p y b → (x ≡ 134 → ⊥) → Moves (plainFormIn n) s ns ts at r → Moves (bodyIn n) s ns ts at r
-    unfolding bodyTurn plainFormIn
-    body-plain x p y b r e i u = body-by x p y b false r e (ne-eqb x 134 i) (λ names d. u .matches names d)
+    pub body-plain : (x p y b : ℕ) (r : Move) → t ≡ seen.Token x p y b → (x ≡ 134 → ⊥) → Moves (formIn false n) s ns ts at r → Moves (bodyIn n) s ns ts at r
+    unfolding bodyTurn plainForm formIn termIn sigmasIn
+    body-plain x p y b r e i u =
+        body-by x p y b false r e (ne-eqb x 134 i) (λ names d. given (λ names. linearOf (termIn false n names)) (λ names l. l .form) s ns ts at r (record { matches = u .matches }) .matches names d)
 
   closeRest : ℕ → Used → Formula → Formula → List Name → Form → Reader Term
   closeRest p i f g names h = expect closes >>= (λ _. give (sigma (i .number) f g h p))

@@ -6,7 +6,7 @@ use Prim.Native.Nat.{ℕ}
 use Rattle.rules.specs.Limits.{tokenLimit}
 use Rattle.language.specs.Syntax.{Name, Term, Form}
 use Rattle.language.specs.Reader.{Reader}
-use Rattle.language.specs.Linear.{Head, aSigma, aVariable, aPrimary, headBy, noSigma, linearTerm, linearTerms, Linear, plainForm, bodyOf, sigmaAt, linearAt}
+use Rattle.language.specs.Linear.{Head, aSigma, aVariable, aPrimary, headBy, noSigma, linearTerm, linearTerms, Linear, linearOf, bodyOf, sigmaAt, linearAt}
 use Rattle.tokens.specs.declared.Found.{Found}
 use Rattle.tokens.specs.declared.Found.the-variants as found
 use Rattle.tokens.specs.Stored.{kindOf, size, Named}
@@ -23,24 +23,22 @@ Heads aPrimary sigmas k found.Nothing = sigmas ≡ true → k ≡ 134 → ⊥
 pub record Begins (s ns : List ℕ) (k p x : ℕ) (r : Found) : Type 0 where
   pub heads : (names : List Name) → Named s ns names → (sigmas : Bool) → Heads (headBy names sigmas (kindOf s k p x)) sigmas k r
 
--- terms without and with sigmas
-unfoldable pub plainTermIn : ℕ → List Name → Reader Term
-plainTermIn n names = linearTerm names noSigma false n tokenLimit
+-- what reads a sigma behind its word, where sigmas are allowed or not
+unfoldable pub sigmasIn : Bool → ℕ → List Name → ℕ → Reader Term
+sigmasIn true n names p = sigmaAt names n p
+sigmasIn false n names p = noSigma p
 
-unfoldable pub termIn : ℕ → List Name → Reader Term
-termIn n names = linearTerm names (sigmaAt names n) true n tokenLimit
+unfoldable pub termIn : Bool → ℕ → List Name → Reader Term
+termIn b n names = linearTerm names (sigmasIn b n names) b n tokenLimit
+
+unfoldable pub termsIn : Bool → ℕ → ℕ → List Name → Reader Form
+termsIn b n k names = linearTerms (termIn b n names) k
+
+unfoldable pub formIn : Bool → ℕ → List Name → Reader Linear
+formIn b n names = linearOf (termIn b n names)
 
 unfoldable pub sigmaIn : ℕ → ℕ → List Name → Reader Term
 sigmaIn n p names = sigmaAt names n p
-
-unfoldable pub plainTermsIn : ℕ → ℕ → List Name → Reader Form
-plainTermsIn n k names = linearTerms (plainTermIn n names) k
-
-unfoldable pub termsIn : ℕ → ℕ → List Name → Reader Form
-termsIn n k names = linearTerms (termIn n names) k
-
-unfoldable pub plainFormIn : ℕ → List Name → Reader Form
-plainFormIn n names = plainForm names n
 
 unfoldable pub bodyIn : ℕ → List Name → Reader Form
 bodyIn n names = bodyOf names (sigmaAt names n) n
