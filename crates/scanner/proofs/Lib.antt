@@ -1,1 +1,3 @@
 pub mod Proper
+mod Words
+mod Filling

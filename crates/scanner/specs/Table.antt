@@ -55,15 +55,20 @@ Packs (Wrong r) = Unit {0}
 
 -- ---- the table
 
--- the words of the text s: its tokens, and in a name's payload nothing but its length
+-- of a name, the payload is its length and nothing else
+abbrev pub ShortName : ℕ → Type 0
+ShortName w = kindPart w ≡ 1 → payloadPart w ≤ nameLength
+
+-- the words of the text s
 pub record Holds (s ts : List ℕ) : Type 0 where
   pub all : view s ts ≡ tokens s
-  pub names : (i : ℕ) → i < length ts → kindPart (getD ts i 0) ≡ 1 → payloadPart (getD ts i 0) ≤ nameLength
+  pub names : (i : ℕ) → i < length ts → ShortName (getD ts i 0)
 
 -- t was lent, r words of it are written, and t′ is what it is then. Where t is too short for the text, nothing is said of
 -- the r words.
 pub record Scanned (s t : List ℕ) (r : ℕ) (t′ : List ℕ) : Type 0 where
   pub size : length t′ ≡ length t
   pub within : r ≤ length t
+  pub some : 0 < length t → 0 < r
   pub behind : drop r t′ ≡ drop r t
   pub holds : tableSize ≤ length t → Holds s (take r t′)

@@ -2,6 +2,7 @@
 ghost use mathlib.Core.Path.{_≡_};
 ghost use mathlib.Core.List.{[]};
 ghost use Prim.Native.Nat.{_<_, _≤_};
+ghost use lib.ListN.{length};
 ghost use Rattle.rules.specs.Limits.{byteLimit};
 ghost use Rattle.lexer.specs.View.{kindOf, isLast};
 ghost use Rattle.tokens.specs.Stored.{wordOf};
@@ -84,6 +85,8 @@ fn is_last(token: Token) -> bool
 
 // Writes the tokens of a text that is not too long, as far as the table reaches.
 fn fill(text: &[u8], table: &mut [u64]) -> usize
+    requires { ⌜ length (now text) ≤ byteLimit ⌝ }
+    ensures { λ r. ⌜ Scanned (now (text .entry)) (now (table .entry)) r (now (table .exit)) ⌝ }
 {
     let mut source = Source::start();
     let mut i = 0;
