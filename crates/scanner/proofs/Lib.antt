@@ -1,3 +1,4 @@
 pub mod Proper
 mod Words
 mod Filling
+pub mod Calls

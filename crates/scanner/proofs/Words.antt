@@ -24,7 +24,7 @@ use Rattle.lexer.specs.View as View
 use Rattle.lexer.specs.View.{Part, Within}
 use Rattle.tokens.specs.Stored.{wordOf, kindPart, placePart, payloadPart, bytesFrom, spelling, refusalOf, kindOf, token}
 use Rattle.tokens.proofs.Tables.{kind-of-word, place-of-word, payload-of-word}
-use Rattle.scanner.specs.Table.{kindNumber, valuePayload, payloadOf, Plain, Packs, ShortName}
+use Rattle.scanner.specs.Table.{kindNumber, valuePayload, payloadOf, valueOf, Plain, Packs, ShortName}
 use Rattle.scanner.proofs.Proper.{Held}
 
 -- ---- room
@@ -103,7 +103,7 @@ mark-kind s (suc (suc (suc (suc zero)))) p x h = absurd (omega arith)
 mark-kind s (suc (suc (suc (suc (suc zero))))) p x h = absurd (omega arith)
 mark-kind s (suc (suc (suc (suc (suc (suc k)))))) p x h = refl
 
-value-back : (v : Value) → Plain v → record { m = pos (valuePayload v / 8); s = valuePayload v % 8 } ≡ v
+value-back : (v : Value) → Plain v → valueOf (valuePayload v) ≡ v
 unfolding scaleLimit
 value-back v h =
     let a : valuePayload v / 8 ≡ natAbs (v .m) = omega (arith, h .valid .places) in

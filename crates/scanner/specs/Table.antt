@@ -2,7 +2,7 @@
 use mathlib.Core.Path.{_≡_}
 use mathlib.Core.Bool.{cond}
 use mathlib.Core.List.{List}
-use Prim.Native.Nat.{ℕ, _+_, _*_, _<_, _≤_}
+use Prim.Native.Nat.{ℕ, _+_, _*_, _/_, _%_, _<_, _≤_}
 use lib.IntN.{pos, natAbs}
 use lib.ListN.{length, getD, take, drop}
 use Rattle.rules.specs.Limits.{byteLimit, nameLength, stringLength}
@@ -38,6 +38,10 @@ payloadOf (Literal w v) = valuePayload v
 payloadOf (String a n) = n
 payloadOf End = 0
 payloadOf (Wrong r) = refusalNumber r
+
+-- the value that a literal's payload is
+abbrev pub valueOf : ℕ → Value
+valueOf x = record { m = pos (x / 8); s = x % 8 }
 
 -- a literal's value: never negative
 pub record Plain (v : Value) : Type 0 where
