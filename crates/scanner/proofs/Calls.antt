@@ -1,22 +1,22 @@
 -- For callers: what each word of a scanned table is. The last word, and no other, is the end or a refusal; a literal has a
 -- valid value; a name's payload is its length. Assumes nothing.
 use mathlib.Core.Path.{_≡_, refl, sym, _∙_, ap, subst}
-use mathlib.Core.Bool.{Bool, true, false}
+use mathlib.Core.Bool.{true, false}
 use mathlib.Core.Logic.{_⊎_, inl, inr}
 use mathlib.Core.List.{List, [], _∷_}
 use Prim.Native.Nat.{ℕ, zero, suc, _+_, _<_, _≤_}
 use native.Mathlib.Omega.{arith}
 use native.Mathlib.Numerals.{add-one}
-use lib.ListN.{length, getD, drop, drop-of-length-le}
+use lib.ListN.{length, getD, take, drop, drop-of-length-le}
 use lib.Seq.{drop-cons}
-use Rattle.rules.specs.Limits.{nameLength}
+use Rattle.rules.specs.Limits.{byteLimit, nameLength}
 use Rattle.value.specs.Decimal.{Valid}
-use Rattle.lexer.specs.Text.{Token}
+use Rattle.lexer.specs.Text.{Token, tokens}
 use Rattle.lexer.specs.View.{isLast}
 use Rattle.tokens.specs.declared.Seen.the-variants as seen
 use Rattle.tokens.specs.Stored.{kindPart, placePart, payloadPart, nameBytes, bytesFrom, spelling, kindOf, token, view, from, Looks}
 use Rattle.tokens.proofs.Tables.{false-true}
-use Rattle.scanner.specs.Table.{valueOf, Holds}
+use Rattle.scanner.specs.Table.{tableSize, valueOf, Holds, Scanned}
 use Rattle.scanner.proofs.Proper.{Held, Proper, last, more, proper-first, tokens-proper}
 
 -- ---- by kinds
@@ -92,6 +92,15 @@ proper-from s (w ∷ []) (suc at) t l e p = absurd (cons-nil (sym e ∙ view-pas
 proper-from s (w ∷ v ∷ ts) (suc at) t l e p = proper-from s (v ∷ ts) at t l e (proper-tail p)
 
 -- ---- the words of a text
+
+-- a table of `scanner::TABLE` words
+pub table-holds : (s t : List ℕ) (r : ℕ) (t′ : List ℕ) → length t ≡ 16385 → Scanned s t r t′ → Holds s (take r t′)
+unfolding tableSize byteLimit
+table-holds s t r t′ e w = w .holds (omega arith)
+
+pub holds-from : (s ts : List ℕ) → Holds s ts → from s ts 0 ≡ tokens s
+unfolding from
+holds-from s ts h = h .all
 
 module _ (s ts : List ℕ) (h : Holds s ts) where
   holds-proper : Proper (view s ts)

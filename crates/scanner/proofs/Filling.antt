@@ -2,7 +2,7 @@
 use mathlib.Core.Path.{_≡_, refl, sym, _∙_, ap, subst}
 use mathlib.Core.Bool.{Bool, true, false}
 use mathlib.Core.List.{List, [], _∷_, _++_, append-assoc}
-use Prim.Native.Nat.{ℕ, zero, suc, _+_, _<_, _≤_}
+use Prim.Native.Nat.{ℕ, _+_, _<_, _≤_}
 use native.Mathlib.Omega.{arith}
 use native.Mathlib.Numerals.{add-one}
 use lib.ListN.{length, getD, set, take, drop, length-set, length-take}
@@ -18,7 +18,7 @@ use Rattle.lexer.specs.declared.Turn.{Turn}
 use Rattle.lexer.specs.View.{kindOf, isLast, comingAt, startOf, Turns}
 use Rattle.lexer.proofs.Calls.{tokens-start, tokens-long}
 use Rattle.tokens.specs.Stored.{wordOf, kindPart, placePart, payloadPart, refusalOf, token, view}
-use Rattle.scanner.specs.Table.{tableSize, kindNumber, payloadOf, Packs, ShortName, Holds, Scanned}
+use Rattle.scanner.specs.Table.{tableSize, kindNumber, payloadOf, Packs, ShortName, Scanned}
 use Rattle.scanner.proofs.Proper.{Held, Proper, proper-first, coming-proper}
 use Rattle.scanner.proofs.Words.{packs, word-held, word-name}
 

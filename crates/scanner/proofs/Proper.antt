@@ -1,5 +1,5 @@
 -- The tokens of a text: what each is like, and that the last one, and no other, is the end or a refusal. Assumes nothing.
-use mathlib.Core.Path.{_≡_, refl, sym, _∙_, ap, subst}
+use mathlib.Core.Path.{_≡_, refl, subst}
 use mathlib.Core.Bool.{Bool, true, false, cond, _&&_, _||_}
 use mathlib.Core.List.{List, [], _∷_, _++_}
 use Prim.Native.Nat.{ℕ, zero, suc, _+_, _-_, _<_, _≤_}
@@ -8,8 +8,7 @@ use lib.Dec.{eqb, leb}
 use lib.IntN.{pos, natAbs}
 use lib.ListN.{length, drop}
 use borrow.Author.Tests.{leb-true}
-use Rattle.rules.specs.declared.Refusal.{Refusal}
-use Rattle.rules.specs.declared.Refusal.the-variants.{LongText, StrangeByte, Misplaced, BadName, Unfit, Full}
+use Rattle.rules.specs.declared.Refusal.the-variants.{StrangeByte, Misplaced, BadName, Full}
 use Rattle.rules.specs.Limits.{byteLimit, nameLength, stringLength, tokenLimit, digitLimit, mantissaLimit}
 use Rattle.rules.specs.Refusals.{refusalNumber}
 use Rattle.value.specs.declared.Value.{Value}
@@ -19,7 +18,7 @@ use Rattle.value.specs.Decimal.{Lowest, at, none, choose, fitOf, tenths, withSi
 use Rattle.value.specs.Literal.{isDigit, numberFrom, before, after, isLiteral, literalOf}
 use Rattle.value.proofs.Reading.{literal-valid}
 use Rattle.lexer.specs.Marks.{Word, capitalWords, smallWords, atMost, atLeast}
-use Rattle.lexer.specs.Text.{Kind, mark, name, literal, string, end, wrong, Token, Step, step, sameBytes, among, front, behind, isBlank, isSign, isSmall, isCapital, inName, inString, noBrace, pointed, isWrong, literalKind, valued, nameStep, wordStep, literalStep, strange, wellShaped, stringStep, orderStep, stepAt, tokensFrom, uncounted, counted, tokens}
+use Rattle.lexer.specs.Text.{Kind, mark, name, literal, string, end, wrong, Token, Step, sameBytes, among, front, isBlank, isSign, isSmall, isCapital, inName, inString, pointed, isWrong, literalKind, valued, nameStep, wordStep, literalStep, strange, wellShaped, stringStep, orderStep, stepAt, tokensFrom, uncounted, counted, tokens}
 use Rattle.lexer.specs.declared.Source.{Source}
 use Rattle.lexer.specs.View.{isLast, comingAt}
 use Rattle.tokens.specs.Stored.{refusalOf}

@@ -1,8 +1,8 @@
 -- A token as a word: the word has room for it, and holds that token. Assumes nothing.
 use mathlib.Core.Path.{_≡_, refl, sym, _∙_, ap}
-use mathlib.Core.Bool.{Bool, true, false, cond}
-use mathlib.Core.List.{List, [], _∷_}
-use Prim.Native.Nat.{ℕ, zero, suc, _+_, _*_, _/_, _%_, _<_, _≤_}
+use mathlib.Core.Bool.{Bool, true, false}
+use mathlib.Core.List.{List, _∷_}
+use Prim.Native.Nat.{ℕ, zero, suc, _+_, _/_, _%_, _<_, _≤_}
 use native.Mathlib.Omega.{arith}
 use lib.IntN.{pos, natAbs}
 use lib.ListN.{length, getD, take, drop}
@@ -16,13 +16,12 @@ use Rattle.rules.specs.Limits.{byteLimit, nameLength, stringLength, mantissaLim
 use Rattle.rules.specs.Refusals.{refusalNumber}
 use Rattle.value.specs.declared.Value.{Value}
 use Rattle.value.proofs.Integers.{sfits}
-use Rattle.lexer.specs.Text as Text
-use Rattle.lexer.specs.Text.{mark, name, literal, string, end, wrong}
+use Rattle.lexer.specs.Text.{mark, name, literal, string, wrong}
 use Rattle.lexer.specs.declared.Token.{Token}
 use Rattle.lexer.specs.declared.Token.the-variants.{Mark, Name, Literal, String, End, Wrong}
 use Rattle.lexer.specs.View as View
 use Rattle.lexer.specs.View.{Part, Within}
-use Rattle.tokens.specs.Stored.{wordOf, kindPart, placePart, payloadPart, bytesFrom, spelling, refusalOf, kindOf, token}
+use Rattle.tokens.specs.Stored.{wordOf, kindPart, placePart, payloadPart, bytesFrom, spelling, kindOf, token}
 use Rattle.tokens.proofs.Tables.{kind-of-word, place-of-word, payload-of-word}
 use Rattle.scanner.specs.Table.{kindNumber, valuePayload, payloadOf, valueOf, Plain, Packs, ShortName}
 use Rattle.scanner.proofs.Proper.{Held}

@@ -94,11 +94,11 @@ fn fill(text: &[u8], table: &mut [u64]) -> usize
         let turn = source.next(text);
         let token = turn.token;
         table[i] = word(token, turn.place);
-        i += 1;
         let last = is_last(token);
         if last {
-            return i;
+            return i + 1;
         }
+        i += 1;
         let next = turn.next;
         source = next;
     }
