@@ -21,7 +21,7 @@ use Rattle.scanner.proofs.Proper.{Held, Proper, last, more, proper-firs
 
 -- ---- by kinds
 
-spelling-length : (s : List ℕ) (p n : ℕ) → length (spelling s p n) ≡ n
+pub spelling-length : (s : List ℕ) (p n : ℕ) → length (spelling s p n) ≡ n
 unfolding spelling bytesFrom
 spelling-length s p n = go n 0
   where

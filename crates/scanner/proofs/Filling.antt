@@ -22,7 +22,7 @@ use Rattle.scanner.specs.Table.{tableSize, kindNumber, payloadOf, Packs,
 use Rattle.scanner.proofs.Proper.{Held, Proper, proper-first, coming-proper}
 use Rattle.scanner.proofs.Words.{packs, word-held, word-name}
 
--- i words of t are written, it is u now, and the source stands at c. Each word but the last is of a byte of its own.
+-- i words of t are written, it is u now, and the source is c. Each of these tokens has a byte of its own.
 pub record Filling (s t u : List ℕ) (c : Source) (i : ℕ) : Type 0 where
   pub size : length u ≡ length t
   pub within : i ≤ length t

@@ -27,8 +27,8 @@ use Rattle.scanner.specs.Table.{Plain}
 
 -- ---- one token
 
--- a sign or word has no number of another kind, a name and a string have their lengths, a literal is a value of no sign, a
--- refusal is one of those that a token has
+-- a sign's or word's number is that of no other kind, a name and a string are as long as they may be, a literal's value is
+-- not negative, and a refusal is one that a token can have
 abbrev pub Held : Kind → Type 0
 Held (mark c) = 5 < c
 Held (name l) = (1 ≤ length l) × (length l ≤ nameLength)

@@ -105,7 +105,7 @@ fn fill(text: &[u8], table: &mut [u64]) -> usize
     i
 }
 
-// Writes the tokens of a text, up to the end or the first refusal, and answers how many.
+// Writes the tokens of a text, up to the end or the first refusal, and answers how many. A table that is too short is filled.
 pub fn scan(text: &[u8], table: &mut [u64]) -> usize
     ensures { λ r. ⌜ Scanned (now (text .entry)) (now (table .entry)) r (now (table .exit)) ⌝ }
 {
