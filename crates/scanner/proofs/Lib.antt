@@ -1,0 +1,4 @@
+pub mod Proper
+mod Words
+mod Filling
+pub mod Calls
