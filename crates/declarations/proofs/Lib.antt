@@ -1,1 +1,3 @@
 pub mod DueLaws
+pub mod IndexLaws
+pub mod EntryLaws

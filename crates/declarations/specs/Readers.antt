@@ -1,13 +1,16 @@
 -- The readers of declarations, each a function of the names. Assumes nothing.
-use mathlib.Core.Bool.{Bool, _&&_, not}
+use mathlib.Core.Bool.{Bool, true, false, _&&_, not}
 use mathlib.Core.List.{List, [], _∷_}
-use Prim.Native.Nat.{ℕ, zero, suc}
+use Prim.Native.Nat.{ℕ, zero, suc, _-_}
 use lib.Dec.{eqb}
 use lib.ListN.{getD}
 use Rattle.rules.specs.declared.Refusal.the-variants.{Misplaced}
-use Rattle.language.specs.Syntax.{Name, Spans}
-use Rattle.language.specs.Reader.{Reader, _>>=_, give, require, Used, readKnown}
-use Rattle.language.specs.Declarations.{dueOf}
+use Rattle.rules.specs.Limits.{nestingLimit, indexLimit}
+use Rattle.lexer.specs.Marks.{comma, opens, opensList, closesList}
+use Rattle.language.specs.Syntax.{Name, Sort, Spans}
+use Rattle.language.specs.Syntax
+use Rattle.language.specs.Reader.{Reader, give, require, next, look, isMark, expect, bracket, Used, readKnown}
+use Rattle.language.specs.Declarations.{dueOf, indicesOf, subscripted, indexEntry, formulaEntry, domainEntry}
 
 -- the first k numbers of a list, the last one first
 unfoldable pub shown : List ℕ → ℕ → List ℕ
@@ -24,3 +27,42 @@ dueWith i taken names = do
 -- a declared domain with the indices l
 unfoldable pub dueIn : List ℕ → List Name → Reader Spans
 dueIn l names = dueOf names l []
+
+-- behind an index of a list: `,` where n more are allowed, or `]`; whether the list goes on
+unfoldable pub jointIn : ℕ → List Name → Reader Bool
+jointIn zero names = do
+  _ ← expect closesList
+  give false
+jointIn (suc n) names = do
+  t ← look
+  elim (isMark comma t) [
+    | true ↦ do
+      _ ← next
+      give true
+    | false ↦ do
+      _ ← expect closesList
+      give false
+  ]
+
+unfoldable pub indicesIn : List Name → Reader (List ℕ)
+indicesIn names = indicesOf names (indexLimit - 1)
+
+-- `[` indices `]` and their domain
+unfoldable pub domainIn : List Name → Reader Spans
+domainIn names = do
+  _ ← bracket opensList nestingLimit
+  l ← indicesIn names
+  _ ← bracket opens nestingLimit
+  dueIn l names
+
+unfoldable pub subscriptedIn : List Name → Reader Spans
+subscriptedIn names = subscripted names
+
+-- what stands behind a declared name of sort k
+unfoldable pub entryIn : ℕ → List Name → Reader Sort
+entryIn zero = indexEntry
+entryIn (suc zero) = domainEntry Syntax.integer
+entryIn (suc (suc zero)) = domainEntry Syntax.real
+entryIn (suc (suc (suc zero))) = formulaEntry
+entryIn (suc (suc (suc (suc zero)))) = domainEntry Syntax.discrete
+entryIn (suc (suc (suc (suc (suc k))))) = domainEntry Syntax.continuous

@@ -10,8 +10,37 @@ ghost use mathlib.Core.List.{List, []};
 ghost use lib.ListN.{getD};
 ghost use Rattle.language.specs.Declarations.{isIn};
 ghost use Rattle.tokens.specs.Stored.{Moves, Gives};
+ghost use Rattle.tokens.specs.Pieces.{indexIn};
 ghost use Rattle.domains.specs.Domains.{entryWith};
-ghost use Rattle.declarations.specs.Readers.{shown, dueWith, dueIn};
+ghost use Rattle.declarations.specs.Readers.{shown, dueWith, dueIn, jointIn, subscriptedIn, domainIn, entryIn};
+ghost use Rattle.declarations.specs.Tables.{IsNumber, IsMore, Indexed, Spanning, Entered};
+
+// An index by its number, and where its reading ended.
+struct Index {
+    number: usize,
+    end: Move,
+}
+
+// Whether a list goes on, and where the reading of its sign ended.
+struct Joint {
+    more: bool,
+    end: Move,
+}
+
+// The numbers of a list's indices, and where its reading ended.
+struct Indices {
+    numbers: [usize; 4],
+    count: usize,
+    end: Move,
+}
+
+// What stands behind a declared name: the number of its indices, the position of its formula or of its domain's first entry, and
+// where its reading ended.
+struct Entry {
+    count: u64,
+    position: u64,
+    end: Move,
+}
 
 // The k-th number, 0 past the end.
 fn item(list: &[usize], k: usize) -> usize
@@ -103,4 +132,216 @@ fn due(text: &[u8], names: &[u64], tokens: &[u64], at: usize, list: &[usize]) ->
         a = d;
     }
     Move::At(a)
+}
+
+// A declared index and its number.
+fn index_number(text: &[u8], names: &[u64], tokens: &[u64], at: usize) -> Index
+    ensures { λ r. ⌜ Gives indexIn (IsNumber (r .number)) (now (text .entry)) (now (names .entry)) (now (tokens .entry)) at (r .end) ⌝ }
+{
+    let name = tokens::known_name(text, names, tokens, at);
+    match name {
+        Known::Name(number, sort, count, p, next) => {
+            if sort == sorts::INDEX {
+                Index {
+                    number: number,
+                    end: Move::At(next),
+                }
+            } else {
+                Index {
+                    number: 0,
+                    end: Move::Refused(rules::Refusal::Misplaced, p),
+                }
+            }
+        }
+        Known::Refused(n, p) => Index {
+            number: 0,
+            end: Move::Refused(n, p),
+        },
+    }
+}
+
+// A comma, where an index more is allowed, or `]`.
+fn index_joint(text: &[u8], names: &[u64], tokens: &[u64], at: usize, left: usize) -> Joint
+    ensures { λ r. ⌜ Gives (jointIn left) (IsMore (r .more)) (now (text .entry)) (now (names .entry)) (now (tokens .entry)) at (r .end) ⌝ }
+{
+    let close = tokens::expect(text, names, tokens, at, marks::RIGHT_BRACKET);
+    if left == 0 {
+        return Joint {
+            more: false,
+            end: close,
+        };
+    }
+    let token = tokens::token_at(tokens, at);
+    match token {
+        Seen::Token(k, p, x, next) => {
+            if k == marks::COMMA as u64 {
+                Joint {
+                    more: true,
+                    end: Move::At(next),
+                }
+            } else {
+                Joint {
+                    more: false,
+                    end: close,
+                }
+            }
+        }
+        Seen::Refused(n, p) => Joint {
+            more: false,
+            end: Move::Refused(n, p),
+        },
+    }
+}
+
+// One to four indices and `]`.
+fn read_indices(text: &[u8], names: &[u64], tokens: &[u64], at: usize) -> Indices
+    ensures { λ r. ⌜ Indexed (now (text .entry)) (now (names .entry)) (now (tokens .entry)) at r ⌝ }
+{
+    let mut numbers = [0usize; 4];
+    let mut n = 0;
+    let mut a = at;
+    while n < rules::INDEX_LIMIT {
+        let index = index_number(text, names, tokens, a);
+        let end = index.end;
+        let Move::At(b) = end else {
+            return Indices {
+                numbers: numbers,
+                count: 0,
+                end: end,
+            };
+        };
+        numbers[n] = index.number;
+        n += 1;
+        let joint = index_joint(text, names, tokens, b, rules::INDEX_LIMIT - n);
+        let sign = joint.end;
+        let Move::At(d) = sign else {
+            return Indices {
+                numbers: numbers,
+                count: 0,
+                end: sign,
+            };
+        };
+        if joint.more {
+            a = d;
+        } else {
+            return Indices {
+                numbers: numbers,
+                count: n,
+                end: sign,
+            };
+        }
+    }
+    Indices {
+        numbers: numbers,
+        count: 0,
+        end: Move::Refused(rules::Refusal::Full, 0),
+    }
+}
+
+// `[` indices `]` and their domain.
+fn domain(text: &[u8], names: &[u64], tokens: &[u64], at: usize) -> Entry
+    ensures { λ r. ⌜ Gives domainIn (Spanning (now (text .entry)) (now (tokens .entry)) (r .count) (r .position)) (now (text .entry)) (now (names .entry)) (now (tokens .entry)) at (r .end) ⌝ }
+{
+    let open = tokens::bracket(
+        text,
+        names,
+        tokens,
+        at,
+        rules::NESTING_LIMIT,
+        marks::LEFT_BRACKET,
+    );
+    let Move::At(a) = open else {
+        return Entry {
+            count: 0,
+            position: 0,
+            end: open,
+        };
+    };
+    let list = read_indices(text, names, tokens, a);
+    let numbers = list.numbers;
+    let count = list.count;
+    let end = list.end;
+    let Move::At(b) = end else {
+        return Entry {
+            count: 0,
+            position: 0,
+            end: end,
+        };
+    };
+    let first = tokens::bracket(
+        text,
+        names,
+        tokens,
+        b,
+        rules::NESTING_LIMIT,
+        marks::LEFT_PAREN,
+    );
+    let Move::At(d) = first else {
+        return Entry {
+            count: 0,
+            position: 0,
+            end: first,
+        };
+    };
+    let last = due(text, names, tokens, d, &numbers[..count]);
+    Entry {
+        count: count as u64,
+        position: d as u64,
+        end: last,
+    }
+}
+
+// An optional list of indices with its domain.
+fn subscripted(text: &[u8], names: &[u64], tokens: &[u64], at: usize) -> Entry
+    ensures { λ r. ⌜ Gives subscriptedIn (Spanning (now (text .entry)) (now (tokens .entry)) (r .count) (r .position)) (now (text .entry)) (now (names .entry)) (now (tokens .entry)) at (r .end) ⌝ }
+{
+    let token = tokens::token_at(tokens, at);
+    match token {
+        Seen::Token(k, p, x, next) => {
+            if k == marks::LEFT_BRACKET as u64 {
+                domain(text, names, tokens, at)
+            } else {
+                Entry {
+                    count: 0,
+                    position: 0,
+                    end: Move::At(at),
+                }
+            }
+        }
+        Seen::Refused(n, p) => Entry {
+            count: 0,
+            position: 0,
+            end: Move::Refused(n, p),
+        },
+    }
+}
+
+// What stands behind a declared name of the given sort.
+fn read_entry(text: &[u8], names: &[u64], tokens: &[u64], at: usize, sort: u64) -> Entry
+    ensures { λ r. ⌜ Gives (entryIn sort) (Entered (now (text .entry)) (now (tokens .entry)) sort (r .count) (r .position)) (now (text .entry)) (now (names .entry)) (now (tokens .entry)) at (r .end) ⌝ }
+{
+    if sort == sorts::INDEX {
+        return Entry {
+            count: 0,
+            position: 0,
+            end: Move::At(at),
+        };
+    }
+    if sort == sorts::FORMULA {
+        let sign = tokens::expect(text, names, tokens, at, marks::EQUALS);
+        let Move::At(a) = sign else {
+            return Entry {
+                count: 0,
+                position: 0,
+                end: sign,
+            };
+        };
+        let end = formulas::formula(text, names, tokens, a, rules::NESTING_LIMIT);
+        return Entry {
+            count: 0,
+            position: a as u64,
+            end: end,
+        };
+    }
+    subscripted(text, names, tokens, at)
 }

@@ -2,7 +2,7 @@
 use mathlib.Core.Path.{_≡_, refl, sym, _∙_, subst, ap}
 use mathlib.Core.Bool.{Bool, true, false, _||_}
 use mathlib.Core.List.{List, _∷_}
-use Prim.Native.Nat.{ℕ, zero, suc, _-_}
+use Prim.Native.Nat.{ℕ, zero, suc, _-_, _<_}
 use native.Mathlib.Omega.{arith}
 use lib.Dec.{eqb}
 use borrow.Author.Tests.{eq-eqb, ne-eqb}
@@ -23,7 +23,7 @@ use Rattle.tokens.specs.declared.Found.{Found}
 use Rattle.tokens.specs.declared.Found.the-variants as found
 use Rattle.tokens.specs.declared.Known.{Known}
 use Rattle.tokens.specs.declared.Known.the-variants as Known
-use Rattle.tokens.specs.Stored.{spelling, nameBytes, kindOf, token, from, markNumber, Unread, Sees, Looks, lookUp, Named, Matches, Moves, Knowing, Knows, Shaped, Gives}
+use Rattle.tokens.specs.Stored.{spelling, nameBytes, kindOf, token, from, markNumber, Unread, Sees, Looks, lookUp, Named, Matches, Moves, Knowing, Knows, Shaped, Gives, Stands}
 use Rattle.tokens.specs.Pieces.{expectIn, bracketIn, indexIn, headIn, signIn}
 use Rattle.tokens.proofs.Tables.{mark-of, mark-same, no-name, passes, Declared, declared, not-declared, index-sort, other-sort}
 
@@ -107,6 +107,45 @@ module _ {A : Type 0} (m : List Name → Reader A) (Q : List Name → A → Type
       let x = stood m s ns ts at (At a) (g .moves) names d a refl in
       record { what = x .what; reads = x .reads; holds = g .tells names d _ (x .reads) }
 
+  -- a reader that refuses
+  pub gives-not : (n : Refusal) (p : ℕ) (r : Move) → r ≡ Refused n p → Moves m s ns ts at r → Gives m Q s ns ts at r
+  gives-not n p r e h = subst (Gives m Q s ns ts at) (sym e) (gives-refused n p (λ names d. stuck m s ns ts at r h names d n p e))
+
+  -- a reader that reads there as another one does elsewhere
+  pub gives-same : (m′ : List Name → Reader A) (at′ : ℕ) (r : Move) → ((names : List Name) → Named s ns names → m names (from s ts at) ≡ m′ names (from s ts at′)) → Gives m′ Q s ns ts at′ r
+      → Gives m Q s ns ts at r
+  gives-same m′ at′ r e g =
+      record {
+        moves = record { matches = λ names d. subst (λ o. Matches o s ts r) (sym (e names d)) (g .moves .matches names d) };
+        tells = λ names d x i. g .tells names d x (sym (e names d) ∙ i);
+      }
+
+-- what was read stands there
+pub gives-stands : {A : Type 0} (m : List Name → Reader A) (s ns ts : List ℕ) (at : ℕ) (r : Move) → Moves m s ns ts at r → Gives m (λ names w. Stands (m names) s ts at w) s ns ts at r
+gives-stands m s ns ts at r h = record { moves = h; tells = λ names d x e. record { rest = x .rest; reads = e } }
+
+-- something made of what was read
+pub gives-map : {A B : Type 0} (m : List Name → Reader A) (P : List Name → A → Type 0) (f : List Name → A → B) (Q : List Name → B → Type 0) (s ns ts : List ℕ) (at : ℕ) (r : Move)
+    → Gives m P s ns ts at r → ((names : List Name) (w : A) → P names w → Q names (f names w)) → Gives (λ names. m names >>= (λ w. give (f names w))) Q s ns ts at r
+gives-map {A = A} {B = B} m P f Q s ns ts at r h q =
+    record { moves = given m f s ns ts at r (h .moves); tells = λ names d x e. go names x (m names (from s ts at)) (h .tells names d) e }
+  where
+    go : (names : List Name) (x : Read B) (o : Outcome (Read A)) → ((y : Read A) → o ≡ done y → P names (y .what)) → follow o (λ w. give (f names w)) ≡ done x → Q names (x .what)
+    go names x (done y) p e = subst (λ z. Q names (z .what)) (done-injective e) (q names (y .what) (p y refl))
+    go names x (refused n i) p e = absurd (refused-done e)
+
+-- ---- readers one after the other, as equations
+
+module _ {A B : Type 0} where
+  pub follow-same : (o : Outcome (Read A)) (f g : A → Reader B) → ((a : A) (l : List Token) → f a l ≡ g a l) → follow o f ≡ follow o g
+  follow-same (done x) f g h = h (x .what) (x .rest)
+  follow-same (refused n p) f g h = refl
+
+  -- a sequence that gave something did so at each step
+  pub followed : {C : Type 0} (o : Outcome (Read A)) (f : A → Reader B) (y : Read B) → follow o f ≡ done y → ((x : Read A) → o ≡ done x → f (x .what) (x .rest) ≡ done y → C) → C
+  followed (done x) f y e k = k x refl e
+  followed (refused n p) f y e k = absurd (refused-done e)
+
 -- ---- one token
 
 pub next-is : (s ts : List ℕ) (at k p x a : ℕ) → Sees s ts at (seen.Token k p x a) → next (from s ts at) ≡ done (record { what = token s k p x; rest = from s ts a })
@@ -144,6 +183,11 @@ module _ {A : Type 0} (f : List Name → Token → Reader A) (s ns ts : List ℕ
   look-wrong n p t h e =
       let u = subst (Sees s ts at) e (h .sees s) in
       record { matches = λ names d. subst (λ o. Matches (follow o (f names)) s ts (Refused n p)) (sym (u .looks)) (refl, refl) }
+
+-- whether a sign or word is c
+pub is-mark : (s : List ℕ) (c x p y : ℕ) → 5 < c → isMark c (token s x p y) ≡ eqb x c
+unfolding token
+is-mark s c x p y h = rw (mark-of s x p y) (mark-same x c h)
 
 -- ---- an expected sign
 

@@ -18,7 +18,7 @@ use Rattle.language.specs.Reader.{Used, passed, next, look, markOf, nameOf, fin
 use Rattle.tokens.specs.declared.Seen.the-variants as seen
 use Rattle.tokens.specs.declared.Found.{Found}
 use Rattle.tokens.specs.declared.Found.the-variants as found
-use Rattle.tokens.specs.Stored.{wordOf, kindPart, placePart, payloadPart, bytesFrom, spelling, refusalOf, kindOf, token, view, from, markNumber, Looks, lookUp, Shaped, Named, Put, rowsOf}
+use Rattle.tokens.specs.Stored.{wordOf, kindPart, placePart, payloadPart, bytesFrom, spelling, refusalOf, kindOf, token, view, from, markNumber, Looks, lookUp, Shaped, Named, Put}
 
 -- ---- what cannot be
 

@@ -1,0 +1,56 @@
+-- What code tells of what it read, and what the name table tells of the declared names. Assumes nothing.
+use mathlib.Core.Path.{_≡_}
+use mathlib.Core.Bool.{Bool}
+use mathlib.Core.List.{List, []}
+use Prim.Native.Nat.{ℕ, _≤_}
+use lib.ListN.{length, take}
+use Rattle.rules.specs.Limits.{nestingLimit}
+use Rattle.language.specs.Syntax.{Name, Sort, Spans}
+use Rattle.language.specs.Syntax
+use Rattle.language.specs.Reader.{Used}
+use Rattle.language.specs.Formulas.{formulaAt}
+use Rattle.language.specs.Declarations.{dueOf}
+use Rattle.tokens.specs.Stored.{size, Shaped, Stands, Gives}
+use Rattle.declarations.specs.declared.Indices.{Indices}
+use Rattle.declarations.specs.Readers.{indicesIn}
+
+-- an index has the number i
+pub record IsNumber (i : ℕ) (names : List Name) (u : Used) : Type 0 where
+  pub number : u .number ≡ i
+
+-- a list goes on or not
+pub record IsMore (b : Bool) (names : List Name) (v : Bool) : Type 0 where
+  pub more : v ≡ b
+
+-- a list of indices is the first n of the numbers l
+pub record Numbers (n : ℕ) (l : List ℕ) (names : List Name) (w : List ℕ) : Type 0 where
+  pub numbers : w ≡ take n l
+
+pub record Indexed (s ns ts : List ℕ) (at : ℕ) (r : Indices) : Type 0 where
+  pub gives : Gives indicesIn (Numbers (r .count) (r .numbers)) s ns ts at (r .end)
+  pub within : r .count ≤ length (r .numbers)
+  pub sized : length (take (r .count) (r .numbers)) ≡ r .count
+
+-- a declared domain stands at q, where the names of its time read it
+pub record Spanned (s ts : List ℕ) (names : List Name) (d : Spans) (q : ℕ) : Type 0 where
+  pub indices : List ℕ
+  pub stands : Stands (dueOf names indices []) s ts q d
+
+-- a domain has c indices and stands at q
+pub record Spanning (s ts : List ℕ) (c q : ℕ) (names : List Name) (d : Spans) : Type 0 where
+  pub sized : size d ≡ c
+  pub spanned : Spanned s ts names d q
+
+-- what was declared stands at q, where the names of its time read it
+abbrev pub Declares : List ℕ → List ℕ → List Name → Sort → ℕ → Type 0
+Declares s ts names Syntax.index q = Unit {0}
+Declares s ts names (Syntax.integer d) q = Spanned s ts names d q
+Declares s ts names (Syntax.real d) q = Spanned s ts names d q
+Declares s ts names (Syntax.formula f) q = Stands (formulaAt names nestingLimit) s ts q f
+Declares s ts names (Syntax.discrete d) q = Spanned s ts names d q
+Declares s ts names (Syntax.continuous d) q = Spanned s ts names d q
+
+-- an entry is of sort k with c indices, and stands at q
+pub record Entered (s ts : List ℕ) (k c q : ℕ) (names : List Name) (y : Sort) : Type 0 where
+  pub shaped : k ≤ 5 → Shaped y k c
+  pub declares : Declares s ts names y q
