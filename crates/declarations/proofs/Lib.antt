@@ -1,3 +1,4 @@
 pub mod DueLaws
 pub mod IndexLaws
 pub mod EntryLaws
+pub mod RowLaws

@@ -6,11 +6,11 @@ use lib.Dec.{eqb}
 use lib.ListN.{getD}
 use Rattle.rules.specs.declared.Refusal.the-variants.{Misplaced}
 use Rattle.rules.specs.Limits.{nestingLimit, indexLimit}
-use Rattle.lexer.specs.Marks.{comma, opens, opensList, closesList}
+use Rattle.lexer.specs.Marks.{comma, opens, opensList, closesList, semicolon}
 use Rattle.language.specs.Syntax.{Name, Sort, Spans}
 use Rattle.language.specs.Syntax
-use Rattle.language.specs.Reader.{Reader, give, require, next, look, isMark, expect, bracket, Used, readKnown}
-use Rattle.language.specs.Declarations.{dueOf, indicesOf, subscripted, indexEntry, formulaEntry, domainEntry}
+use Rattle.language.specs.Reader.{Reader, give, require, next, look, isMark, expect, bracket, Used, readKnown, Titled, _>>=_}
+use Rattle.language.specs.Declarations.{dueOf, indicesOf, subscripted, indexEntry, formulaEntry, domainEntry, newName}
 
 -- the first k numbers of a list, the last one first
 unfoldable pub shown : List ℕ → ℕ → List ℕ
@@ -66,3 +66,30 @@ entryIn (suc (suc zero)) = domainEntry Syntax.real
 entryIn (suc (suc (suc zero))) = formulaEntry
 entryIn (suc (suc (suc (suc zero)))) = domainEntry Syntax.discrete
 entryIn (suc (suc (suc (suc (suc k))))) = domainEntry Syntax.continuous
+
+unfoldable pub newNameIn : List Name → Reader Titled
+newNameIn names = newName names
+
+-- the `,` or `;` behind an entry; whether the list goes on
+unfoldable pub separatorIn : List Name → Reader Bool
+separatorIn names = do
+  t ← next
+  elim (isMark comma t) [
+    | true ↦ give true
+    | false ↦ do
+      _ ← require (isMark semicolon t) Misplaced (t .place)
+      give false
+  ]
+
+-- a declared name, and whether its list goes on
+pub record One : Type 0 where
+  pub name : Name
+  pub more : Bool
+
+-- one entry of a list of sort k, with the sign that ends it
+unfoldable pub rowIn : ℕ → List Name → Reader One
+rowIn k names = do
+  x ← newName names
+  y ← entryIn k names
+  b ← separatorIn names
+  give (record { name = record { spelling = x .title; place = x .place; sort = y }; more = b })

@@ -2,17 +2,21 @@
 use mathlib.Core.Path.{_≡_}
 use mathlib.Core.Bool.{Bool}
 use mathlib.Core.List.{List, []}
-use Prim.Native.Nat.{ℕ, _≤_}
+use Prim.Native.Nat.{ℕ, _≤_, _/_, _<_}
 use lib.ListN.{length, take}
 use Rattle.rules.specs.Limits.{nestingLimit}
 use Rattle.language.specs.Syntax.{Name, Sort, Spans}
 use Rattle.language.specs.Syntax
-use Rattle.language.specs.Reader.{Used}
+use Rattle.language.specs.Reader.{Used, Titled}
 use Rattle.language.specs.Formulas.{formulaAt}
 use Rattle.language.specs.Declarations.{dueOf}
-use Rattle.tokens.specs.Stored.{size, Shaped, Stands, Gives}
+use Rattle.tokens.specs.Stored.{size, Shaped, Stands, Gives, spelling}
 use Rattle.declarations.specs.declared.Indices.{Indices}
-use Rattle.declarations.specs.Readers.{indicesIn}
+use Rattle.declarations.specs.declared.Row.{Row}
+use Rattle.declarations.specs.declared.Title.{Title}
+use Rattle.tokens.specs.declared.Move.{Move}
+use Rattle.tokens.specs.declared.Move.the-variants.{At, Refused}
+use Rattle.declarations.specs.Readers.{indicesIn, newNameIn, One, rowIn}
 
 -- an index has the number i
 pub record IsNumber (i : ℕ) (names : List Name) (u : Used) : Type 0 where
@@ -54,3 +58,29 @@ Declares s ts names (Syntax.continuous d) q = Spanned s ts names d q
 pub record Entered (s ts : List ℕ) (k c q : ℕ) (names : List Name) (y : Sort) : Type 0 where
   pub shaped : k ≤ 5 → Shaped y k c
   pub declares : Declares s ts names y q
+
+-- a new name has n bytes at p
+pub record IsTitle (s : List ℕ) (p n : ℕ) (names : List Name) (x : Titled) : Type 0 where
+  pub title : x .title ≡ spelling s p n
+  pub place : x .place ≡ p
+
+-- a table with room for one row more
+abbrev pub Room : List ℕ → Move → Type 0
+Room ns (At a) = length ns / 5 < 64
+Room ns (Refused n p) = Unit {0}
+
+pub record TitledAt (s ns ts : List ℕ) (at : ℕ) (r : Title) : Type 0 where
+  pub gives : Gives newNameIn (IsTitle s (r .place) (r .bytes)) s ns ts at (r .end)
+  pub room : Room ns (r .end)
+
+-- a row of sort k: the name is spelled by n bytes at p, has c indices and is declared at q
+pub record IsRow (s ts : List ℕ) (k p n c q : ℕ) (b : Bool) (names : List Name) (x : One) : Type 0 where
+  pub title : x .name .spelling ≡ spelling s p n
+  pub place : x .name .place ≡ p
+  pub shaped : k ≤ 5 → Shaped (x .name .sort) k c
+  pub declares : Declares s ts names (x .name .sort) q
+  pub more : x .more ≡ b
+
+pub record RowedAt (s ns ts : List ℕ) (k at : ℕ) (r : Row) : Type 0 where
+  pub gives : Gives (rowIn k) (IsRow s ts k (r .place) (r .bytes) (r .count) (r .position) (r .more)) s ns ts at (r .end)
+  pub room : Room ns (r .end)

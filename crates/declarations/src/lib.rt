@@ -1,4 +1,5 @@
 // Declarations read over the stored tokens; each declared name becomes a row of the name table.
+use tokens::Found;
 use tokens::Known;
 use tokens::Move;
 use tokens::Seen;
@@ -6,14 +7,15 @@ use tokens::kinds;
 use tokens::marks;
 use tokens::sorts;
 ghost use mathlib.Core.Path.{_≡_};
-ghost use mathlib.Core.List.{List, []};
+ghost use mathlib.Core.Bool.{false};
 ghost use lib.ListN.{getD};
 ghost use Rattle.language.specs.Declarations.{isIn};
 ghost use Rattle.tokens.specs.Stored.{Moves, Gives};
+ghost use Rattle.tokens.specs.declared.Move.the-variants.{Refused};
 ghost use Rattle.tokens.specs.Pieces.{indexIn};
 ghost use Rattle.domains.specs.Domains.{entryWith};
-ghost use Rattle.declarations.specs.Readers.{shown, dueWith, dueIn, jointIn, subscriptedIn, domainIn, entryIn};
-ghost use Rattle.declarations.specs.Tables.{IsNumber, IsMore, Indexed, Spanning, Entered};
+ghost use Rattle.declarations.specs.Readers.{shown, dueWith, dueIn, jointIn, subscriptedIn, domainIn, entryIn, separatorIn};
+ghost use Rattle.declarations.specs.Tables.{IsNumber, IsMore, Indexed, Spanning, Entered, TitledAt, RowedAt};
 
 // An index by its number, and where its reading ended.
 struct Index {
@@ -40,6 +42,29 @@ struct Entry {
     count: u64,
     position: u64,
     end: Move,
+}
+
+// A new name's place and number of bytes, and where its reading ended.
+struct Title {
+    place: u64,
+    bytes: u64,
+    end: Move,
+}
+
+// A declared name's row but for its sort, whether its list goes on, and where its reading ended.
+struct Row {
+    place: u64,
+    bytes: u64,
+    count: u64,
+    position: u64,
+    more: bool,
+    end: Move,
+}
+
+// How many names there are, and where the reading of declarations ended.
+pub struct Listed {
+    pub count: usize,
+    pub end: Move,
 }
 
 // The k-th number, 0 past the end.
@@ -344,4 +369,117 @@ fn read_entry(text: &[u8], names: &[u64], tokens: &[u64], at: usize, sort: u64) 
         };
     }
     subscripted(text, names, tokens, at)
+}
+
+// A new name: 3 if there is none, 4 if it is declared again, 6 if it is the 65th.
+fn new_name(text: &[u8], names: &[u64], tokens: &[u64], at: usize) -> Title
+    ensures { λ r. ⌜ TitledAt (now (text .entry)) (now (names .entry)) (now (tokens .entry)) at r ⌝ }
+{
+    let token = tokens::token_at(tokens, at);
+    match token {
+        Seen::Token(k, p, x, next) => {
+            if k == kinds::NAME {
+                let name = tokens::find(text, names, p, x % tokens::NAME_UNIT);
+                match name {
+                    Found::Name(i, sort, count) => untitled(rules::Refusal::BadName, p),
+                    Found::Nothing => {
+                        if names.len() / 5 < rules::NAME_LIMIT {
+                            Title {
+                                place: p,
+                                bytes: x % tokens::NAME_UNIT,
+                                end: Move::At(next),
+                            }
+                        } else {
+                            untitled(rules::Refusal::Full, p)
+                        }
+                    }
+                }
+            } else {
+                untitled(rules::Refusal::Misplaced, p)
+            }
+        }
+        Seen::Refused(n, p) => untitled(n, p),
+    }
+}
+
+// No name.
+fn untitled(n: rules::Refusal, p: u64) -> Title
+    ensures { λ r. ⌜ r ≡ record { place = 0; bytes = 0; end = Refused n p } ⌝ }
+{
+    Title {
+        place: 0,
+        bytes: 0,
+        end: Move::Refused(n, p),
+    }
+}
+
+// The `,` or `;` behind an entry of a list.
+fn separator(text: &[u8], names: &[u64], tokens: &[u64], at: usize) -> Joint
+    ensures { λ r. ⌜ Gives separatorIn (IsMore (r .more)) (now (text .entry)) (now (names .entry)) (now (tokens .entry)) at (r .end) ⌝ }
+{
+    let token = tokens::token_at(tokens, at);
+    match token {
+        Seen::Token(k, p, x, next) => {
+            if k == marks::COMMA as u64 {
+                Joint {
+                    more: true,
+                    end: Move::At(next),
+                }
+            } else if k == marks::SEMICOLON as u64 {
+                Joint {
+                    more: false,
+                    end: Move::At(next),
+                }
+            } else {
+                Joint {
+                    more: false,
+                    end: Move::Refused(rules::Refusal::Misplaced, p),
+                }
+            }
+        }
+        Seen::Refused(n, p) => Joint {
+            more: false,
+            end: Move::Refused(n, p),
+        },
+    }
+}
+
+// A name of the given sort, what stands behind it, and the sign that ends its entry.
+fn read_row(text: &[u8], names: &[u64], tokens: &[u64], at: usize, sort: u64) -> Row
+    ensures { λ r. ⌜ RowedAt (now (text .entry)) (now (names .entry)) (now (tokens .entry)) sort at r ⌝ }
+{
+    let title = new_name(text, names, tokens, at);
+    let name = title.end;
+    let Move::At(a) = name else {
+        return no_row(name);
+    };
+    let entry = read_entry(text, names, tokens, a, sort);
+    let declared = entry.end;
+    let Move::At(b) = declared else {
+        return no_row(declared);
+    };
+    let joint = separator(text, names, tokens, b);
+    let end = joint.end;
+    Row {
+        place: title.place,
+        bytes: title.bytes,
+        count: entry.count,
+        position: entry.position,
+        more: joint.more,
+        end: end,
+    }
+}
+
+// No row.
+fn no_row(end: Move) -> Row
+    ensures { λ r. ⌜ r ≡ record { place = 0; bytes = 0; count = 0; position = 0; more = false; end = end } ⌝ }
+{
+    Row {
+        place: 0,
+        bytes: 0,
+        count: 0,
+        position: 0,
+        more: false,
+        end: end,
+    }
 }
