@@ -2,7 +2,7 @@
 use mathlib.Core.Path.{_≡_, refl, sym, _∙_, subst}
 use mathlib.Core.Bool.{Bool, true, false}
 use mathlib.Core.List.{List}
-use Prim.Native.Nat.{ℕ, zero, suc, _-_, _<_}
+use Prim.Native.Nat.{ℕ, zero, suc, _-_}
 use native.Mathlib.Omega.{arith}
 use lib.Dec.{eqb}
 use borrow.Author.Tests.{eq-eqb, ne-eqb}
@@ -17,17 +17,11 @@ use Rattle.tokens.specs.declared.Move.{Move}
 use Rattle.tokens.specs.declared.Move.the-variants.{At, Refused}
 use Rattle.tokens.specs.declared.Seen.{Seen}
 use Rattle.tokens.specs.declared.Seen.the-variants as seen
-use Rattle.tokens.specs.Stored.{token, from, Sees, Looks, Named, Matches, Moves}
+use Rattle.tokens.specs.Stored.{from, Sees, Looks, Named, Matches, Moves}
 use Rattle.tokens.specs.Pieces.{expectIn, bracketIn, indexIn}
-use Rattle.tokens.proofs.Tables.{mark-of, mark-same}
-use Rattle.tokens.proofs.Moved.{stops, goes, then-at, given, next-is, look-is, look-wrong}
+use Rattle.tokens.proofs.Moved.{stops, goes, then-at, given, next-is, look-is, look-wrong, is-mark}
 use Rattle.formulas.specs.Cycle.{insideIn, partIn}
 use Rattle.domains.specs.Domains.{entryWith, entriesIn, domainIn, optionalIn}
-
--- what one token is
-pub is-mark : (s : List ℕ) (c x p y : ℕ) → 5 < c → isMark c (token s x p y) ≡ eqb x c
-unfolding token
-is-mark s c x p y h = rw (mark-of s x p y) (mark-same x c h)
 
 abbrev inner : List Name → Reader Formula
 inner names = inDomain names

@@ -1,8 +1,8 @@
 -- Laws of moves: a reader and the next one, and the readers of one token. Assumes nothing.
-use mathlib.Core.Path.{_≡_, refl, sym, _∙_, subst}
+use mathlib.Core.Path.{_≡_, refl, sym, _∙_, subst, ap}
 use mathlib.Core.Bool.{Bool, true, false, _||_}
 use mathlib.Core.List.{List, _∷_}
-use Prim.Native.Nat.{ℕ, zero, suc, _-_}
+use Prim.Native.Nat.{ℕ, zero, suc, _-_, _<_}
 use native.Mathlib.Omega.{arith}
 use lib.Dec.{eqb}
 use borrow.Author.Tests.{eq-eqb, ne-eqb}
@@ -11,9 +11,9 @@ use Rattle.rules.specs.declared.Refusal.the-variants.{Misplaced, BadName, Full}
 use Rattle.lexer.specs.Text.{Token}
 use Rattle.lexer.specs.Text
 use Rattle.lexer.specs.Marks.{opens, comma, minusSign}
-use Rattle.language.specs.Outcome.{Outcome, done, refused}
-use Rattle.language.specs.Syntax.{Name}
-use Rattle.language.specs.Reader.{Used, Reader, Read, follow, _>>=_, give, next, look, isMark, nameOf, demand, require, expect, bracket, found, known, readKnown, readIndex}
+use Rattle.language.specs.Outcome.{Outcome, done, refused, done-injective, refused-done}
+use Rattle.language.specs.Syntax.{Name, Sort}
+use Rattle.language.specs.Reader.{Used, Reader, Read, follow, _>>=_, give, next, look, isMark, nameOf, demand, require, expect, bracket, found, known, readKnown, readIndex, isIndex}
 use Rattle.language.specs.Formulas.{isSum, Signed, readSign, headOf}
 use Rattle.tokens.specs.declared.Move.{Move}
 use Rattle.tokens.specs.declared.Move.the-variants.{At, Refused}
@@ -21,7 +21,9 @@ use Rattle.tokens.specs.declared.Seen.{Seen}
 use Rattle.tokens.specs.declared.Seen.the-variants as seen
 use Rattle.tokens.specs.declared.Found.{Found}
 use Rattle.tokens.specs.declared.Found.the-variants as found
-use Rattle.tokens.specs.Stored.{spelling, nameBytes, kindOf, token, from, markNumber, Unread, Sees, Looks, lookUp, Named, Matches, Moves}
+use Rattle.tokens.specs.declared.Known.{Known}
+use Rattle.tokens.specs.declared.Known.the-variants as Known
+use Rattle.tokens.specs.Stored.{spelling, nameBytes, kindOf, token, from, markNumber, Unread, Sees, Looks, lookUp, Named, Matches, Moves, Knowing, Knows, Shaped, Gives, Stands}
 use Rattle.tokens.specs.Pieces.{expectIn, bracketIn, indexIn, headIn, signIn}
 use Rattle.tokens.proofs.Tables.{mark-of, mark-same, no-name, passes, Declared, declared, not-declared, index-sort, other-sort}
 
@@ -55,6 +57,94 @@ pub given : {A B : Type 0} (m : List Name → Reader A) (f : List Name → A →
     → Moves (λ names. m names >>= (λ w. give (f names w))) s ns ts at r
 given m f s ns ts at (At a) h = then-at m (λ names w. give (f names w)) s ns ts at a (At a) h (λ w. record { matches = λ names d. refl })
 given m f s ns ts at (Refused n p) h = then-refused m (λ names w. give (f names w)) s ns ts at n p h
+
+-- ---- what was read
+
+-- where code stands at a, the reader gave something and left what stands there
+pub record Stood {A : Type 0} (m : Reader A) (s ts : List ℕ) (at a : ℕ) : Type 0 where
+  pub what : A
+  pub reads : m (from s ts at) ≡ done (record { what = what; rest = from s ts a })
+
+module _ {A : Type 0} (m : List Name → Reader A) (s ns ts : List ℕ) (at : ℕ) (r : Move) (h : Moves m s ns ts at r) (names : List Name) (d : Named s ns names) where
+  pub stood : (a : ℕ) → r ≡ At a → Stood (m names) s ts at a
+  stood a e = go (m names (from s ts at)) refl (subst (Matches (m names (from s ts at)) s ts) e (h .matches names d))
+    where
+      go : (o : Outcome (Read A)) → m names (from s ts at) ≡ o → Matches o s ts (At a) → Stood (m names) s ts at a
+      go (done x) i k = record { what = x .what; reads = i ∙ ap (λ l. done (record { what = x .what; rest = l })) k }
+      go (refused n p) i k = absurd k
+
+  pub stuck : (n : Refusal) (p : ℕ) → r ≡ Refused n p → m names (from s ts at) ≡ refused n p
+  stuck n p e = go (m names (from s ts at)) refl (subst (Matches (m names (from s ts at)) s ts) e (h .matches names d))
+    where
+      go : (o : Outcome (Read A)) → m names (from s ts at) ≡ o → Matches o s ts (Refused n p) → m names (from s ts at) ≡ refused n p
+      go (done x) i k = absurd k
+      go (refused l q) i k = i ∙ ap (λ l. refused l q) (k .0) ∙ ap (refused n) (k .1)
+
+-- a reader that gives w, of which Q holds, and leaves what stands at a
+pub record Got {A : Type 0} (m : Reader A) (Q : A → Type 0) (s ts : List ℕ) (at a : ℕ) : Type 0 where
+  pub what : A
+  pub reads : m (from s ts at) ≡ done (record { what = what; rest = from s ts a })
+  pub holds : Q what
+
+module _ {A : Type 0} (m : List Name → Reader A) (Q : List Name → A → Type 0) (s ns ts : List ℕ) (at : ℕ) where
+  pub gives-at : (a : ℕ) → ((names : List Name) → Named s ns names → Got (m names) (Q names) s ts at a) → Gives m Q s ns ts at (At a)
+  gives-at a g =
+      record {
+        moves = record { matches = λ names d. subst (λ o. Matches o s ts (At a)) (sym (g names d .reads)) refl };
+        tells = λ names d x e. subst (λ y. Q names (y .what)) (done-injective (sym (g names d .reads) ∙ e)) (g names d .holds);
+      }
+
+  pub gives-refused : (n : Refusal) (p : ℕ) → ((names : List Name) → Named s ns names → m names (from s ts at) ≡ refused n p) → Gives m Q s ns ts at (Refused n p)
+  gives-refused n p g =
+      record {
+        moves = record { matches = λ names d. subst (λ o. Matches o s ts (Refused n p)) (sym (g names d)) (refl, refl) };
+        tells = λ names d x e. absurd (refused-done (sym (g names d) ∙ e));
+      }
+
+  -- where the reader stood at a, what code tells of it holds
+  pub got : (a : ℕ) → Gives m Q s ns ts at (At a) → (names : List Name) → Named s ns names → Got (m names) (Q names) s ts at a
+  got a g names d =
+      let x = stood m s ns ts at (At a) (g .moves) names d a refl in
+      record { what = x .what; reads = x .reads; holds = g .tells names d _ (x .reads) }
+
+  -- a reader that refuses
+  pub gives-not : (n : Refusal) (p : ℕ) (r : Move) → r ≡ Refused n p → Moves m s ns ts at r → Gives m Q s ns ts at r
+  gives-not n p r e h = subst (Gives m Q s ns ts at) (sym e) (gives-refused n p (λ names d. stuck m s ns ts at r h names d n p e))
+
+  -- a reader that reads there as another one does elsewhere
+  pub gives-same : (m′ : List Name → Reader A) (at′ : ℕ) (r : Move) → ((names : List Name) → Named s ns names → m names (from s ts at) ≡ m′ names (from s ts at′)) → Gives m′ Q s ns ts at′ r
+      → Gives m Q s ns ts at r
+  gives-same m′ at′ r e g =
+      record {
+        moves = record { matches = λ names d. subst (λ o. Matches o s ts r) (sym (e names d)) (g .moves .matches names d) };
+        tells = λ names d x i. g .tells names d x (sym (e names d) ∙ i);
+      }
+
+-- what was read stands there
+pub gives-stands : {A : Type 0} (m : List Name → Reader A) (s ns ts : List ℕ) (at : ℕ) (r : Move) → Moves m s ns ts at r → Gives m (λ names w. Stands (m names) s ts at w) s ns ts at r
+gives-stands m s ns ts at r h = record { moves = h; tells = λ names d x e. record { rest = x .rest; reads = e } }
+
+-- something made of what was read
+pub gives-map : {A B : Type 0} (m : List Name → Reader A) (P : List Name → A → Type 0) (f : List Name → A → B) (Q : List Name → B → Type 0) (s ns ts : List ℕ) (at : ℕ) (r : Move)
+    → Gives m P s ns ts at r → ((names : List Name) (w : A) → P names w → Q names (f names w)) → Gives (λ names. m names >>= (λ w. give (f names w))) Q s ns ts at r
+gives-map {A = A} {B = B} m P f Q s ns ts at r h q =
+    record { moves = given m f s ns ts at r (h .moves); tells = λ names d x e. go names x (m names (from s ts at)) (h .tells names d) e }
+  where
+    go : (names : List Name) (x : Read B) (o : Outcome (Read A)) → ((y : Read A) → o ≡ done y → P names (y .what)) → follow o (λ w. give (f names w)) ≡ done x → Q names (x .what)
+    go names x (done y) p e = subst (λ z. Q names (z .what)) (done-injective e) (q names (y .what) (p y refl))
+    go names x (refused n i) p e = absurd (refused-done e)
+
+-- ---- readers one after the other, as equations
+
+module _ {A B : Type 0} where
+  pub follow-same : (o : Outcome (Read A)) (f g : A → Reader B) → ((a : A) (l : List Token) → f a l ≡ g a l) → follow o f ≡ follow o g
+  follow-same (done x) f g h = h (x .what) (x .rest)
+  follow-same (refused n p) f g h = refl
+
+  -- a sequence that gave something did so at each step
+  pub followed : {C : Type 0} (o : Outcome (Read A)) (f : A → Reader B) (y : Read B) → follow o f ≡ done y → ((x : Read A) → o ≡ done x → f (x .what) (x .rest) ≡ done y → C) → C
+  followed (done x) f y e k = k x refl e
+  followed (refused n p) f y e k = absurd (refused-done e)
 
 -- ---- one token
 
@@ -93,6 +183,11 @@ module _ {A : Type 0} (f : List Name → Token → Reader A) (s ns ts : List ℕ
   look-wrong n p t h e =
       let u = subst (Sees s ts at) e (h .sees s) in
       record { matches = λ names d. subst (λ o. Matches (follow o (f names)) s ts (Refused n p)) (sym (u .looks)) (refl, refl) }
+
+-- whether a sign or word is c
+pub is-mark : (s : List ℕ) (c x p y : ℕ) → 5 < c → isMark c (token s x p y) ≡ eqb x c
+unfolding token
+is-mark s c x p y h = rw (mark-of s x p y) (mark-same x c h)
 
 -- ---- an expected sign
 
@@ -160,39 +255,30 @@ module _ (s ns ts : List ℕ) (at : ℕ) (t : Seen) (h : Looks ts at t) where
   sees′ : (w : Seen) → t ≡ w → Sees s ts at w
   sees′ w e = subst (Sees s ts at) e (h .sees s)
 
-  pub index-wrong : (n : Refusal) (p : ℕ) → t ≡ seen.Refused n p → Moves indexIn s ns ts at (Refused n p)
-  unfolding indexIn readIndex readKnown
-  index-wrong n p e = let u = sees′ (seen.Refused n p) e in record { matches = λ names d. rw (u .nexts) (refl, refl) }
+  pub known-wrong : (n : Refusal) (p : ℕ) → t ≡ seen.Refused n p → Knows s ns ts at (Known.Refused n p)
+  unfolding readKnown
+  known-wrong n p e = let u = sees′ (seen.Refused n p) e in record { knows = λ names d. rw (u .nexts) (refl, refl) }
 
-  pub index-no-name : (k p x a : ℕ) → t ≡ seen.Token k p x a → (k ≡ 1 → ⊥) → Moves indexIn s ns ts at (Refused Misplaced p)
-  unfolding indexIn readIndex readKnown token demand
-  index-no-name k p x a e i = record { matches = λ names d. rw (next-is s ts at k p x a (sees′ _ e), no-name s k p x i) (refl, refl) }
+  pub known-no-name : (k p x a : ℕ) → t ≡ seen.Token k p x a → (k ≡ 1 → ⊥) → Knows s ns ts at (Known.Refused Misplaced p)
+  unfolding readKnown token demand
+  known-no-name k p x a e i = record { knows = λ names d. rw (next-is s ts at k p x a (sees′ _ e), no-name s k p x i) (refl, refl) }
 
   name-next : (k p x a : ℕ) → t ≡ seen.Token k p x a → k ≡ 1 → next (from s ts at) ≡ done (record { what = record { kind = Text.name (spelling s p (nameBytes x)); place = p }; rest = from s ts a })
   unfolding token kindOf
   name-next k p x a e i = next-is s ts at k p x a (sees′ _ e) ∙ rw i refl
 
-  pub index-unknown : (k p x a : ℕ) (f : Found) → t ≡ seen.Token k p x a → k ≡ 1 → f ≡ lookUp s (spelling s p (nameBytes x)) ns 0 → f ≡ found.Nothing → Moves indexIn s ns ts at (Refused BadName p)
-  unfolding indexIn readIndex readKnown demand nameOf
-  index-unknown k p x a f e i j g = record { matches = λ names d. rw (name-next k p x a e i, known-not s ns names p (nameBytes x) (from s ts a) d (sym j ∙ g)) (refl, refl) }
+  pub known-unknown : (k p x a : ℕ) (f : Found) → t ≡ seen.Token k p x a → k ≡ 1 → f ≡ lookUp s (spelling s p (nameBytes x)) ns 0 → f ≡ found.Nothing → Knows s ns ts at (Known.Refused BadName p)
+  unfolding readKnown demand nameOf
+  known-unknown k p x a f e i j g = record { knows = λ names d. rw (name-next k p x a e i, known-not s ns names p (nameBytes x) (from s ts a) d (sym j ∙ g)) (refl, refl) }
 
-  pub index-yes : (k p x a number sort count : ℕ) (f : Found) → t ≡ seen.Token k p x a → k ≡ 1 → f ≡ lookUp s (spelling s p (nameBytes x)) ns 0 → f ≡ found.Name number sort count → sort ≡ 0 → Moves indexIn s ns ts at (At a)
-  unfolding indexIn readIndex readKnown demand nameOf require
-  index-yes k p x a number sort count f e i j g z =
+  pub known-name : (k p x a number sort count : ℕ) (f : Found) → t ≡ seen.Token k p x a → k ≡ 1 → f ≡ lookUp s (spelling s p (nameBytes x)) ns 0 → f ≡ found.Name number sort count
+      → Knows s ns ts at (Known.Name number sort count p a)
+  unfolding readKnown demand nameOf
+  known-name k p x a number sort count f e i j g =
       record {
-        matches = λ names d.
+        knows = λ names d.
             let u = declared s (spelling s p (nameBytes x)) ns names 0 p number sort count d (sym j ∙ g) in
-            rw (name-next k p x a e i, known-is s names p (nameBytes x) number sort count (from s ts a) u, index-sort (u .used .sort) sort count (u .shaped) z) refl;
-      }
-
-  pub index-other : (k p x a number sort count : ℕ) (f : Found) → t ≡ seen.Token k p x a → k ≡ 1 → f ≡ lookUp s (spelling s p (nameBytes x)) ns 0 → f ≡ found.Name number sort count → (sort ≡ 0 → ⊥)
-      → Moves indexIn s ns ts at (Refused Misplaced p)
-  unfolding indexIn readIndex readKnown demand nameOf require
-  index-other k p x a number sort count f e i j g z =
-      record {
-        matches = λ names d.
-            let u = declared s (spelling s p (nameBytes x)) ns names 0 p number sort count d (sym j ∙ g) in
-            rw (name-next k p x a e i, known-is s names p (nameBytes x) number sort count (from s ts a) u, other-sort (u .used .sort) sort count (u .shaped) z) (refl, u .placed);
+            rw (name-next k p x a e i, known-is s names p (nameBytes x) number sort count (from s ts a) u) (refl, u .numbered, u .shaped, u .placed);
       }
 
   -- whether a sign stands there
@@ -226,6 +312,38 @@ module _ (s ns ts : List ℕ) (at : ℕ) (t : Seen) (h : Looks ts at t) where
   pub sign-no : (k p x a : ℕ) → t ≡ seen.Token k p x a → (eqb k 43 || eqb k 45) ≡ false → Moves signIn s ns ts at (At at)
   unfolding signed
   sign-no k p x a e i = sign-by k p x a false (At at) e i refl
+
+-- ---- a declared index
+
+module _ (s ns ts : List ℕ) (at : ℕ) (r : Known) (h : Knows s ns ts at r) where
+  indexTest : Used → Reader Used
+  indexTest u = require (isIndex (u .sort)) Misplaced (u .place) >>= (λ _. give u)
+
+  pub index-wrong : (n : Refusal) (p : ℕ) → r ≡ Known.Refused n p → Moves indexIn s ns ts at (Refused n p)
+  unfolding indexIn readIndex indexTest
+  index-wrong n p e = record { matches = λ names d. go (readKnown names (from s ts at)) (subst (Knowing (readKnown names (from s ts at)) s ts) e (h .knows names d)) }
+    where
+      go : (o : Outcome (Read Used)) → Knowing o s ts (Known.Refused n p) → Matches (follow o indexTest) s ts (Refused n p)
+      go (done x) k = absurd k
+      go (refused m q) k = k
+
+  -- by the test of its sort
+  index-by : (i sort count p a : ℕ) (b : Bool) (z : Move) → r ≡ Known.Name i sort count p a → ((x : Sort) → Shaped x sort count → isIndex x ≡ b)
+      → ((u : Used) → u .place ≡ p → Matches ((require b Misplaced (u .place) >>= (λ _. give u)) (from s ts a)) s ts z) → Moves indexIn s ns ts at z
+  unfolding indexIn readIndex indexTest
+  index-by i sort count p a b z e f g = record { matches = λ names d. go (readKnown names (from s ts at)) (subst (Knowing (readKnown names (from s ts at)) s ts) e (h .knows names d)) }
+    where
+      go : (o : Outcome (Read Used)) → Knowing o s ts (Known.Name i sort count p a) → Matches (follow o indexTest) s ts z
+      go (done x) k = rw (k .0, f (x .what .sort) (k .2)) (g (x .what) (k .3))
+      go (refused m q) k = absurd k
+
+  pub index-yes : (i sort count p a : ℕ) → r ≡ Known.Name i sort count p a → sort ≡ 0 → Moves indexIn s ns ts at (At a)
+  unfolding require
+  index-yes i sort count p a e z = index-by i sort count p a true (At a) e (λ x k. index-sort x sort count k z) (λ u q. refl)
+
+  pub index-other : (i sort count p a : ℕ) → r ≡ Known.Name i sort count p a → (sort ≡ 0 → ⊥) → Moves indexIn s ns ts at (Refused Misplaced p)
+  unfolding require
+  index-other i sort count p a e z = index-by i sort count p a false (Refused Misplaced p) e (λ x k. other-sort x sort count k z) (λ u q. (refl, q))
 
 -- ---- a bracket's head
 

@@ -2,11 +2,11 @@
 use mathlib.Core.Path.{_≡_, refl, sym, _∙_, ap, subst}
 use mathlib.Core.Bool.{Bool, true, false}
 use mathlib.Core.Option.{Option, none, some}
-use mathlib.Core.List.{List, [], _∷_}
-use Prim.Native.Nat.{ℕ, zero, suc, _+_, _-_, _<_, _≤_}
+use mathlib.Core.List.{List, [], _∷_, _++_}
+use Prim.Native.Nat.{ℕ, zero, suc, _+_, _-_, _<_, _≤_, _/_, _*_}
 use native.Mathlib.Omega.{arith}
 use lib.Dec.{eqb}
-use lib.ListN.{length, drop, getD, List·getD-eq-default}
+use lib.ListN.{length, drop, getD, List·getD-eq-default, take, set, length-set}
 use borrow.Author.Tests.{eq-eqb, ne-eqb}
 use Rattle.rules.specs.declared.Refusal.{Refusal}
 use Rattle.rules.specs.declared.Refusal.the-variants.{Misplaced}
@@ -18,7 +18,7 @@ use Rattle.language.specs.Reader.{Used, passed, next, look, markOf, nameOf, fin
 use Rattle.tokens.specs.declared.Seen.the-variants as seen
 use Rattle.tokens.specs.declared.Found.{Found}
 use Rattle.tokens.specs.declared.Found.the-variants as found
-use Rattle.tokens.specs.Stored.{wordOf, kindPart, placePart, payloadPart, bytesFrom, spelling, refusalOf, kindOf, token, view, from, markNumber, Looks, lookUp, Shaped, Named}
+use Rattle.tokens.specs.Stored.{wordOf, kindPart, placePart, payloadPart, bytesFrom, spelling, refusalOf, kindOf, token, view, from, markNumber, Looks, lookUp, Shaped, Named, Put}
 
 -- ---- what cannot be
 
@@ -347,3 +347,32 @@ other-sort (Syntax.real d) k c h e = refl
 other-sort (Syntax.formula f) k c h e = refl
 other-sort (Syntax.discrete d) k c h e = refl
 other-sort (Syntax.continuous d) k c h e = refl
+
+-- ---- rows that are written
+
+-- five words from the i-th on
+abbrev words : List ℕ → ℕ → ℕ → ℕ → ℕ → ℕ → ℕ → List ℕ
+words t i a b c d e = set (set (set (set (set t i a) (i + 1) b) (i + 2) c) (i + 3) d) (i + 4) e
+
+words-put : (t : List ℕ) (i a b c d e : ℕ) → i + 5 ≤ length t → take (i + 5) (words t i a b c d e) ≡ take i t ++ (a ∷ b ∷ c ∷ d ∷ e ∷ [])
+words-put [] i a b c d e h = absurd (omega arith)
+words-put (x ∷ []) zero a b c d e h = absurd (omega arith)
+words-put (x ∷ y ∷ []) zero a b c d e h = absurd (omega arith)
+words-put (x ∷ y ∷ z ∷ []) zero a b c d e h = absurd (omega arith)
+words-put (x ∷ y ∷ z ∷ v ∷ []) zero a b c d e h = absurd (omega arith)
+words-put (x ∷ y ∷ z ∷ v ∷ w ∷ t) zero a b c d e h = refl
+words-put (x ∷ t) (suc i) a b c d e h =
+    let i₁ : suc i + 1 ≡ suc (i + 1) = omega arith in
+    let i₂ : suc i + 2 ≡ suc (i + 2) = omega arith in
+    let i₃ : suc i + 3 ≡ suc (i + 3) = omega arith in
+    let i₄ : suc i + 4 ≡ suc (i + 4) = omega arith in
+    let i₅ : suc i + 5 ≡ suc (i + 5) = omega arith in
+    rw (i₁, i₂, i₃, i₄, i₅) (ap (λ l. x ∷ l) (words-put t i a b c d e (omega arith)))
+
+pub put-none : (t row : List ℕ) (n : ℕ) → length t / 5 ≤ n → Put t n row t
+put-none t row n h = record { size = refl; rows = λ i. absurd (omega arith) }
+
+pub put-five : (t : List ℕ) (n a b c d e : ℕ) → n < length t / 5 → Put t n (a ∷ b ∷ c ∷ d ∷ e ∷ []) (words t (n * 5) a b c d e)
+put-five t n a b c d e h =
+    let i : (n + 1) * 5 ≡ n * 5 + 5 = omega arith in
+    record { size = simp length-set; rows = λ l. rw i (words-put t (n * 5) a b c d e l) }

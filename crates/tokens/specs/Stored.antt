@@ -2,10 +2,10 @@
 -- reader of the definition does. Assumes nothing.
 use mathlib.Core.Path.{_≡_}
 use mathlib.Core.Bool.{true, false}
-use mathlib.Core.List.{List, [], _∷_}
-use Prim.Native.Nat.{ℕ, zero, suc, _+_, _*_, _/_, _%_}
+use mathlib.Core.List.{List, [], _∷_, _++_}
+use Prim.Native.Nat.{ℕ, zero, suc, _+_, _*_, _/_, _%_, _≤_}
 use lib.IntN.{pos}
-use lib.ListN.{drop, getD}
+use lib.ListN.{length, take, drop, getD}
 use Rattle.rules.specs.declared.Refusal.{Refusal}
 use Rattle.rules.specs.declared.Refusal.the-variants.{LongText, StrangeByte, Misplaced, BadName, Unfit, Full}
 use Rattle.lexer.specs.Text.{Token, Kind, sameBytes}
@@ -13,13 +13,15 @@ use Rattle.lexer.specs.Text
 use Rattle.language.specs.Outcome.{Outcome, done, refused}
 use Rattle.language.specs.Syntax.{Name, Sort, Spans, point, span}
 use Rattle.language.specs.Syntax
-use Rattle.language.specs.Reader.{Reader, Read, look, next}
+use Rattle.language.specs.Reader.{Reader, Read, Used, look, next, readKnown}
 use Rattle.tokens.specs.declared.Move.{Move}
 use Rattle.tokens.specs.declared.Move.the-variants.{At, Refused}
 use Rattle.tokens.specs.declared.Seen.{Seen}
 use Rattle.tokens.specs.declared.Seen.the-variants as seen
 use Rattle.tokens.specs.declared.Found.{Found}
 use Rattle.tokens.specs.declared.Found.the-variants as found
+use Rattle.tokens.specs.declared.Known.{Known}
+use Rattle.tokens.specs.declared.Known.the-variants as known
 
 -- ---- tokens: one word each, of kind, place (below 2^15) and payload (below 2^33)
 
@@ -142,6 +144,32 @@ Named s (p ∷ n ∷ k ∷ c ∷ []) ys = ⊥
 Named s (p ∷ n ∷ k ∷ c ∷ q ∷ ns) [] = ⊥
 Named s (p ∷ n ∷ k ∷ c ∷ q ∷ ns) (y ∷ ys) = (y .spelling ≡ spelling s p n) × Shaped (y .sort) k c × Named s ns ys
 
+-- the first n rows of a table
+abbrev pub rowsOf : ℕ → List ℕ → List ℕ
+rowsOf n t = take (n * 5) t
+
+-- row n is written, where the table has room for it
+pub record Put (t : List ℕ) (n : ℕ) (row t′ : List ℕ) : Type 0 where
+  pub size : length t′ ≡ length t
+  pub rows : n * 5 + 5 ≤ length t → rowsOf (n + 1) t′ ≡ rowsOf n t ++ row
+
+-- ---- what stands at a position
+
+-- the reader m reads x there
+pub record Stands {A : Type 0} (m : Reader A) (s ts : List ℕ) (at : ℕ) (x : A) : Type 0 where
+  pub rest : List Token
+  pub reads : m (from s ts at) ≡ done (record { what = x; rest = rest })
+
+abbrev pub Knowing : Outcome (Read Used) → List ℕ → List ℕ → Known → Type 0
+Knowing (done x) s ts (known.Name i k c p a) = (x .rest ≡ from s ts a) × (x .what .number ≡ i) × Shaped (x .what .sort) k c × (x .what .place ≡ p)
+Knowing (done x) s ts (known.Refused r p) = ⊥
+Knowing (refused r q) s ts (known.Name i k c p a) = ⊥
+Knowing (refused r q) s ts (known.Refused r′ p) = (r ≡ r′) × (q ≡ p)
+
+-- a declared name stands there, for all names that the table tells of
+pub record Knows (s ns ts : List ℕ) (at : ℕ) (r : Known) : Type 0 where
+  pub knows : (names : List Name) → Named s ns names → Knowing (readKnown names (from s ts at)) s ts r
+
 -- ---- moves
 
 -- the same refusal, or what is left stands from the position on
@@ -154,3 +182,8 @@ Matches (refused r q) s ts (Refused r′ p) = (r ≡ r′) × (q ≡ p)
 -- for all names that the table tells of: their trees do not matter
 pub record Moves {A : Type 0} (m : List Name → Reader A) (s ns ts : List ℕ) (at : ℕ) (r : Move) : Type 0 where
   pub matches : (names : List Name) → Named s ns names → Matches (m names (from s ts at)) s ts r
+
+-- the same, and what code tells of what was read
+pub record Gives {A : Type 0} (m : List Name → Reader A) (Q : List Name → A → Type 0) (s ns ts : List ℕ) (at : ℕ) (r : Move) : Type 0 where
+  pub moves : Moves m s ns ts at r
+  pub tells : (names : List Name) → Named s ns names → (x : Read A) → m names (from s ts at) ≡ done x → Q names (x .what)

@@ -6,10 +6,11 @@ pub mod marks;
 pub mod sorts;
 
 ghost use mathlib.Core.Path.{_≡_};
+ghost use mathlib.Core.List.{[], _∷_};
 ghost use Prim.Native.Nat.{_+_};
 ghost use lib.ListN.{getD};
 ghost use Rattle.lexer.specs.Text.{sameBytes};
-ghost use Rattle.tokens.specs.Stored.{spelling, refusalOf, markNumber, Looks, lookUp, Moves};
+ghost use Rattle.tokens.specs.Stored.{spelling, refusalOf, markNumber, Looks, lookUp, Knows, Put, Moves};
 ghost use Rattle.tokens.specs.Pieces.{expectIn, bracketIn, indexIn, headIn, signIn};
 
 // The position after what was read, or a refusal and its place.
@@ -28,6 +29,12 @@ pub enum Seen {
 pub enum Found {
     Name(usize, u64, u64),
     Nothing,
+}
+
+// A declared name that stands in the text: its number, sort, number of indices and place, and the position after it.
+pub enum Known {
+    Name(usize, u64, u64, u64, usize),
+    Refused(rules::Refusal, u64),
 }
 
 // A word is kind * KIND_UNIT + place * PLACE_UNIT + payload, with the place below PLACES.
@@ -130,6 +137,21 @@ pub fn find(text: &[u8], names: &[u64], p: u64, n: u64) -> Found
     Found::Nothing
 }
 
+// Row `number` of a table of rows of five words; nothing is written past the table's end.
+pub fn put_row(rows: &mut [u64], number: usize, a: u64, b: u64, c: u64, d: u64, e: u64)
+    ensures { λ _. ⌜ Put (now (rows .entry)) number (a ∷ b ∷ c ∷ d ∷ e ∷ []) (now (rows .exit)) ⌝ }
+{
+    if rows.len() / 5 <= number {
+        return;
+    }
+    let at = number * 5;
+    rows[at] = a;
+    rows[at + 1] = b;
+    rows[at + 2] = c;
+    rows[at + 3] = d;
+    rows[at + 4] = e;
+}
+
 // The sign or word with the number `c`.
 pub fn expect(text: &[u8], names: &[u64], tokens: &[u64], at: usize, c: u8) -> Move
     ensures { λ r. ⌜ Moves (expectIn c) (now (text .entry)) (now (names .entry)) (now (tokens .entry)) at r ⌝ }
@@ -170,9 +192,9 @@ pub fn bracket(text: &[u8], names: &[u64], tokens: &[u64], at: usize, nest: usiz
     }
 }
 
-// A declared index.
-pub fn index(text: &[u8], names: &[u64], tokens: &[u64], at: usize) -> Move
-    ensures { λ r. ⌜ Moves indexIn (now (text .entry)) (now (names .entry)) (now (tokens .entry)) at r ⌝ }
+// A declared name.
+pub fn known_name(text: &[u8], names: &[u64], tokens: &[u64], at: usize) -> Known
+    ensures { λ r. ⌜ Knows (now (text .entry)) (now (names .entry)) (now (tokens .entry)) at r ⌝ }
 {
     let token = token_at(tokens, at);
     match token {
@@ -180,20 +202,31 @@ pub fn index(text: &[u8], names: &[u64], tokens: &[u64], at: usize) -> Move
             if k == kinds::NAME {
                 let name = find(text, names, p, x % NAME_UNIT);
                 match name {
-                    Found::Name(i, sort, count) => {
-                        if sort == sorts::INDEX {
-                            Move::At(next)
-                        } else {
-                            Move::Refused(rules::Refusal::Misplaced, p)
-                        }
-                    }
-                    Found::Nothing => Move::Refused(rules::Refusal::BadName, p),
+                    Found::Name(i, sort, count) => Known::Name(i, sort, count, p, next),
+                    Found::Nothing => Known::Refused(rules::Refusal::BadName, p),
                 }
+            } else {
+                Known::Refused(rules::Refusal::Misplaced, p)
+            }
+        }
+        Seen::Refused(n, p) => Known::Refused(n, p),
+    }
+}
+
+// A declared index.
+pub fn index(text: &[u8], names: &[u64], tokens: &[u64], at: usize) -> Move
+    ensures { λ r. ⌜ Moves indexIn (now (text .entry)) (now (names .entry)) (now (tokens .entry)) at r ⌝ }
+{
+    let name = known_name(text, names, tokens, at);
+    match name {
+        Known::Name(i, sort, count, p, next) => {
+            if sort == sorts::INDEX {
+                Move::At(next)
             } else {
                 Move::Refused(rules::Refusal::Misplaced, p)
             }
         }
-        Seen::Refused(n, p) => Move::Refused(n, p),
+        Known::Refused(n, p) => Move::Refused(n, p),
     }
 }
 

@@ -1,0 +1,5 @@
+pub mod DueLaws
+pub mod IndexLaws
+pub mod EntryLaws
+pub mod RowLaws
+pub mod ListLaws
