@@ -1,0 +1,5 @@
+pub mod Elements
+pub mod Keys
+pub mod Words
+pub mod Halving
+pub mod Rows
