@@ -2,14 +2,12 @@
 use mathlib.Core.Path.{_≡_, refl, sym, _∙_, ap}
 use mathlib.Core.Bool.{Bool, true, false, cond}
 use mathlib.Core.List.{List, [], _∷_, _++_}
-use mathlib.Core.Logic.{⊎-elim}
-use Prim.Native.Nat.{ℕ, zero, suc, _+_, _<_, _≤_}
+use Prim.Native.Nat.{ℕ, zero, suc, _<_, _≤_}
 use native.Mathlib.Omega.{arith}
-use native.Mathlib.Nat.{eq-or-lt-of-le}
 use borrow.Author.Tests.{lt-ltb, le-ltb, ltb-true, eq-eqb, eqb-true}
-use lib.Dec.{eqb, ltb}
-use lib.ListN.{length, getD, take, length-take, length-append, List·getD-append, List·getD-eq-default}
-use lib.Seq.{take-all, getD-take, getD-append-seam}
+use lib.Dec.{ltb}
+use lib.ListN.{length, getD, length-take, length-append, List·getD-eq-default}
+use lib.Seq.{getD-take}
 use lib.IntN.{ℤ, pos, negsuc, natAbs}
 use Rattle.rules.specs.Limits.{mantissaLimit, indexLimit}
 use Rattle.store.specs.declared.Element.{Element}
@@ -71,9 +69,10 @@ extended-room l k h = rw (lt-ltb (length l) 4 h)
 
 -- ---- bounds
 
-pub bounded-subscripts : (e : Element) → Bounded e → Subscripts (listOf e)
+-- an element never has more than four
+pub bounded : (e : Element) → ((i : ℕ) → natAbs (getD (listOf e) i (pos 0)) ≤ mantissaLimit) → Bounded e
 unfolding indexLimit
-bounded-subscripts e b = record { few = length-few e; small = b .small }
+bounded e b = record { few = length-few e; small = b }
 
 pub subscripts-none : Subscripts []
 subscripts-none = record { few = omega arith; small = λ i. omega arith }
@@ -95,6 +94,13 @@ subscripts-extended l k s b = go (ltb (length l) indexLimit) refl
     go : (t : Bool) → ltb (length l) indexLimit ≡ t → Subscripts (cond t (l ++ (k ∷ [])) l)
     go true e = subscripts-more l k s (ltb-true (length l) indexLimit e) b
     go false e = s
+
+-- the elements that `none` and `with` give
+pub bounded-none : (e : Element) → listOf e ≡ [] → Bounded e
+bounded-none e h = rw h subscripts-none
+
+pub bounded-with : (e r : Element) (k : ℤ) → Bounded e → natAbs k ≤ mantissaLimit → listOf r ≡ extended (listOf e) k → Bounded r
+bounded-with e r k b h f = rw f (subscripts-extended (listOf e) k b h)
 
 -- ---- equality
 

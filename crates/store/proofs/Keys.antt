@@ -1,21 +1,20 @@
 -- Laws of keys: a digit tells its number and its order; two keys are equal where name and element are, and are ordered as name
 -- and element are. Assumes nothing.
-use mathlib.Core.Path.{_≡_, refl, sym, _∙_, ap, subst}
-use mathlib.Core.Bool.{Bool, true, false, cond, _&&_}
+use mathlib.Core.Path.{_≡_, refl, sym, _∙_, ap}
+use mathlib.Core.Bool.{Bool, true, false, _&&_}
 use mathlib.Core.List.{List, [], _∷_}
 use mathlib.Core.Logic.{_↔_, _⊎_, inl, inr, ⊎-elim}
-use Prim.Native.Nat.{ℕ, zero, suc, _+_, _-_, _*_, _<_, _≤_}
+use Prim.Native.Nat.{ℕ, zero, suc, _+_, _*_, _<_, _≤_}
 use native.Mathlib.Omega.{arith}
 use native.Mathlib.Nat.{eq-or-lt-of-le, mul-le-mul-right}
-use borrow.Author.Tests.{lt-ltb, le-ltb, ltb-true, ltb-false, le-leb, lt-leb, leb-true, eq-eqb, ne-eqb, eqb-true, eqb-false}
+use borrow.Author.Tests.{lt-ltb, le-ltb, ltb-true, ltb-false, le-leb, lt-leb, leb-true, leb-false, eq-eqb, ne-eqb, eqb-true, eqb-false}
 use lib.Dec.{eqb, leb, ltb}
 use lib.ListN.{length, getD}
-use lib.IntN.{ℤ, pos, negsuc, natAbs, subℕ, _+ℤ_}
+use lib.IntN.{ℤ, pos, negsuc, natAbs, _+ℤ_}
 use lib.Signed.{_≤ℤ_}
 use Rattle.rules.specs.Limits.{mantissaLimit, indexLimit}
 use Rattle.value.specs.Integer.{up, down, by-parts, add-parts, le-parts, le-of-parts}
-use Rattle.store.specs.declared.Key.{Key}
-use Rattle.store.specs.Element.{Subscripts, sameElement, Precedes}
+use Rattle.store.specs.Element.{sameElement, Precedes}
 use Rattle.store.specs.Key.{digitOf, digitAt, nameBound, nameDigit, paired, threeWords, keyNumber, keyOf}
 use Rattle.store.specs.Entries.{Keyed}
 use Rattle.store.proofs.Elements.{same-element, element-same}
@@ -50,7 +49,7 @@ module _ (k : ℤ) where
 
       go : (t : Bool) → leb (natAbs k) mantissaLimit ≡ t → digitOf k < 2147483648
       go true e = let h = leb-true (natAbs k) mantissaLimit e in omega (arith, digit-parts h, sizes k h)
-      go false e = rw (← (digit-out (borrow.Author.Tests.leb-false (natAbs k) mantissaLimit e))) (omega arith)
+      go false e = rw (← (digit-out (leb-false (natAbs k) mantissaLimit e))) (omega arith)
 
   pub digit-above : natAbs k ≤ mantissaLimit → 0 < digitOf k
   unfolding mantissaLimit
@@ -83,6 +82,9 @@ digit-past (k ∷ l) zero h = absurd (omega arith)
 digit-past (k ∷ l) (suc i) h = digit-past l i (omega arith)
 
 -- ---- digits in a row
+
+pub as-less : {a b x y : ℕ} → a ≡ x → b ≡ y → x < y → a < b
+as-less e f h = omega arith
 
 -- the first that differs settles it
 pub higher : (B h l a b : ℕ) → h < a → l < B → h * B + l < a * B + b
@@ -200,9 +202,6 @@ key-behind i (a ∷ b ∷ c ∷ d ∷ l) = regroup _ (digitOf b) (digitOf c) (di
 name-digit : (i : ℕ) → i < nameBound → nameDigit i ≡ i
 unfolding nameDigit
 name-digit i h = rw (lt-ltb i nameBound h)
-
-as-less : {a b x y : ℕ} → a ≡ x → b ≡ y → x < y → a < b
-as-less e f h = omega arith
 
 key-small : {i : ℕ} {l : List ℤ} → Keyed i l → Small l
 key-small {l = l} a = small-all l (a .subscripts .small)

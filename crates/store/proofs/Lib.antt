@@ -3,3 +3,5 @@ pub mod Keys
 pub mod Words
 pub mod Halving
 pub mod Rows
+pub mod Inserting
+pub mod Held

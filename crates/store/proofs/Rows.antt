@@ -2,10 +2,10 @@
 -- which every other key is found as before. Assumes nothing.
 use mathlib.Core.Path.{_≡_, refl, sym, _∙_, ap}
 use mathlib.Core.Bool.{Bool, true, false, cond}
-use mathlib.Core.Option.{Option, none, some}
+use mathlib.Core.Option.{some}
 use mathlib.Core.List.{List}
 use mathlib.Core.Logic.{⊎-elim}
-use Prim.Native.Nat.{ℕ, suc, _+_, _-_, _*_, _/_, _<_, _≤_}
+use Prim.Native.Nat.{ℕ, _+_, _-_, _*_, _/_, _<_, _≤_}
 use native.Mathlib.Omega.{arith}
 use native.Mathlib.Nat.{eq-or-lt-of-le}
 use borrow.Author.Tests.{lt-ltb, le-ltb, ltb-true, eqb-true, eqb-false}
@@ -13,11 +13,10 @@ use lib.Dec.{eqb, ltb}
 use lib.ListN.{length, getD, set, length-set}
 use lib.Seq.{getD-set-same, getD-set-other}
 use Rattle.store.specs.declared.Key.{Key}
-use Rattle.store.specs.declared.Found.{Found}
-use Rattle.store.specs.declared.Found.the-variants.{At, Nothing}
-use Rattle.store.specs.Key.{threeWords, keyNumber}
+use Rattle.store.specs.declared.Found.the-variants.{At}
+use Rattle.store.specs.Key.{keyNumber}
 use Rattle.store.specs.Table.{partAt, keyAt, wordAt, hasRoom, Sorted, rowOf, lookup, rowSet, appended, Moved, entered}
-use Rattle.store.proofs.Keys.{three}
+use Rattle.store.proofs.Keys.{as-less, three}
 use Rattle.store.proofs.Halving.{row-or-none, row-at, row-none, lookup-at, lookup-none}
 
 -- ---- a row written
@@ -77,6 +76,15 @@ module _ (t : List ℕ) (i : ℕ) (k : Key) (w : ℕ) where
     unfolding wordAt rowSet partAt
     row-word = getD-set-same third (i * 4 + 3) w 0 (simp length-set (omega arith))
 
+  -- where row i lies in the table, and where not
+  pub append-room : i < length t / 4 → rowSet t i k w ≡ appended t i k w
+  unfolding appended hasRoom
+  append-room h = rw (lt-ltb i (length t / 4) h)
+
+  pub append-none : length t / 4 ≤ i → t ≡ appended t i k w
+  unfolding appended hasRoom
+  append-none h = rw (le-ltb i (length t / 4) h)
+
 -- ---- words moved up
 
 pub moved-none : (t : List ℕ) (e : ℕ) → Moved t e e t
@@ -129,11 +137,8 @@ grown-insert t u n at k w m a g = record {
   after = λ p f b c d. row-other u at k w (p + 1) f (λ r. omega arith) d ∙ ap (λ (j : ℕ). getD u j 0) (omega arith) ∙ m .moved (p * 4 + f) (omega arith) (omega arith);
 }
 
-as-less : {a b x y : ℕ} → a ≡ x → b ≡ y → x < y → a < b
-as-less e f h = omega arith
-
 module _ (t : List ℕ) (n at k w : ℕ) (t′ : List ℕ) (g : Grown t n at k w t′) where
-  key-before : (p : ℕ) → p < at → keyAt t′ p ≡ keyAt t p
+  pub key-before : (p : ℕ) → p < at → keyAt t′ p ≡ keyAt t p
   unfolding keyAt
   key-before p h = rw (g .before p 0 h (omega arith), g .before p 1 h (omega arith), g .before p 2 h (omega arith))
 
@@ -159,9 +164,9 @@ module _ (t : List ℕ) (n at k w : ℕ) (t′ : List ℕ) (g : Grown t n at k w
     grown-sorted = record {
       rising = λ p q u v. three p at
           (λ y. three q at
-            (λ z. as-less (key-before p y) (key-before q z) (s .rising p q u (omega (arith, g .within))))
-            (λ z. as-less (key-before p y) (ap (λ (j : ℕ). keyAt t′ j) z ∙ g .key) (b p y))
-            (λ z. as-less (key-before p y) (key-later q z (omega arith)) (s .rising p (q - 1) (omega arith) (omega arith))))
+          (λ z. as-less (key-before p y) (key-before q z) (s .rising p q u (omega (arith, g .within))))
+          (λ z. as-less (key-before p y) (ap (λ (j : ℕ). keyAt t′ j) z ∙ g .key) (b p y))
+          (λ z. as-less (key-before p y) (key-later q z (omega arith)) (s .rising p (q - 1) (omega arith) (omega arith))))
           (λ y. as-less (ap (λ (j : ℕ). keyAt t′ j) y ∙ g .key) (key-later q (omega arith) (omega arith)) (a (q - 1) (omega arith) (omega arith)))
           (λ y. as-less (key-later p y (omega arith)) (key-later q (omega arith) (omega arith)) (s .rising (p - 1) (q - 1) (omega arith) (omega arith)));
     }
@@ -181,9 +186,9 @@ module _ (t : List ℕ) (n at k w : ℕ) (t′ : List ℕ) (g : Grown t n at k w
         go true e = lookup-at t′ (n + 1) q grown-sorted at (omega (arith, g .within)) (g .key ∙ sym (eqb-true q k e)) ∙ ap some (g .word)
         go false e = ⊎-elim
             (λ r. three (r .0) at
-              (λ y. lookup-at t′ (n + 1) q grown-sorted (r .0) (omega (arith, r .1)) (key-before (r .0) y ∙ r .2) ∙ ap some (word-before (r .0) y) ∙ sym (lookup-at t n q s (r .0) (r .1) (r .2)))
-              (λ y. later r (omega arith))
-              (λ y. later r (omega arith)))
+            (λ y. lookup-at t′ (n + 1) q grown-sorted (r .0) (omega (arith, r .1)) (key-before (r .0) y ∙ r .2) ∙ ap some (word-before (r .0) y) ∙ sym (lookup-at t n q s (r .0) (r .1) (r .2)))
+            (λ y. later r (omega arith))
+            (λ y. later r (omega arith)))
             (λ f. lookup-none t′ (n + 1) q (grown-none q (eqb-false q k e) f) ∙ sym (lookup-none t n q f))
             (row-or-none t q n)
           where
@@ -215,3 +220,17 @@ above-last t n k s h p f = ⊎-elim
     (λ e. rw e (h (omega arith)))
     (λ y. omega (arith, s .rising p (n - 1) y (omega arith), h (omega arith)))
     (eq-or-lt-of-le {n = p} {m = n - 1} (omega arith))
+
+-- a row appended whose key is above the last
+module _ (t : List ℕ) (n : ℕ) (k : Key) (w : ℕ) (s : Sorted t n) (r : hasRoom t n ≡ true) (b : 0 < n → keyAt t (n - 1) < keyNumber k) where
+  pub append-sorted : Sorted (appended t n k w) (n + 1)
+  append-sorted = last-sorted t n (keyNumber k) w (appended t n k w) (grown-append t n k w r) s (above-last t n (keyNumber k) s b)
+
+  pub append-lookup : (q : ℕ) → lookup (appended t n k w) (n + 1) q ≡ entered (keyNumber k) w (lookup t n) q
+  append-lookup =
+      grown-lookup t n n (keyNumber k) w (appended t n k w) (grown-append t n k w r) s (above-last t n (keyNumber k) s b) (λ p h f. absurd (omega arith))
+
+-- row n of a table of r rows
+pub room-rows : (t : List ℕ) (n r : ℕ) → length t ≡ r * 4 → hasRoom t n ≡ ltb n r
+unfolding hasRoom
+room-rows t n r e = let f : length t / 4 ≡ r = omega arith in rw f

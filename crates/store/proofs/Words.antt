@@ -1,15 +1,15 @@
 -- What the machine reads of signed numbers, as digits and packed values need it; a packed value is unpacked again.
 -- Assumes nothing.
-use mathlib.Core.Path.{_≡_, refl, sym, _∙_, ap}
+use mathlib.Core.Path.{_≡_, refl, _∙_, ap}
 use mathlib.Core.Bool.{Bool, true, false, cond}
 use Prim.Native.Nat.{ℕ, suc, _+_, _-_, _*_, _/_, _%_, _^_, _<_, _≤_}
 use native.Mathlib.Omega.{arith}
 use borrow.Author.Tests.{le-ltb, ltb-true, ltb-false, le-leb, lt-leb, leb-true, leb-false}
-use lib.Dec.{T, leb, ltb}
+use lib.Dec.{ltb}
 use lib.IntN.{ℤ, pos, negsuc, natAbs, subℕ, _+ℤ_, _-ℤ_}
-use lib.Signed.{mag, leZ, nonNeg}
+use lib.Signed.{mag, leZ}
 use mir.Syntax.{w64}
-use mir.Val.{SFits, Fits, toZ, ofZ}
+use mir.Val.{SFits, toZ, ofZ}
 use mir.Facts.{toZ-ofZ, toZ-pos}
 use Rattle.rules.specs.Limits.{mantissaLimit, scaleLimit}
 use Rattle.value.specs.declared.Value.{Value}
@@ -96,5 +96,6 @@ unpacked-packed v a b = rw (le-leb (v .s) 6 b) (λ i. record { m = whole i; s = 
   where
     whole : pos ((digitOf (v .m) * 8 + v .s) / 8) -ℤ pos 1000000000 ≡ v .m
     whole = moved-back ((digitOf (v .m) * 8 + v .s) / 8) (v .m) (omega (arith, digit-parts (v .m) a))
+
     scale : (digitOf (v .m) * 8 + v .s) % 8 ≡ v .s
     scale = omega arith

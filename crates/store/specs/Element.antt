@@ -20,14 +20,13 @@ listOf e = take (e .count) (e .a ∷ e .b ∷ e .c ∷ e .d ∷ [])
 unfoldable pub extended : List ℤ → ℤ → List ℤ
 extended l k = cond (ltb (length l) indexLimit) (l ++ (k ∷ [])) l
 
--- every number is a value's
-pub record Bounded (e : Element) : Type 0 where
-  pub small : (i : ℕ) → natAbs (getD (listOf e) i (pos 0)) ≤ mantissaLimit
-
--- the same of a list of at most four numbers
+-- at most four numbers, each no larger than a value's
 pub record Subscripts (l : List ℤ) : Type 0 where
   pub few : length l ≤ indexLimit
   pub small : (i : ℕ) → natAbs (getD l i (pos 0)) ≤ mantissaLimit
+
+abbrev pub Bounded : Element → Type 0
+Bounded e = Subscripts (listOf e)
 
 unfoldable pub sameWhole : ℤ → ℤ → Bool
 sameWhole (pos a) (pos b) = eqb a b

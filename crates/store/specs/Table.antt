@@ -14,7 +14,7 @@ use Rattle.store.specs.declared.Place.{Place}
 use Rattle.store.specs.declared.Place.the-variants.{Taken, Free}
 use Rattle.store.specs.declared.Insertion.{Insertion}
 use Rattle.store.specs.declared.Insertion.the-variants.{Done, Present, NoRoom}
-use Rattle.store.specs.Key.{threeWords, keyNumber}
+use Rattle.store.specs.Key.{threeWords}
 
 -- word f of row i
 unfoldable pub partAt : List ℕ → ℕ → ℕ → ℕ
@@ -84,11 +84,11 @@ pub record Moved (t : List ℕ) (a e : ℕ) (t′ : List ℕ) : Type 0 where
   pub before : (j : ℕ) → j < a + 4 → getD t′ j 0 ≡ getD t j 0
   pub moved : (j : ℕ) → a ≤ j → j < e → getD t′ (j + 4) 0 ≡ getD t j 0
 
--- what an insertion answers, by what the key has already
-unfoldable pub insertionOf : Option ℕ → Bool → Insertion
-insertionOf (some w) b = Present
-insertionOf none true = Done
-insertionOf none false = NoRoom
+-- what the answer of an insertion says of the word that its key had before, and of the room
+abbrev pub Says : Insertion → Option ℕ → Bool → Type 0
+Says Done o room = (o ≡ none) × (room ≡ true)
+Says Present o room = (w : ℕ) × (o ≡ some w)
+Says NoRoom o room = (o ≡ none) × (room ≡ false)
 
 -- the word w entered at the key k
 unfoldable pub entered : ℕ → ℕ → (ℕ → Option ℕ) → ℕ → Option ℕ
@@ -97,7 +97,7 @@ entered k w f q = cond (eqb q k) (some w) (f q)
 -- an insertion: its answer, and where it is done the table with one row more
 pub record Inserted (t : List ℕ) (n k w : ℕ) (r : Insertion) (t′ : List ℕ) : Type 0 where
   pub size : length t′ ≡ length t
-  pub answer : Sorted t n → r ≡ insertionOf (lookup t n k) (hasRoom t n)
+  pub answer : Sorted t n → Says r (lookup t n k) (hasRoom t n)
   pub present : r ≡ Present → t′ ≡ t
   pub no-room : r ≡ NoRoom → t′ ≡ t
   pub rises : Sorted t n → r ≡ Done → Sorted t′ (n + 1)

@@ -1,17 +1,14 @@
 -- `store::digit` meets its contract. Assumes nothing.
 use mathlib.Core.Path.{_≡_, refl}
-use mathlib.Core.Bool.{true, false}
 use native.Mathlib.Omega.{arith}
 use borrow.Author.Needs.{needs}
-use lib.IntN.{pos, negsuc, _+ℤ_}
+use lib.IntN.{pos, _+ℤ_}
 use mir.Facts.{toZ-ofZ}
 use Rattle.store.specs.Key.{digitOf}
 use Rattle.store.proofs.Keys.{digit-below}
 use Rattle.store.proofs.Words.{digit-high, digit-low, digit-is, digit-read}
 use Rattle.store.proofs.digit.Statement.{statement}
 use Rattle.store.proofs.digit.Tie as tie
-use Rattle.store.proofs.digit.Reads as reads
-use Rattle.store.proofs.digit.Lts as lts
 
 -- the sum that is left past both tests
 sum : (c : tie.Else2) → c .before .before .args .k +ℤ pos 1000000000 ≡ pos (digitOf (c .before .before .args .k))

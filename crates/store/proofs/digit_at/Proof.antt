@@ -1,19 +1,11 @@
 -- `store::digit_at` meets its contract. Assumes nothing.
-use mathlib.Core.Path.{_≡_, _∙_, ap}
+use mathlib.Core.Path.{_∙_}
 use native.Mathlib.Omega.{arith}
 use borrow.Author.Needs.{needs}
-use lib.ListN.{length}
-use Rattle.store.specs.Element.{listOf}
-use Rattle.store.specs.Key.{digitOf}
 use Rattle.store.proofs.Keys.{digit-at, digit-past}
 use Rattle.store.proofs.Words.{back}
 use Rattle.store.proofs.digit_at.Statement.{statement}
 use Rattle.store.proofs.digit_at.Tie as tie
-use Rattle.store.proofs.digit_at.Reads as reads
-use Rattle.store.proofs.digit_at.Lts as lts
-use Rattle.store.proofs.Element.at.Reads as at-reads
-use Rattle.store.proofs.Element.length.Reads as length-reads
-use Rattle.store.proofs.digit.Reads as digit-reads
 
 length-requires : tie.Need-length-requires
 length-requires c κs = search needs

@@ -1,40 +1,30 @@
+-- `store::is_below` meets its contract. Assumes nothing.
 use borrow.Author.Needs.{needs}
 use Rattle.store.proofs.Halving.{high-below, high-above, middle-below, middle-above, low-below}
 use Rattle.store.proofs.is_below.Statement.{statement}
 use Rattle.store.proofs.is_below.Tie as tie
-use Rattle.store.proofs.is_below.Reads as reads
-use Rattle.store.proofs.is_below.Lts as lts
-use Rattle.store.proofs.part.Reads as part-reads
 
--- src/lib.rt:211:9
 part-requires : tie.Need-part-requires
 part-requires c κs = search needs
 
--- src/lib.rt:212:9
 part-requires-2 : tie.Need-part-requires-2
 part-requires-2 c κs = search needs
 
--- src/lib.rt:213:9
 part-requires-3 : tie.Need-part-requires-3
 part-requires-3 c κs = search needs
 
--- src/lib.rt:215:9
 returns : tie.Need-returns
 returns c = search (high-below, needs) depth 8
 
--- src/lib.rt:218:9
 returns-2 : tie.Need-returns-2
 returns-2 c = search (high-above, needs) depth 8
 
--- src/lib.rt:221:9
 returns-3 : tie.Need-returns-3
 returns-3 c = search (middle-below, needs) depth 8
 
--- src/lib.rt:224:9
 returns-4 : tie.Need-returns-4
 returns-4 c = search (middle-above, needs) depth 8
 
--- src/lib.rt:208:1
 returns-5 : tie.Need-returns-5
 returns-5 c = search (low-below, needs) depth 8
 

@@ -1,5 +1,4 @@
 -- `store::name_digit` meets its contract. Assumes nothing.
-use mathlib.Core.Path.{sym}
 use native.Mathlib.Omega.{arith}
 use borrow.Author.Tests.{lt-ltb, le-ltb}
 use Rattle.store.specs.Key.{nameBound, nameDigit}

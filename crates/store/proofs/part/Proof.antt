@@ -1,3 +1,4 @@
+-- `store::part` meets its contract. Assumes nothing.
 use mathlib.Core.Path.{refl, sym}
 use native.Mathlib.Omega.{arith}
 use lib.ListN.{List·getD-eq-default}
@@ -5,36 +6,27 @@ use borrow.Author.Needs.{needs}
 use Rattle.store.specs.Table.{partAt}
 use Rattle.store.proofs.part.Statement.{statement}
 use Rattle.store.proofs.part.Tie as tie
-use Rattle.store.proofs.part.Reads as reads
-use Rattle.store.proofs.part.Lts as lts
 
--- src/lib.rt:192:17
 mul-k : tie.Need-mul-k
 mul-k c = search needs
 
--- src/lib.rt:192:17
 add-k : tie.Need-add-k
 add-k c = search needs
 
--- src/lib.rt:194:20
 mul-result : tie.Need-mul-result
 mul-result c = search needs
 
--- src/lib.rt:194:20
 shared-slice-read-result : tie.Need-shared-slice-read-result
 shared-slice-read-result c = search needs
 
--- src/lib.rt:194:13
 returns : tie.Need-returns
 unfolding partAt
 returns c = refl
 
--- src/lib.rt:187:1
 returns-2 : tie.Need-returns-2
 unfolding partAt
 returns-2 c = sym (List·getD-eq-default (c .before .before .args .table .now) 0 (omega arith))
 
--- src/lib.rt:187:1
 returns-3 : tie.Need-returns-3
 unfolding partAt
 returns-3 c = sym (List·getD-eq-default (c .before .args .table .now) 0 (omega arith))

@@ -1,3 +1,4 @@
+-- `store::rank` meets its contract. Assumes nothing.
 use Prim.Native.Nat.{_-_}
 use native.Mathlib.Omega.{arith}
 use borrow.Author.Needs.{needs}
@@ -6,9 +7,6 @@ use Rattle.store.specs.Table.{Between}
 use Rattle.store.proofs.Halving.{between-start, between-up, between-down, between-end}
 use Rattle.store.proofs.rank.Statement.{statement}
 use Rattle.store.proofs.rank.Tie as tie
-use Rattle.store.proofs.rank.Reads as reads
-use Rattle.store.proofs.rank.Lts as lts
-use Rattle.store.proofs.is_below.Reads as is-below-reads
 
 abbrev Inv-loop : tie.InvT-loop
 Inv-loop table n key from₀ to₀ from to = Between table n (keyNumber key) from to

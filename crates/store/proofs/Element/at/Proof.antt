@@ -5,8 +5,6 @@ use Rattle.store.proofs.Elements.{number-at, number-past, length-few, l
 use Rattle.store.proofs.Words.{back}
 use Rattle.store.proofs.Element.at.Statement.{statement}
 use Rattle.store.proofs.Element.at.Tie as tie
-use Rattle.store.proofs.Element.at.Reads as reads
-use Rattle.store.proofs.Element.at.Lts as lts
 
 returns : tie.Need-returns
 returns c = number-past _ _ (omega (arith, length-within (c .before .args .self)))

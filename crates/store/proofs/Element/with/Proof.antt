@@ -4,8 +4,6 @@ use Rattle.store.proofs.Elements.{with-first, with-second, with-third, 
 use Rattle.store.proofs.Words.{back}
 use Rattle.store.proofs.Element.with.Statement.{statement}
 use Rattle.store.proofs.Element.with.Tie as tie
-use Rattle.store.proofs.Element.with.Reads as reads
-use Rattle.store.proofs.Element.with.Lts as lts
 
 returns : tie.Need-returns
 returns c = rw (back (c .before .fits .k .sfits)) (with-first _ _ _ _ _ (c .match .keys1))
