@@ -27,7 +27,7 @@ pub record Left (l : List ℕ) (at : ℕ) (text : List ℕ) (l′ : List ℕ) (a
 pub left-all : (l : List ℕ) (at : ℕ) (text : List ℕ) → Left l at text l at text
 left-all l at text = record { whole = λ r l″ w. w }
 
-left-more : {l : List ℕ} {at : ℕ} {text l′ : List ℕ} {at′ : ℕ} {left : List ℕ} (piece rest : List ℕ) {r : ℕ} {l″ : List ℕ}
+pub left-more : {l : List ℕ} {at : ℕ} {text l′ : List ℕ} {at′ : ℕ} {left : List ℕ} (piece rest : List ℕ) {r : ℕ} {l″ : List ℕ}
     → left ≡ piece ++ rest → Left l at text l′ at′ left → Written l′ at′ piece r l″ → Left l at text l″ r rest
 left-more piece rest e h w = record { whole = λ r k v. h .whole r k (rw e (written-then _ _ _ _ _ _ _ _ w v)) }
 

@@ -1,3 +1,4 @@
+-- `listing::element_fields` meets its contract. Assumes nothing.
 use mathlib.Core.List.{map}
 use native.Mathlib.Omega.{arith}
 use borrow.Author.Needs.{needs}
@@ -12,12 +13,6 @@ use Rattle.listing.specs.Shown.{shownWhole}
 use Rattle.listing.proofs.Writing.{Left, left-all, element-more, element-end}
 use Rattle.listing.proofs.element_fields.Statement.{statement}
 use Rattle.listing.proofs.element_fields.Tie as tie
-use Rattle.listing.proofs.element_fields.Reads as reads
-use Rattle.listing.proofs.element_fields.Lts as lts
-use Rattle.listing.proofs.put.Reads as put-reads
-use Rattle.listing.proofs.whole_field.Reads as whole-field-reads
-use Rattle.store.proofs.Element.at.Reads as at-reads
-use Rattle.store.proofs.Element.length.Reads as length-reads
 
 abbrev Inv-loop : tie.InvT-loop
 Inv-loop out₀ at e n next₀ i₀ out next i = (i ≤ n) × (next ≤ at + 32 * i) × Left out₀ at (fields (map shownWhole (listOf e))) out next (fields (map shownWhole (drop i (listOf e))))
@@ -25,34 +20,27 @@ Inv-loop out₀ at e n next₀ i₀ out next i = (i ≤ n) × (next ≤ at + 32 
 abbrev μ-loop : tie.MeasureT-loop
 μ-loop out₀ at e n next₀ i₀ out next i = n - i
 
--- src/lib.rt:125:9
 few : (c : tie.After-length Inv-loop μ-loop) → c .length .result ≤ 4
 few c = rw (c .length .ensures) (length-few (c .before .before .args .e))
 
 length-requires : tie.Need-length-requires Inv-loop μ-loop
 length-requires c κs = search needs
 
--- src/lib.rt:128:5
 loop-holds : tie.Need-loop-holds Inv-loop μ-loop
 loop-holds c = (omega arith, omega arith, left-all _ _ _)
 
--- src/lib.rt:129:39
 at-requires : tie.Need-at-requires Inv-loop μ-loop
 at-requires c κs = search needs
 
--- src/lib.rt:129:9
 whole-field-requires : tie.Need-whole-field-requires Inv-loop μ-loop
 whole-field-requires c κs = omega (arith, few (c .before .before .before .before))
 
--- src/lib.rt:130:9
 add-i : tie.Need-add-i Inv-loop μ-loop
 add-i c = search needs
 
--- src/lib.rt:128:5
 loop-less : tie.Need-loop-less Inv-loop μ-loop
 loop-less c = search needs
 
--- src/lib.rt:128:5
 loop-again : tie.Need-loop-again Inv-loop μ-loop
 loop-again c =
     let d = c .before .before in
@@ -63,11 +51,9 @@ loop-again c =
     let w = rw (back (a .at .ok), a .at .ensures) at (d .whole-field .ensures .0) in
     (omega arith, omega arith, element-more _ _ _ (m .loop .inv .2) h w)
 
--- src/lib.rt:132:5
 put-requires : tie.Need-put-requires Inv-loop μ-loop
 put-requires c κs = omega (arith, few (c .before .before .before))
 
--- src/lib.rt:121:1
 whole : tie.Need-returns Inv-loop μ-loop
 whole c =
     let d = c .before .before in
@@ -78,7 +64,6 @@ whole c =
 same-length : tie.Need-same-length Inv-loop μ-loop
 same-length c = written-length _ _ _ _ _ (whole c)
 
--- src/lib.rt:121:1
 returns : tie.Need-returns Inv-loop μ-loop
 returns c = whole c
 

@@ -1,56 +1,40 @@
+-- `listing::lp` meets its contract. Assumes nothing.
 use Rattle.language.specs.Listing.{lpLine}
 use Rattle.listing.proofs.Writing.{line-then, field-then, line-end}
 use borrow.Author.Needs.{needs}
 use Rattle.listing.proofs.lp.Statement.{statement}
 use Rattle.listing.proofs.lp.Tie as tie
-use Rattle.listing.proofs.lp.Reads as reads
-use Rattle.listing.proofs.lp.Lts as lts
-use Rattle.listing.proofs.number_field.Reads as number-field-reads
-use Rattle.listing.proofs.put.Reads as put-reads
-use Rattle.listing.proofs.put_text.Reads as put-text-reads
-use Rattle.listing.proofs.title_field.Reads as title-field-reads
 
--- src/lib.rt:156:31
 slice-aggregate-put-text : tie.Need-slice-aggregate-put-text
 slice-aggregate-put-text c = search needs
 
--- src/lib.rt:156:9
 put-text-requires : tie.Need-put-text-requires
 put-text-requires c κs = search needs
 
--- src/lib.rt:157:9
 number-field-requires : tie.Need-number-field-requires
 number-field-requires c κs = search needs
 
--- src/lib.rt:158:9
 number-field-requires-2 : tie.Need-number-field-requires-2
 number-field-requires-2 c κs = search needs
 
--- src/lib.rt:159:9
 number-field-requires-3 : tie.Need-number-field-requires-3
 number-field-requires-3 c κs = search needs
 
--- src/lib.rt:160:9
 number-field-requires-4 : tie.Need-number-field-requires-4
 number-field-requires-4 c κs = search needs
 
--- src/lib.rt:161:9
 title-field-requires : tie.Need-title-field-requires
 title-field-requires c κs = search needs
 
--- src/lib.rt:162:9
 title-field-requires-2 : tie.Need-title-field-requires-2
 title-field-requires-2 c κs = search needs
 
--- src/lib.rt:163:5
 put-requires : tie.Need-put-requires
 put-requires c κs = search needs
 
--- src/lib.rt:145:1
 same-length : tie.Need-same-length
 same-length c = search needs
 
--- src/lib.rt:145:1
 returns : tie.Need-returns
 returns c =
     let e = c .before .before in

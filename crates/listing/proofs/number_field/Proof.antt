@@ -1,40 +1,30 @@
+-- `listing::number_field` meets its contract. Assumes nothing.
 use native.Mathlib.Omega.{arith}
 use Rattle.listing.proofs.Showing.{natural-read, natural-none}
 use borrow.Author.Needs.{needs}
 use Rattle.listing.proofs.number_field.Statement.{statement}
 use Rattle.listing.proofs.number_field.Tie as tie
-use Rattle.listing.proofs.number_field.Reads as reads
-use Rattle.listing.proofs.number_field.Lts as lts
-use Rattle.listing.proofs.put.Reads as put-reads
-use Rattle.listing.proofs.whole_field.Reads as whole-field-reads
 
--- src/lib.rt:105:37
 cast-whole-field : tie.Need-cast-whole-field
 cast-whole-field c = search needs
 
--- src/lib.rt:105:9
 whole-field-requires : tie.Need-whole-field-requires
 whole-field-requires c κs = search needs
 
--- src/lib.rt:105:9
 same-length : tie.Need-same-length
 same-length c = search needs
 
--- src/lib.rt:105:9
 returns : tie.Need-returns
 returns c =
     let d = c .before .before in
     (rw (natural-read _ (d .before .before .if1 .taken)) at (d .whole-field .ensures .0), d .whole-field .ensures .1)
 
--- src/lib.rt:107:5
 put-requires : tie.Need-put-requires
 put-requires c κs = search needs
 
--- src/lib.rt:100:1
 same-length-2 : tie.Need-same-length-2
 same-length-2 c = search needs
 
--- src/lib.rt:100:1
 returns-2 : tie.Need-returns-2
 returns-2 c =
     let d = c .before .before in

@@ -1,3 +1,4 @@
+-- `listing::put_text` meets its contract. Assumes nothing.
 use mathlib.Core.Path.{_≡_, refl}
 use native.Mathlib.Omega.{arith}
 use borrow.Author.Needs.{needs}
@@ -7,9 +8,6 @@ use Rattle.listing.proofs.Writing.{Left, left-all, text-more, text-end}
 use Rattle.value.proofs.Writing.{written-length}
 use Rattle.listing.proofs.put_text.Statement.{statement}
 use Rattle.listing.proofs.put_text.Tie as tie
-use Rattle.listing.proofs.put_text.Reads as reads
-use Rattle.listing.proofs.put_text.Lts as lts
-use Rattle.listing.proofs.put.Reads as put-reads
 
 abbrev Inv-loop : tie.InvT-loop
 Inv-loop out₀ at t next₀ i₀ out next i = (i ≤ length t) × (next ≡ at + i) × Left out₀ at t out next (drop i t)
@@ -17,35 +15,27 @@ Inv-loop out₀ at t next₀ i₀ out next i = (i ≤ length t) × (next ≡ at 
 abbrev μ-loop : tie.MeasureT-loop
 μ-loop out₀ at t next₀ i₀ out next i = length t - i
 
--- src/lib.rt:43:5
 loop-holds : tie.Need-loop-holds Inv-loop μ-loop
 loop-holds c = (omega arith, omega arith, left-all _ _ _)
 
--- src/lib.rt:44:31
 shared-slice-read-put : tie.Need-shared-slice-read-put Inv-loop μ-loop
 shared-slice-read-put c = search needs
 
--- src/lib.rt:44:9
 put-requires : tie.Need-put-requires Inv-loop μ-loop
 put-requires c κs = search needs
 
--- src/lib.rt:45:9
 add-i : tie.Need-add-i Inv-loop μ-loop
 add-i c = search needs
 
--- src/lib.rt:43:5
 loop-less : tie.Need-loop-less Inv-loop μ-loop
 loop-less c = search needs
 
--- src/lib.rt:43:5
 loop-again : tie.Need-loop-again Inv-loop μ-loop
 loop-again c = (omega arith, omega arith, search text-more depth 7)
 
--- src/lib.rt:37:1
 same-length : tie.Need-same-length Inv-loop μ-loop
 same-length c = written-length _ _ _ _ _ (text-end _ _ (c .before .loop .inv .2) (c .loop-test .left))
 
--- src/lib.rt:37:1
 returns : tie.Need-returns Inv-loop μ-loop
 returns c = search text-end depth 7
 

@@ -1,26 +1,19 @@
+-- `listing::text_field` meets its contract. Assumes nothing.
 use native.Mathlib.Omega.{arith}
 use Rattle.listing.proofs.Writing.{tab-then}
 use borrow.Author.Needs.{needs}
 use Rattle.listing.proofs.text_field.Statement.{statement}
 use Rattle.listing.proofs.text_field.Tie as tie
-use Rattle.listing.proofs.text_field.Reads as reads
-use Rattle.listing.proofs.text_field.Lts as lts
-use Rattle.listing.proofs.put.Reads as put-reads
-use Rattle.listing.proofs.put_text.Reads as put-text-reads
 
--- src/lib.rt:66:9
 put-requires : tie.Need-put-requires
 put-requires c κs = search needs
 
--- src/lib.rt:67:5
 put-text-requires : tie.Need-put-text-requires
 put-text-requires c κs = search needs
 
--- src/lib.rt:62:1
 same-length : tie.Need-same-length
 same-length c = search needs
 
--- src/lib.rt:62:1
 returns : tie.Need-returns
 returns c =
     let d = c .before .before in

@@ -1,48 +1,36 @@
+-- `listing::upper_field` meets its contract. Assumes nothing.
 use native.Mathlib.Omega.{arith}
 use Rattle.listing.proofs.Showing.{upper-none, upper-at}
 use borrow.Author.Needs.{needs}
 use Rattle.listing.proofs.upper_field.Statement.{statement}
 use Rattle.listing.proofs.upper_field.Tie as tie
-use Rattle.listing.proofs.upper_field.Reads as reads
-use Rattle.listing.proofs.upper_field.Lts as lts
-use Rattle.listing.proofs.text_field.Reads as text-field-reads
-use Rattle.listing.proofs.value_field.Reads as value-field-reads
 
--- src/lib.rt:115:35
 enum-told : tie.Need-enum-told
 enum-told c = search needs
 
--- src/lib.rt:115:44
 slice-aggregate-text-field : tie.Need-slice-aggregate-text-field
 slice-aggregate-text-field c = search needs
 
--- src/lib.rt:115:24
 text-field-requires : tie.Need-text-field-requires
 text-field-requires c κs = search needs
 
--- src/lib.rt:116:19
 enum-known-upper : tie.Need-enum-known-upper
 enum-known-upper c = search needs
 
--- src/lib.rt:116:25
 value-field-requires : tie.Need-value-field-requires
 value-field-requires c κs = search needs
 
--- src/lib.rt:110:1
 same-length : tie.Need-same-length
 same-length c = search needs
 
--- src/lib.rt:110:1
 returns : tie.Need-returns
 returns c =
     let d = c .before .before in
     (rw (upper-none _ (d .before .before .before .enum-told .given .1)) (d .text-field .ensures .0), omega (arith, d .text-field .ensures .0 .next))
 
--- src/lib.rt:110:1
 same-length-2 : tie.Need-same-length-2
 same-length-2 c = search needs
 
--- src/lib.rt:110:1
 returns-2 : tie.Need-returns-2
 returns-2 c =
     let d = c .before .before in

@@ -1,51 +1,38 @@
+-- `listing::value_field` meets its contract. Assumes nothing.
 use native.Mathlib.Omega.{arith}
 use Rattle.listing.proofs.Writing.{tab-then, written-from}
 use Rattle.listing.proofs.Showing.{shown-most}
 use borrow.Author.Needs.{needs}
 use Rattle.listing.proofs.value_field.Statement.{statement}
 use Rattle.listing.proofs.value_field.Tie as tie
-use Rattle.listing.proofs.value_field.Reads as reads
-use Rattle.listing.proofs.value_field.Lts as lts
-use Rattle.listing.proofs.put.Reads as put-reads
-use Rattle.listing.proofs.rest_from.Reads as rest-from-reads
-use Rattle.value.proofs.print.Reads as print-reads
 
--- src/lib.rt:88:9
 put-requires : tie.Need-put-requires
 put-requires c κs = search needs
 
--- src/lib.rt:89:9
 rest-from-requires : tie.Need-rest-from-requires
 rest-from-requires c κs = search needs
 
--- src/lib.rt:90:28
 sub-print : tie.Need-sub-print
 sub-print c = search needs
 
--- src/lib.rt:90:28
 part-print-start : tie.Need-part-print-start
 part-print-start c = search needs
 
--- src/lib.rt:90:28
 part-print-end : tie.Need-part-print-end
 part-print-end c = search needs
 
--- src/lib.rt:90:12
 print-requires : tie.Need-print-requires
 print-requires c κs = search needs
 
--- src/lib.rt:90:5
 add-result : tie.Need-add-result
 add-result c =
     let d = c .before .before in
     let p = d .before .before .before .before .before in
     omega (arith, p .put .ensures .next, d .print .ensures .next, shown-most (p .before .before .before .args .v))
 
--- src/lib.rt:84:1
 same-length : tie.Need-same-length
 same-length c = search needs
 
--- src/lib.rt:84:1
 returns : tie.Need-returns
 returns c =
     let d = c .before .before in
