@@ -1,6 +1,5 @@
 -- How long what is written of a line is, so that a caller's sum of lengths fits. Assumes nothing.
-use mathlib.Core.List.{List, [], _∷_, _++_, map}
-use mathlib.Core.Bool.{Bool}
+use mathlib.Core.List.{List, [], _∷_, map}
 use mathlib.Core.Option.{Option, none, some}
 use Prim.Native.Nat.{ℕ, _+_, _*_, _≤_}
 use native.Mathlib.Omega.{arith}
@@ -9,7 +8,6 @@ use lib.ListN.{length, length-append}
 use lib.IntN.{ℤ, pos}
 use Rattle.value.specs.declared.Value.{Value}
 use Rattle.value.specs.Decimal.{ofWhole}
-use Rattle.value.specs.Printed.{shown}
 use Rattle.language.specs.Listing.{Line, lpLine, rowLine, varLine, colLine, endLine, fields}
 use Rattle.language.proofs.Parts.{wordOf}
 use Rattle.listing.specs.Shown.{shownWhole, shownNatural, shownUpper, shownFields, shownLine}

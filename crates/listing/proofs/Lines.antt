@@ -1,7 +1,6 @@
 -- Laws for callers: what is written of a proper line is the definition's, line after line into the rest of an output, and what a
 -- cleared output then holds. Assumes nothing.
 use mathlib.Core.Path.{_≡_, refl, sym, _∙_, ap}
-use mathlib.Core.Bool.{Bool}
 use mathlib.Core.Option.{Option, none, some}
 use mathlib.Core.List.{List, [], _∷_, _++_, map, append-assoc, append-nil}
 use Prim.Native.Nat.{ℕ, zero, suc, _+_, _-_, _≤_, min}
@@ -11,14 +10,13 @@ use lib.Seq.{sets-eq}
 use lib.IntN.{ℤ}
 use borrow.Rule.Slice.PartMut.{putMid}
 use Rattle.value.specs.declared.Value.{Value}
-use Rattle.value.specs.Decimal.{Valid}
-use Rattle.value.specs.Printed.{natural, printed, printedWhole, Written}
+use Rattle.value.specs.Printed.{printedWhole, Written}
 use Rattle.value.proofs.Writing.{written-none, written-then, shown-valid}
 use Rattle.language.specs.Listing.{Line, lpLine, rowLine, varLine, colLine, endLine, fields, upperField, bytesOf, bytesOfAll}
-use Rattle.language.specs.Proper.{Each, Small, SmallIndex, ValidUpper, Proper}
+use Rattle.language.specs.Proper.{Each, SmallIndex, ValidUpper, Proper}
 use Rattle.language.proofs.Each.{each-head, each-tail}
 use Rattle.language.proofs.Parts.{wordOf, fieldsOf, bytes-parts}
-use Rattle.listing.specs.Shown.{shownWhole, shownNatural, shownUpper, shownFields, shownLine, shownLines}
+use Rattle.listing.specs.Shown.{shownWhole, shownUpper, shownFields, shownLine, shownLines}
 use Rattle.listing.proofs.Writing.{Left, left-more, written-from}
 use Rattle.listing.proofs.Showing.{whole-shown, natural-shown}
 

@@ -4,12 +4,11 @@
 ghost use mathlib.Core.Path.{_≡_};
 ghost use mathlib.Core.Bool.{cond};
 ghost use mathlib.Core.List.{[], _∷_, map};
-ghost use Prim.Native.Nat.{_+_, _*_, _<_, _≤_, _^_, min};
+ghost use Prim.Native.Nat.{_+_, _<_, _≤_, _^_, min};
 ghost use lib.ListN.{length, take, replicate};
 ghost use Rattle.rules.specs.Limits.{byteLimit};
 ghost use Rattle.value.specs.Printed.{shown, Written};
 ghost use Rattle.store.specs.Element.{listOf};
-ghost use Rattle.lexer.specs.View.{partOf};
 ghost use Rattle.language.specs.Listing.{lpLine, rowLine, varLine, colLine, endLine, fields};
 ghost use Rattle.listing.specs.Shown.{shownWhole, shownNatural, shownUpper, shownLine};
 ghost use Rattle.listing.specs.Upper.{bound};
@@ -27,10 +26,10 @@ fn put(out: &mut [u8], at: usize, b: u8) -> usize
     requires { ⌜ at < 2 ^ 63 + 2 ^ 32 ⌝ }
     ensures { λ r. ⌜ Written (now (out .entry)) at (b ∷ []) r (now (out .exit)) ⌝ }
 {
-    if at < out.len() {
-        out[at] = b;
+    if out.len() <= at {
         return at + 1;
     }
+    out[at] = b;
     at + 1
 }
 

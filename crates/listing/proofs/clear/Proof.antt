@@ -1,6 +1,6 @@
 -- `listing::clear` meets its contract. Assumes nothing.
-use borrow.Author.Needs.{needs}
 use Prim.Native.Nat.{_-_}
+use borrow.Author.Needs.{needs}
 use lib.ListN.{length}
 use Rattle.listing.proofs.Writing.{Cleared, cleared-none, cleared-more, cleared-all}
 use Rattle.listing.proofs.clear.Statement.{statement}

@@ -1,13 +1,13 @@
 -- `listing::element_fields` meets its contract. Assumes nothing.
 use mathlib.Core.List.{map}
+use Prim.Native.Nat.{_+_, _-_, _*_, _≤_}
 use native.Mathlib.Omega.{arith}
 use borrow.Author.Needs.{needs}
-use Prim.Native.Nat.{_+_, _-_, _*_, _≤_}
 use lib.ListN.{drop}
 use Rattle.value.proofs.Integers.{back}
 use Rattle.value.proofs.Writing.{written-length}
-use Rattle.store.specs.Element.{listOf}
 use Rattle.store.proofs.Elements.{length-few}
+use Rattle.store.specs.Element.{listOf}
 use Rattle.language.specs.Listing.{fields}
 use Rattle.listing.specs.Shown.{shownWhole}
 use Rattle.listing.proofs.Writing.{Left, left-all, element-more, element-end}

@@ -1,6 +1,6 @@
 -- `listing::end` meets its contract. Assumes nothing.
-use Rattle.listing.proofs.Writing.{end-line}
 use borrow.Author.Needs.{needs}
+use Rattle.listing.proofs.Writing.{end-line}
 use Rattle.listing.proofs.end.Statement.{statement}
 use Rattle.listing.proofs.end.Tie as tie
 
@@ -15,8 +15,6 @@ same-length c = search needs
 
 returns : tie.Need-returns
 returns c = end-line (c .before .before .put-text .ensures)
-
---c .before .before .put-text .ensures
 
 pub end-spec : {M : Type 1} → statement M
 end-spec = tie.close (tie.spec slice-aggregate-put-text put-text-requires same-length returns)

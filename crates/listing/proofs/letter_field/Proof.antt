@@ -1,7 +1,7 @@
 -- `listing::letter_field` meets its contract. Assumes nothing.
 use native.Mathlib.Omega.{arith}
-use Rattle.listing.proofs.Writing.{tab-then}
 use borrow.Author.Needs.{needs}
+use Rattle.listing.proofs.Writing.{tab-then}
 use Rattle.listing.proofs.letter_field.Statement.{statement}
 use Rattle.listing.proofs.letter_field.Tie as tie
 

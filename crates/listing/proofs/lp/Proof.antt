@@ -1,7 +1,8 @@
 -- `listing::lp` meets its contract. Assumes nothing.
+use native.Mathlib.Omega.{arith}
+use borrow.Author.Needs.{needs}
 use Rattle.language.specs.Listing.{lpLine}
 use Rattle.listing.proofs.Writing.{line-then, field-then, line-end}
-use borrow.Author.Needs.{needs}
 use Rattle.listing.proofs.lp.Statement.{statement}
 use Rattle.listing.proofs.lp.Tie as tie
 
@@ -9,28 +10,28 @@ slice-aggregate-put-text : tie.Need-slice-aggregate-put-text
 slice-aggregate-put-text c = search needs
 
 put-text-requires : tie.Need-put-text-requires
-put-text-requires c κs = search needs
+put-text-requires c κs = omega arith
 
 number-field-requires : tie.Need-number-field-requires
-number-field-requires c κs = search needs
+number-field-requires c κs = omega arith
 
 number-field-requires-2 : tie.Need-number-field-requires-2
-number-field-requires-2 c κs = search needs
+number-field-requires-2 c κs = omega arith
 
 number-field-requires-3 : tie.Need-number-field-requires-3
-number-field-requires-3 c κs = search needs
+number-field-requires-3 c κs = omega arith
 
 number-field-requires-4 : tie.Need-number-field-requires-4
-number-field-requires-4 c κs = search needs
+number-field-requires-4 c κs = omega arith
 
 title-field-requires : tie.Need-title-field-requires
-title-field-requires c κs = search needs
+title-field-requires c κs = omega arith
 
 title-field-requires-2 : tie.Need-title-field-requires-2
-title-field-requires-2 c κs = search needs
+title-field-requires-2 c κs = omega arith
 
 put-requires : tie.Need-put-requires
-put-requires c κs = search needs
+put-requires c κs = omega arith
 
 same-length : tie.Need-same-length
 same-length c = search needs

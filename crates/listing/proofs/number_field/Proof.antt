@@ -1,7 +1,7 @@
 -- `listing::number_field` meets its contract. Assumes nothing.
 use native.Mathlib.Omega.{arith}
-use Rattle.listing.proofs.Showing.{natural-read, natural-none}
 use borrow.Author.Needs.{needs}
+use Rattle.listing.proofs.Showing.{natural-read, natural-none}
 use Rattle.listing.proofs.number_field.Statement.{statement}
 use Rattle.listing.proofs.number_field.Tie as tie
 

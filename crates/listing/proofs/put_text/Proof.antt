@@ -1,11 +1,11 @@
 -- `listing::put_text` meets its contract. Assumes nothing.
-use mathlib.Core.Path.{_≡_, refl}
+use mathlib.Core.Path.{_≡_}
+use Prim.Native.Nat.{_+_, _-_, _≤_}
 use native.Mathlib.Omega.{arith}
 use borrow.Author.Needs.{needs}
-use Prim.Native.Nat.{_+_, _-_, _≤_}
 use lib.ListN.{length, drop}
-use Rattle.listing.proofs.Writing.{Left, left-all, text-more, text-end}
 use Rattle.value.proofs.Writing.{written-length}
+use Rattle.listing.proofs.Writing.{Left, left-all, text-more, text-end}
 use Rattle.listing.proofs.put_text.Statement.{statement}
 use Rattle.listing.proofs.put_text.Tie as tie
 

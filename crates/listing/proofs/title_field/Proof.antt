@@ -1,7 +1,7 @@
 -- `listing::title_field` meets its contract. Assumes nothing.
 use native.Mathlib.Omega.{arith}
-use Rattle.listing.proofs.Showing.{cut-most, cut-is}
 use borrow.Author.Needs.{needs}
+use Rattle.listing.proofs.Showing.{cut-most, cut-is}
 use Rattle.listing.proofs.title_field.Statement.{statement}
 use Rattle.listing.proofs.title_field.Tie as tie
 

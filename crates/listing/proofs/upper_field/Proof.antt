@@ -1,7 +1,7 @@
 -- `listing::upper_field` meets its contract. Assumes nothing.
 use native.Mathlib.Omega.{arith}
-use Rattle.listing.proofs.Showing.{upper-none, upper-at}
 use borrow.Author.Needs.{needs}
+use Rattle.listing.proofs.Showing.{upper-none, upper-at}
 use Rattle.listing.proofs.upper_field.Statement.{statement}
 use Rattle.listing.proofs.upper_field.Tie as tie
 

@@ -1,8 +1,8 @@
 -- `listing::value_field` meets its contract. Assumes nothing.
 use native.Mathlib.Omega.{arith}
-use Rattle.listing.proofs.Writing.{tab-then, written-from}
-use Rattle.listing.proofs.Showing.{shown-most}
 use borrow.Author.Needs.{needs}
+use Rattle.listing.proofs.Showing.{shown-most}
+use Rattle.listing.proofs.Writing.{tab-then, written-from}
 use Rattle.listing.proofs.value_field.Statement.{statement}
 use Rattle.listing.proofs.value_field.Tie as tie
 

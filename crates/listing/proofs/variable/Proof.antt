@@ -1,8 +1,8 @@
 -- `listing::variable` meets its contract. Assumes nothing.
 use native.Mathlib.Omega.{arith}
+use borrow.Author.Needs.{needs}
 use Rattle.language.specs.Listing.{varLine}
 use Rattle.listing.proofs.Writing.{line-then, field-then}
-use borrow.Author.Needs.{needs}
 use Rattle.listing.proofs.variable.Statement.{statement}
 use Rattle.listing.proofs.variable.Tie as tie
 
@@ -10,25 +10,25 @@ slice-aggregate-put-text : tie.Need-slice-aggregate-put-text
 slice-aggregate-put-text c = search needs
 
 put-text-requires : tie.Need-put-text-requires
-put-text-requires c κs = search needs
+put-text-requires c κs = omega arith
 
 number-field-requires : tie.Need-number-field-requires
-number-field-requires c κs = search needs
+number-field-requires c κs = omega arith
 
 letter-requires : tie.Need-letter-requires
-letter-requires c κs = search needs
+letter-requires c κs = omega arith
 
 letter-field-requires : tie.Need-letter-field-requires
-letter-field-requires c κs = search needs
+letter-field-requires c κs = omega arith
 
 value-field-requires : tie.Need-value-field-requires
-value-field-requires c κs = search needs
+value-field-requires c κs = omega arith
 
 upper-field-requires : tie.Need-upper-field-requires
-upper-field-requires c κs = search needs
+upper-field-requires c κs = omega arith
 
 text-field-requires : tie.Need-text-field-requires
-text-field-requires c κs = search needs
+text-field-requires c κs = omega arith
 
 element-fields-requires : tie.Need-element-fields-requires
 element-fields-requires c κs = omega arith

@@ -1,7 +1,7 @@
 -- `listing::whole_field` meets its contract. Assumes nothing.
+use borrow.Author.Needs.{needs}
 use mir.Facts.{toZ-ofZ}
 use Rattle.listing.proofs.Showing.{whole-is}
-use borrow.Author.Needs.{needs}
 use Rattle.listing.proofs.whole_field.Statement.{statement}
 use Rattle.listing.proofs.whole_field.Tie as tie
 
