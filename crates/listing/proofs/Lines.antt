@@ -33,11 +33,11 @@ upper-shown (some v) h = shown-valid v h
 
 fields-shown : (k : Line) → Proper k → shownFields k ≡ fieldsOf k
 fields-shown (lpLine a b c d s t) h =
-    rw (natural-shown a (h .discrete .most), natural-shown b (h .variables .most), natural-shown c (h .less .most), natural-shown d (h .rows .most))
-fields-shown (rowLine n q v s e) h = rw (natural-shown n (h .number .most), shown-valid v (h .right), wholes-shown e (h .element))
+    cc (natural-shown a (h .discrete .most), natural-shown b (h .variables .most), natural-shown c (h .less .most), natural-shown d (h .rows .most))
+fields-shown (rowLine n q v s e) h = cc (natural-shown n (h .number .most), shown-valid v (h .right), wholes-shown e (h .element))
 fields-shown (varLine n d l u s e) h =
-    rw (natural-shown n (h .number .most), shown-valid l (h .lower), upper-shown u (h .upper), wholes-shown e (h .element))
-fields-shown (colLine j i v) h = rw (natural-shown j (h .variable .most), natural-shown i (h .row .most), shown-valid v (h .coefficient))
+    cc (natural-shown n (h .number .most), shown-valid l (h .lower), upper-shown u (h .upper), wholes-shown e (h .element))
+fields-shown (colLine j i v) h = cc (natural-shown j (h .variable .most), natural-shown i (h .row .most), shown-valid v (h .coefficient))
 fields-shown endLine h = refl
 
 pub line-shown : (k : Line) → Proper k → shownLine k ≡ bytesOf k

@@ -19,7 +19,8 @@ pub enum Upper {
     At(value::Value),
 }
 
-// ---- bytes at a place, which may lie past the output's end
+// ---- bytes at a place, which may lie past the output's end. No place overflows: a text is shorter than 2^63 bytes, and what
+// stands before and after it in a line is short
 
 // Writes b at a place, or past the end nothing; the next place.
 fn put(out: &mut [u8], at: usize, b: u8) -> usize
@@ -46,7 +47,7 @@ fn put_text(out: &mut [u8], at: usize, t: &[u8]) -> usize
     next
 }
 
-// Where the rest of an output of n bytes begins that is lent from a place on: there, or at the end where that lies past it.
+// Where the rest of an output of n bytes begins that is lent from a place on: at that place, or past the end at the end.
 pub fn rest_from(n: usize, at: usize) -> usize
     ensures { λ r. ⌜ r ≡ min at n ⌝ }
 {
@@ -66,9 +67,9 @@ fn text_field(out: &mut [u8], at: usize, t: &[u8]) -> usize
     put_text(out, next, t)
 }
 
-// A string of the first line, which has two: each is cut at the length of the longest text.
+// A string of the first line, which has two: so that their sum fits, each is cut at the length of the longest text.
 fn title_field(out: &mut [u8], at: usize, t: &[u8]) -> usize
-    requires { ⌜ at < 2 ^ 30 ⌝ }
+    requires { ⌜ at < 2 ^ 31 ⌝ }
     ensures { λ r. ⌜ (Written (now (out .entry)) at (9 ∷ take byteLimit (now (t .entry))) r (now (out .exit))) × (r ≤ at + 16385) ⌝ }
 {
     text_field(out, at, lexer::part(t, 0, rules::BYTE_LIMIT))
