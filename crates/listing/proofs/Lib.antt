@@ -1,0 +1,4 @@
+pub mod Writing
+pub mod Showing
+pub mod Lines
+pub mod Lengths

@@ -1,0 +1,36 @@
+-- What the writers write of any line: its bytes, with nothing for a number or a value that is out of range. Of a proper line
+-- these are the definition's bytes (`proofs/Lines.antt`). Assumes nothing.
+use mathlib.Core.Bool.{cond}
+use mathlib.Core.Option.{Option, none, some}
+use mathlib.Core.List.{List, [], _∷_, _++_, map}
+use Prim.Native.Nat.{ℕ}
+use lib.IntN.{ℤ, pos}
+use Rattle.value.specs.declared.Value.{Value}
+use Rattle.value.specs.Decimal.{ofWhole}
+use Rattle.value.specs.Printed.{shown}
+use Rattle.language.specs.Listing.{Line, lpLine, rowLine, varLine, colLine, endLine, fields}
+use Rattle.language.proofs.Parts.{wordOf}
+
+unfoldable pub shownWhole : ℤ → List ℕ
+shownWhole k = shown (ofWhole k)
+
+unfoldable pub shownNatural : ℕ → List ℕ
+shownNatural n = shownWhole (pos n)
+
+unfoldable pub shownUpper : Option Value → List ℕ
+shownUpper none = 105 ∷ 110 ∷ 102 ∷ []  -- inf
+shownUpper (some v) = shown v
+
+abbrev pub shownFields : Line → List (List ℕ)
+shownFields (lpLine a b c d s t) = shownNatural a ∷ shownNatural b ∷ shownNatural c ∷ shownNatural d ∷ s ∷ t ∷ []
+shownFields (rowLine n q v s e) = shownNatural n ∷ (cond q 69 76 ∷ []) ∷ shown v ∷ s ∷ map shownWhole e  -- E or L
+shownFields (varLine n d l u s e) = shownNatural n ∷ (cond d 68 67 ∷ []) ∷ shown l ∷ shownUpper u ∷ s ∷ map shownWhole e  -- D or C
+shownFields (colLine j i v) = shownNatural j ∷ shownNatural i ∷ shown v ∷ []
+shownFields endLine = []
+
+unfoldable pub shownLine : Line → List ℕ
+shownLine l = wordOf l ++ fields (shownFields l)
+
+unfoldable pub shownLines : List Line → List ℕ
+shownLines [] = []
+shownLines (l ∷ ls) = shownLine l ++ shownLines ls
