@@ -13,8 +13,9 @@ use Rattle.value.specs.declared.Value.{Value}
 use Rattle.value.specs.Printed.{printedWhole, Written}
 use Rattle.value.proofs.Writing.{written-none, written-then, shown-valid}
 use Rattle.language.specs.Listing.{Line, lpLine, rowLine, varLine, colLine, endLine, fields, upperField, bytesOf, bytesOfAll}
-use Rattle.language.specs.Proper.{Each, SmallIndex, ValidUpper, Proper}
-use Rattle.language.proofs.Each.{each-head, each-tail}
+use Rattle.language.specs.All.{All}
+use Rattle.language.specs.Valid.{SmallElement, ValidUpper}
+use Rattle.language.specs.Proper.{Proper}
 use Rattle.language.proofs.Parts.{wordOf, fieldsOf, bytes-parts}
 use Rattle.listing.specs.Shown.{shownWhole, shownUpper, shownFields, shownLine, shownLines}
 use Rattle.listing.proofs.Writing.{Left, left-more, written-from}
@@ -22,9 +23,9 @@ use Rattle.listing.proofs.Showing.{whole-shown, natural-shown}
 
 -- ---- proper lines
 
-wholes-shown : (e : List ℤ) → Each SmallIndex e → map shownWhole e ≡ map printedWhole e
+wholes-shown : (e : List ℤ) → SmallElement e → map shownWhole e ≡ map printedWhole e
 wholes-shown [] h = refl
-wholes-shown (k ∷ e) h = rw (whole-shown k (each-head k e h .most), wholes-shown e (each-tail k e h))
+wholes-shown (k ∷ e) h = rw (whole-shown k (h .0), wholes-shown e (h .1))
 
 upper-shown : (u : Option Value) → ValidUpper u → shownUpper u ≡ upperField u
 unfolding shownUpper upperField
@@ -33,21 +34,21 @@ upper-shown (some v) h = shown-valid v h
 
 fields-shown : (k : Line) → Proper k → shownFields k ≡ fieldsOf k
 fields-shown (lpLine a b c d s t) h =
-    cc (natural-shown a (h .discrete .most), natural-shown b (h .variables .most), natural-shown c (h .less .most), natural-shown d (h .rows .most))
-fields-shown (rowLine n q v s e) h = cc (natural-shown n (h .number .most), shown-valid v (h .right), wholes-shown e (h .element))
+    cc (natural-shown a (h .discrete), natural-shown b (h .variables), natural-shown c (h .less), natural-shown d (h .rows))
+fields-shown (rowLine n q v s e) h = cc (natural-shown n (h .number), shown-valid v (h .right), wholes-shown e (h .element))
 fields-shown (varLine n d l u s e) h =
-    cc (natural-shown n (h .number .most), shown-valid l (h .lower), upper-shown u (h .upper), wholes-shown e (h .element))
-fields-shown (colLine j i v) h = cc (natural-shown j (h .variable .most), natural-shown i (h .row .most), shown-valid v (h .coefficient))
+    cc (natural-shown n (h .number), shown-valid l (h .lower), upper-shown u (h .upper), wholes-shown e (h .element))
+fields-shown (colLine j i v) h = cc (natural-shown j (h .variable), natural-shown i (h .row), shown-valid v (h .coefficient))
 fields-shown endLine h = refl
 
 pub line-shown : (k : Line) → Proper k → shownLine k ≡ bytesOf k
 unfolding shownLine
 line-shown k h = ap (λ fs. wordOf k ++ fields fs) (fields-shown k h) ∙ sym (bytes-parts k)
 
-pub lines-shown : (ks : List Line) → Each Proper ks → shownLines ks ≡ bytesOfAll ks
+pub lines-shown : (ks : List Line) → All Proper ks → shownLines ks ≡ bytesOfAll ks
 unfolding shownLines bytesOfAll
 lines-shown [] h = refl
-lines-shown (k ∷ ks) h = rw (line-shown k (each-head k ks h), lines-shown ks (each-tail k ks h))
+lines-shown (k ∷ ks) h = rw (line-shown k (h .0), lines-shown ks (h .1))
 
 -- ---- line after line
 
