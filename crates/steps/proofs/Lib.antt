@@ -1,1 +1,3 @@
 pub mod Scopes
+pub mod Passed
+pub mod Numbers

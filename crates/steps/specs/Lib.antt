@@ -1,1 +1,3 @@
 pub mod Scopes
+pub mod Passing
+pub mod Names
