@@ -23,12 +23,12 @@ use Rattle.tokens.specs.Stored.{kindPart, placePart, payloadPart, nameBytes, sp
 use Rattle.tokens.proofs.Tables.{view-here, view-end, Declared, declared, not-declared}
 use Rattle.tokens.proofs.Moved.{next-is}
 use Rattle.walk.specs.Walk.{skip, usedNumber, nameNumber, walkHead}
-use Rattle.steps.specs.declared.names.Visible.{Visible}
-use Rattle.steps.specs.declared.names.Visible.the-variants as visible
+use Rattle.steps.specs.declared.names.Listed.{Listed}
+use Rattle.steps.specs.declared.names.Listed.the-variants as listed
 use Rattle.steps.specs.declared.names.Headed.{Headed}
 use Rattle.steps.specs.declared.names.Headed.the-variants.{Index, Refused}
 use Rattle.steps.specs.Passing.{Skips}
-use Rattle.steps.specs.Names.{numberPart, numberFound, wordSpelling, Resolved, numberKept, resolvedWord, Resolves, rowWord, visibleOf, numberBelow, indexNumber, headOutcome, Heads}
+use Rattle.steps.specs.Names.{numberPart, numberFound, wordSpelling, Resolved, numberKept, resolvedWord, Resolves, rowWord, listedOf, numberBelow, indexNumber, headOutcome, Heads}
 
 -- ---- a number in a word
 
@@ -214,22 +214,14 @@ row-past ns i f h = sym (List·getD-eq-default ns 0 {n = i * 5 + f} h)
 pub row-beyond : (ns : List ℕ) (i f : ℕ) → length ns ≤ i → 0 ≡ rowWord ns i f
 row-beyond ns i f h = row-past ns i f (omega arith)
 
-module _ (ns : List ℕ) (level n x : ℕ) (h : n ≡ x) where
-  pub visible-none : n ≡ 0 → visible.Nothing ≡ visibleOf ns level x
-  unfolding visibleOf
-  visible-none e = rw (← h, e) refl
+module _ (ns : List ℕ) (n x : ℕ) (h : n ≡ x) where
+  pub listed-none : n ≡ 0 → listed.Nothing ≡ listedOf ns x
+  unfolding listedOf
+  listed-none e = rw (← h, e) refl
 
-  visible-at : (n ≡ 0 → ⊥) → visibleOf ns level x ≡ visibleOf ns level (suc (n - 1))
-  visible-at z = let e : suc (n - 1) ≡ x = omega arith in rw e refl
-
-  pub visible-late : (n ≡ 0 → ⊥) → level ≤ n - 1 → visible.Nothing ≡ visibleOf ns level x
-  unfolding visibleOf
-  visible-late z l = sym (visible-at z ∙ rw (le-ltb (n - 1) level l) refl)
-
-  pub visible-name : (n ≡ 0 → ⊥) → n - 1 < level → (k c q : ℕ) → k ≡ rowWord ns (n - 1) 2 → c ≡ rowWord ns (n - 1) 3 → q ≡ rowWord ns (n - 1) 4
-      → visible.Name (n - 1) k c q ≡ visibleOf ns level x
-  unfolding visibleOf
-  visible-name z l k c q e f g = sym (visible-at z ∙ rw (lt-ltb (n - 1) level l, e, f, g) refl)
+  pub listed-name : (n ≡ 0 → ⊥) → (k c q : ℕ) → k ≡ rowWord ns (n - 1) 2 → c ≡ rowWord ns (n - 1) 3 → q ≡ rowWord ns (n - 1) 4 → listed.Name (n - 1) k c q ≡ listedOf ns x
+  unfolding listedOf
+  listed-name z k c q e f g = let d : suc (n - 1) ≡ x = omega arith in rw (← d, e, f, g) refl
 
 -- ---- the number of an index
 
@@ -356,39 +348,38 @@ row-shaped s (a ∷ b ∷ k ∷ c ∷ q ∷ ns) (y ∷ ys) (suc i) x h e =
 used-is : (u : Used) (n : ℕ) (x : Sort) (p : ℕ) → u .number ≡ n → u .sort ≡ x → u .place ≡ p → u ≡ record { number = n; sort = x; place = p }
 used-is u n x p e f g = rw (← e, ← f, ← g) refl
 
--- a visible name: which one it is, and that it is found
-pub record Known (l : List ℕ) (names : List Name) (level p i : ℕ) : Type 0 where
+-- a name of the table: which one it is, and where it is found
+pub record Known (l : List ℕ) (names : List Name) (p i : ℕ) : Type 0 where
   pub name : Name
   pub stands : getElem? names i ≡ some name
-  pub found : find l (take level names) 0 p ≡ some (record { number = i; sort = name .sort; place = p })
+  pub found : (level : ℕ) → i < level → find l (take level names) 0 p ≡ some (record { number = i; sort = name .sort; place = p })
+  pub late : (level : ℕ) → level ≤ i → find l (take level names) 0 p ≡ none
 
-module _ (s l ns : List ℕ) (names : List Name) (level p : ℕ) (d : Named s ns names) where
-  told-none : 0 ≡ numberFound (lookUp s l ns 0) → find l (take level names) 0 p ≡ none
-  told-none e = go (lookUp s l ns 0) refl e
+module _ (s l ns : List ℕ) (names : List Name) (p : ℕ) (d : Named s ns names) where
+  told-none : 0 ≡ numberFound (lookUp s l ns 0) → (level : ℕ) → find l (take level names) 0 p ≡ none
+  told-none e level = go (lookUp s l ns 0) refl e
     where
       go : (f : Found) → lookUp s l ns 0 ≡ f → 0 ≡ numberFound f → find l (take level names) 0 p ≡ none
       go (found.Name i k c) h e = absurd (omega arith)
       go found.Nothing h e = found-none l p names 0 level (not-declared s l ns names 0 p d h)
 
-  module _ (i : ℕ) (e : suc i ≡ numberFound (lookUp s l ns 0)) where
-    -- the name in the whole table
-    told-used : (u : Used) × (find l names 0 p ≡ some u) × (u .number ≡ i) × (u .place ≡ p)
-    told-used = go (lookUp s l ns 0) refl e
-      where
-        go : (f : Found) → lookUp s l ns 0 ≡ f → suc i ≡ numberFound f → (u : Used) × (find l names 0 p ≡ some u) × (u .number ≡ i) × (u .place ≡ p)
-        go (found.Name j k c) h e = let r = declared s l ns names 0 p j k c d h in (r .used, r .stands, omega (arith, r .numbered), r .placed)
-        go found.Nothing h e = absurd (omega arith)
-
-    told-late : level ≤ i → find l (take level names) 0 p ≡ none
-    told-late h = let (u, f, n, q) = told-used in found-late l p names 0 level u f (omega arith)
-
-    told-known : i < level → Known l names level p i
-    told-known h =
-        let (u, f, n, q) = told-used in
-        let r = found-numbered l p names 0 u f in
-        let j : i ≡ r .ahead = omega (arith, r .numbered) in
-        let g = used-is u i (r .name .sort) p n (r .sorted) q in
-        record { name = r .name; stands = subst (λ m. getElem? names m ≡ some (r .name)) (sym j) (r .stands); found = found-first l p names 0 level u f (omega arith) ∙ ap some g }
+  told-known : (i : ℕ) → suc i ≡ numberFound (lookUp s l ns 0) → Known l names p i
+  told-known i e = go (lookUp s l ns 0) refl e
+    where
+      go : (f : Found) → lookUp s l ns 0 ≡ f → suc i ≡ numberFound f → Known l names p i
+      go (found.Name j k c) h e =
+          let u = declared s l ns names 0 p j k c d h in
+          let n : u .used .number ≡ i = omega (arith, u .numbered) in
+          let r = found-numbered l p names 0 (u .used) (u .stands) in
+          let m : i ≡ r .ahead = omega (arith, r .numbered) in
+          let g = used-is (u .used) i (r .name .sort) p n (r .sorted) (u .placed) in
+          record {
+            name = r .name;
+            stands = subst (λ m. getElem? names m ≡ some (r .name)) (sym m) (r .stands);
+            found = λ level b. found-first l p names 0 level (u .used) (u .stands) (omega arith) ∙ ap some g;
+            late = λ level b. found-late l p names 0 level (u .used) (u .stands) (omega arith);
+          }
+      go found.Nothing h e = absurd (omega arith)
 
 kind-name : (s : List ℕ) (k p x : ℕ) (l : List ℕ) → kindOf s k p x ≡ Text.name l → (k ≡ 1) × (spelling s p (nameBytes x) ≡ l)
 unfolding kindOf
@@ -410,9 +401,9 @@ seen-word s ts at k p x a h = go (ltb at (length ts)) refl
     go true e = let b = ltb-true at (length ts) e in let v = view-here s ts at b in (b, cc (h .1))
     go false e = absurd (let v = view-end s ts at (ltb-false at (length ts) e) in let z : _≡_ {A = ℕ} 0 1 = cc (h .1) in omega arith)
 
-module _ (s ns ts : List ℕ) (names : List Name) (level : ℕ) (d : Named s ns names) (r : Resolved s ns ts) where
+module _ (s ns ts : List ℕ) (names : List Name) (d : Named s ns names) (r : Resolved s ns ts) where
   -- of a name token
-  module _ (at k p x a : ℕ) (t : Seen) (h : Looks ts at t) (e : t ≡ seen.Token k p x a) (one : k ≡ 1) (v : Visible) (g : v ≡ visibleOf ns level (numberPart (getD ts at 0))) where
+  module _ (at k p x a : ℕ) (t : Seen) (h : Looks ts at t) (e : t ≡ seen.Token k p x a) (one : k ≡ 1) (v : Listed) (g : v ≡ listedOf ns (numberPart (getD ts at 0))) where
     spelled : numberPart (getD ts at 0) ≡ numberFound (lookUp s (spelling s p (nameBytes x)) ns 0)
     unfolding token kindOf
     spelled =
@@ -422,43 +413,44 @@ module _ (s ns ts : List ℕ) (names : List Name) (level : ℕ) (d : Named s ns 
         let n = kind-name s (kindPart w) (placePart w) (payloadPart w) (spelling s p (nameBytes x)) (sym (ap (λ (t : Token). t .kind) f) ∙ rw one refl) in
         r .numbers at b (n .0) ∙ ap (λ l. numberFound (lookUp s l ns 0)) (n .1)
 
-    pub unknown : v ≡ visible.Nothing → find (spelling s p (nameBytes x)) (take level names) 0 p ≡ none
-    unfolding visibleOf
-    unknown f = go (numberPart (getD ts at 0)) spelled (sym g ∙ f)
+    pub unknown : v ≡ listed.Nothing → (level : ℕ) → find (spelling s p (nameBytes x)) (take level names) 0 p ≡ none
+    unfolding listedOf
+    unknown f level = go (numberPart (getD ts at 0)) spelled (sym g ∙ f)
       where
-        go : (n : ℕ) → n ≡ numberFound (lookUp s (spelling s p (nameBytes x)) ns 0) → visibleOf ns level n ≡ visible.Nothing → find (spelling s p (nameBytes x)) (take level names) 0 p ≡ none
-        go zero n f = told-none s (spelling s p (nameBytes x)) ns names level p d n
-        go (suc i) n f = pick (ltb i level) refl f
-          where
-            pick : (b : Bool) → ltb i level ≡ b → cond b (visible.Name i (rowWord ns i 2) (rowWord ns i 3) (rowWord ns i 4)) visible.Nothing ≡ visible.Nothing → find (spelling s p (nameBytes x)) (take level names) 0 p ≡ none
-            pick true b f = absurd (let z : _≡_ {A = ℕ} 0 1 = cc in omega arith)
-            pick false b f = told-late s (spelling s p (nameBytes x)) ns names level p d i n (ltb-false i level b)
+        go : (n : ℕ) → n ≡ numberFound (lookUp s (spelling s p (nameBytes x)) ns 0) → listedOf ns n ≡ listed.Nothing → find (spelling s p (nameBytes x)) (take level names) 0 p ≡ none
+        go zero n f = told-none s (spelling s p (nameBytes x)) ns names p d n level
+        go (suc i) n f = absurd (let z : _≡_ {A = ℕ} 0 1 = cc in omega arith)
 
-    pub known : (i j c q : ℕ) → v ≡ visible.Name i j c q → Known (spelling s p (nameBytes x)) names level p i
-    unfolding visibleOf
+    pub known : (i j c q : ℕ) → v ≡ listed.Name i j c q → Known (spelling s p (nameBytes x)) names p i
+    unfolding listedOf
     known i j c q f = go (numberPart (getD ts at 0)) spelled (sym g ∙ f)
       where
-        go : (n : ℕ) → n ≡ numberFound (lookUp s (spelling s p (nameBytes x)) ns 0) → visibleOf ns level n ≡ visible.Name i j c q → Known (spelling s p (nameBytes x)) names level p i
+        go : (n : ℕ) → n ≡ numberFound (lookUp s (spelling s p (nameBytes x)) ns 0) → listedOf ns n ≡ listed.Name i j c q → Known (spelling s p (nameBytes x)) names p i
         go zero n f = absurd (let z : _≡_ {A = ℕ} 0 1 = cc in omega arith)
-        go (suc m) n f = pick (ltb m level) refl f
-          where
-            pick : (b : Bool) → ltb m level ≡ b → cond b (visible.Name m (rowWord ns m 2) (rowWord ns m 3) (rowWord ns m 4)) visible.Nothing ≡ visible.Name i j c q → Known (spelling s p (nameBytes x)) names level p i
-            pick true b f = let e : m ≡ i = cc in subst (Known (spelling s p (nameBytes x)) names level p) e (told-known s (spelling s p (nameBytes x)) ns names level p d m n (ltb-true m level b))
-            pick false b f = absurd (let z : _≡_ {A = ℕ} 0 1 = cc in omega arith)
+        go (suc m) n f = let e : m ≡ i = cc in subst (Known (spelling s p (nameBytes x)) names p) e (told-known s (spelling s p (nameBytes x)) ns names p d m n)
+
+    -- its row
+    pub row-of : (i j c q : ℕ) → v ≡ listed.Name i j c q → (j ≡ rowWord ns i 2) × (c ≡ rowWord ns i 3) × (q ≡ rowWord ns i 4)
+    unfolding listedOf
+    row-of i j c q f = go (numberPart (getD ts at 0)) (sym g ∙ f)
+      where
+        go : (n : ℕ) → listedOf ns n ≡ listed.Name i j c q → (j ≡ rowWord ns i 2) × (c ≡ rowWord ns i 3) × (q ≡ rowWord ns i 4)
+        go zero f = absurd (let z : _≡_ {A = ℕ} 0 1 = cc in omega arith)
+        go (suc m) f = let e : m ≡ i = cc in rw (← e) (cc, cc, cc)
 
   -- an index's number, of any token
-  word-index : (w : ℕ) → (kindPart w ≡ 1 → numberPart w ≡ numberFound (lookUp s (wordSpelling s w) ns 0))
+  word-index : (level w : ℕ) → (kindPart w ≡ 1 → numberPart w ≡ numberFound (lookUp s (wordSpelling s w) ns 0))
       → nameNumber (take level names) (kindOf s (kindPart w) (placePart w) (payloadPart w)) ≡ indexNumber level w
   unfolding nameNumber kindOf indexNumber numberBelow
-  word-index w h = go (kindPart w) h
+  word-index level w h = go (kindPart w) h
     where
       by : (n : ℕ) → n ≡ numberFound (lookUp s (wordSpelling s w) ns 0) → usedNumber (find (wordSpelling s w) (take level names) 0 0) ≡ numberBelow level n
-      by zero e = rw (told-none s (wordSpelling s w) ns names level 0 d e) refl
+      by zero e = rw (told-none s (wordSpelling s w) ns names 0 d e level) refl
       by (suc i) e = pick (ltb i level) refl
         where
           pick : (b : Bool) → ltb i level ≡ b → usedNumber (find (wordSpelling s w) (take level names) 0 0) ≡ numberBelow level (suc i)
-          pick true b = rw (told-known s (wordSpelling s w) ns names level 0 d i e (ltb-true i level b) .found, b) refl
-          pick false b = rw (told-late s (wordSpelling s w) ns names level 0 d i e (ltb-false i level b), b) refl
+          pick true b = rw (told-known s (wordSpelling s w) ns names 0 d i e .found level (ltb-true i level b), b) refl
+          pick false b = rw (told-known s (wordSpelling s w) ns names 0 d i e .late level (ltb-false i level b), b) refl
 
       go : (k : ℕ) → (k ≡ 1 → numberPart w ≡ numberFound (lookUp s (wordSpelling s w) ns 0))
           → nameNumber (take level names) (kindOf s k (placePart w) (payloadPart w)) ≡ cond (eqb k 1) (numberBelow level (numberPart w)) 0
@@ -470,11 +462,11 @@ module _ (s ns ts : List ℕ) (names : List Name) (level : ℕ) (d : Named s ns 
       go (suc (suc (suc (suc (suc zero))))) h = refl
       go (suc (suc (suc (suc (suc (suc k)))))) h = rw (ne-eqb (suc (suc (suc (suc (suc (suc k)))))) 1 (λ e. omega arith)) refl
 
-  pub index-of : (at k p x a : ℕ) → Sees s ts at (seen.Token k p x a) → nameNumber (take level names) (token s k p x .kind) ≡ indexNumber level (getD ts at 0)
+  pub index-of : (level at k p x a : ℕ) → Sees s ts at (seen.Token k p x a) → nameNumber (take level names) (token s k p x .kind) ≡ indexNumber level (getD ts at 0)
   unfolding token
-  index-of at k p x a h =
+  index-of level at k p x a h =
       let (b, f) = seen-word s ts at k p x a h in
-      ap (λ (t : Token). nameNumber (take level names) (t .kind)) f ∙ word-index (getD ts at 0) (r .numbers at b)
+      ap (λ (t : Token). nameNumber (take level names) (t .kind)) f ∙ word-index level (getD ts at 0) (r .numbers at b)
 
 -- ---- `(`, an index and a comma
 
@@ -489,5 +481,5 @@ module _ (ts : List ℕ) (level at a : ℕ) (t : Seen) (f : Skips ts at a) (h : 
       record {
         is = λ s ns names d r.
             let v = subst (Sees s ts a) e (h .sees s) in
-            rw (f .is s, next-is s ts a k p x b v, g .is s, index-of s ns ts names level d r a k p x b v, j) refl;
+            rw (f .is s, next-is s ts a k p x b v, g .is s, index-of s ns ts names d r level a k p x b v, j) refl;
       }

@@ -13,8 +13,8 @@ use Rattle.tokens.specs.declared.Found.{Found}
 use Rattle.tokens.specs.declared.Found.the-variants as found
 use Rattle.tokens.specs.Stored.{kindPart, placePart, payloadPart, nameBytes, spelling, from, lookUp, Named}
 use Rattle.walk.specs.Walk.{walkHead}
-use Rattle.steps.specs.declared.names.Visible.{Visible}
-use Rattle.steps.specs.declared.names.Visible.the-variants as visible
+use Rattle.steps.specs.declared.names.Listed.{Listed}
+use Rattle.steps.specs.declared.names.Listed.the-variants as listed
 use Rattle.steps.specs.declared.names.Headed.{Headed}
 use Rattle.steps.specs.declared.names.Headed.the-variants.{Index, Refused}
 
@@ -56,11 +56,12 @@ pub record Resolves (s ns ts ts′ : List ℕ) : Type 0 where
 unfoldable pub rowWord : List ℕ → ℕ → ℕ → ℕ
 rowWord ns i f = getD ns (i * 5 + f) 0
 
--- the name of a number, if it is among the first `level`
-unfoldable pub visibleOf : List ℕ → ℕ → ℕ → Visible
-visibleOf ns level zero = visible.Nothing
-visibleOf ns level (suc i) = cond (ltb i level) (visible.Name i (rowWord ns i 2) (rowWord ns i 3) (rowWord ns i 4)) visible.Nothing
+-- the name of the number that a token holds
+unfoldable pub listedOf : List ℕ → ℕ → Listed
+listedOf ns zero = listed.Nothing
+listedOf ns (suc i) = listed.Name i (rowWord ns i 2) (rowWord ns i 3) (rowWord ns i 4)
 
+-- its number alone, if it is among the first `level`
 unfoldable pub numberBelow : ℕ → ℕ → ℕ
 numberBelow level zero = 0
 numberBelow level (suc i) = cond (ltb i level) i 0

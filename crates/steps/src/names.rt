@@ -6,10 +6,10 @@ use tokens::kinds;
 ghost use mathlib.Core.Path.{_≡_};
 ghost use Prim.Native.Nat.{_<_, _≤_};
 ghost use lib.ListN.{getD};
-ghost use Rattle.steps.specs.Names.{numberKept, resolvedWord, Resolves, numberPart, rowWord, visibleOf, indexNumber, Heads};
+ghost use Rattle.steps.specs.Names.{numberKept, resolvedWord, Resolves, numberPart, rowWord, listedOf, indexNumber, Heads};
 
-// A visible name: its number, sort, number of indices, and the position of what was declared.
-pub enum Visible {
+// A name that the table tells of: its number, sort, number of indices, and the position of what was declared.
+pub enum Listed {
     Name(usize, u64, u64, usize),
     Nothing,
 }
@@ -85,22 +85,19 @@ fn word_of(names: &[u64], i: usize, f: usize) -> u64
     0
 }
 
-// The name at a position, if it is among the first `level`.
-pub fn name_at(names: &[u64], tokens: &[u64], level: usize, at: usize) -> Visible
-    ensures { λ r. ⌜ r ≡ visibleOf (now (names .entry)) level (numberPart (getD (now (tokens .entry)) at 0)) ⌝ }
+// The name at a position.
+pub fn name_at(names: &[u64], tokens: &[u64], at: usize) -> Listed
+    ensures { λ r. ⌜ r ≡ listedOf (now (names .entry)) (numberPart (getD (now (tokens .entry)) at 0)) ⌝ }
 {
     let n = number_at(tokens, at);
     if n == 0 {
-        return Visible::Nothing;
+        return Listed::Nothing;
     }
     let i = (n - 1) as usize;
-    if level <= i {
-        return Visible::Nothing;
-    }
     let sort = word_of(names, i, 2);
     let count = word_of(names, i, 3);
     let start = word_of(names, i, 4) as usize;
-    Visible::Name(i, sort, count, start)
+    Listed::Name(i, sort, count, start)
 }
 
 // The number of the name at a position, 0 where no visible name stands there.

@@ -1,5 +1,5 @@
 -- `names::name_at` meets its contract. Assumes nothing.
-use Rattle.steps.proofs.Numbers.{visible-none, visible-late, visible-name}
+use Rattle.steps.proofs.Numbers.{listed-none, listed-name}
 use borrow.Author.Needs.{needs}
 use Rattle.steps.proofs.names.name_at.Statement.{statement}
 use Rattle.steps.proofs.names.name_at.Tie as tie
@@ -9,10 +9,9 @@ name-at-spec =
     tie.close
     (tie.spec
     (λ c κs. search needs)  -- number-at-requires
-    (λ c. search visible-none depth 6)  -- returns
+    (λ c. search listed-none depth 6)  -- returns
     (λ c. search needs)  -- sub-i
-    (λ c. search visible-late depth 6)  -- returns-2
     (λ c κs. search needs)  -- word-of-requires
     (λ c κs. search needs)  -- word-of-requires-2
     (λ c κs. search needs)  -- word-of-requires-3
-    (λ c. search visible-name depth 9))  -- returns-3
+    (λ c. search listed-name depth 8))  -- returns-2
