@@ -1,0 +1,6 @@
+pub mod Laws
+pub mod Entries
+pub mod Sums
+pub mod Names
+
+pub mod Primaries
