@@ -4,3 +4,4 @@ pub mod Sums
 pub mod Names
 
 pub mod Primaries
+pub mod Loops
