@@ -5,3 +5,4 @@ pub mod Names
 
 pub mod Primaries
 pub mod Loops
+pub mod Turns
