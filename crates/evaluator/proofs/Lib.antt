@@ -6,3 +6,4 @@ pub mod Names
 pub mod Primaries
 pub mod Loops
 pub mod Turns
+pub mod Lists
