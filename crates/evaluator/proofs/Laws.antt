@@ -277,3 +277,8 @@ module _ (ns ts ds : List ℕ) (given level : ℕ) (sc : Held) where
                 (subst (λ u. summandsIn n tokenLimit u (seenBy w level) (under w sc) (tokensAt w c) ≡ valueOutcome (w .text) ts z) j (k .is w g (subst Valid (sym i) (signed-valid b v y)))));
             valid = λ w g. k .valid w g (subst Valid (sym i) (signed-valid b v (value-valid h f w g)));
           }
+
+  -- a formula that may open as many brackets as a text may
+  pub value-formula : (at : ℕ) (r : Answer) → Values (formulaIn 12) ns ts ds given level sc at r → Values (formulaIn nestingLimit) ns ts ds given level sc at r
+  unfolding nestingLimit
+  value-formula at r h = h

@@ -2,7 +2,6 @@ pub mod Laws
 pub mod Entries
 pub mod Sums
 pub mod Names
-
 pub mod Primaries
 pub mod Loops
 pub mod Turns

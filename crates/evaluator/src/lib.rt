@@ -47,14 +47,40 @@ pub enum Passed {
 }
 
 // A formula's value.
-pub fn value(names: &[u64], tokens: &[u64], table: &[u64], given: usize, level: usize, sc: Scope, at: usize) -> Answer
+pub fn value(
+    names: &[u64],
+    tokens: &[u64],
+    table: &[u64],
+    given: usize,
+    level: usize,
+    sc: Scope,
+    at: usize,
+) -> Answer
     ensures { λ r. ⌜ Values (formulaIn nestingLimit) (now (names .entry)) (now (tokens .entry)) (now (table .entry)) given level sc at r ⌝ }
 {
-    formula(names, tokens, table, given, level, rules::NESTING_LIMIT, sc, at)
+    formula(
+        names,
+        tokens,
+        table,
+        given,
+        level,
+        rules::NESTING_LIMIT,
+        sc,
+        at,
+    )
 }
 
 // Formula: optional sign, then terms joined by `+` or `-`.
-pub fn formula(names: &[u64], tokens: &[u64], table: &[u64], given: usize, level: usize, nest: usize, sc: Scope, at: usize) -> Answer
+pub fn formula(
+    names: &[u64],
+    tokens: &[u64],
+    table: &[u64],
+    given: usize,
+    level: usize,
+    nest: usize,
+    sc: Scope,
+    at: usize,
+) -> Answer
     ensures { λ r. ⌜ Values (formulaIn nest) (now (names .entry)) (now (tokens .entry)) (now (table .entry)) given level sc at r ⌝ }
 {
     let lead = passing::sign(tokens, at);
@@ -72,7 +98,17 @@ pub fn formula(names: &[u64], tokens: &[u64], table: &[u64], given: usize, level
 }
 
 // Terms joined by `+` or `-`, behind the first one, whose value is v.
-fn summands(names: &[u64], tokens: &[u64], table: &[u64], given: usize, level: usize, nest: usize, sc: Scope, at: usize, v: Value) -> Answer
+fn summands(
+    names: &[u64],
+    tokens: &[u64],
+    table: &[u64],
+    given: usize,
+    level: usize,
+    nest: usize,
+    sc: Scope,
+    at: usize,
+    v: Value,
+) -> Answer
     ensures { λ r. ⌜ Continues (summandsIn nest tokenLimit) (now (names .entry)) (now (tokens .entry)) (now (table .entry)) given level sc at v r ⌝ }
 {
     let mut a = at;
@@ -108,7 +144,16 @@ fn summands(names: &[u64], tokens: &[u64], table: &[u64], given: usize, level: u
 }
 
 // Term: primaries joined by `*`.
-fn term(names: &[u64], tokens: &[u64], table: &[u64], given: usize, level: usize, nest: usize, sc: Scope, at: usize) -> Answer
+fn term(
+    names: &[u64],
+    tokens: &[u64],
+    table: &[u64],
+    given: usize,
+    level: usize,
+    nest: usize,
+    sc: Scope,
+    at: usize,
+) -> Answer
     ensures { λ r. ⌜ Values (termIn nest) (now (names .entry)) (now (tokens .entry)) (now (table .entry)) given level sc at r ⌝ }
 {
     let first = primary(names, tokens, table, given, level, nest, sc, at);
@@ -119,7 +164,17 @@ fn term(names: &[u64], tokens: &[u64], table: &[u64], given: usize, level: usize
 }
 
 // Primaries joined by `*`, behind the first one, whose value is v.
-fn factors(names: &[u64], tokens: &[u64], table: &[u64], given: usize, level: usize, nest: usize, sc: Scope, at: usize, v: Value) -> Answer
+fn factors(
+    names: &[u64],
+    tokens: &[u64],
+    table: &[u64],
+    given: usize,
+    level: usize,
+    nest: usize,
+    sc: Scope,
+    at: usize,
+    v: Value,
+) -> Answer
     ensures { λ r. ⌜ Continues (factorsIn nest tokenLimit) (now (names .entry)) (now (tokens .entry)) (now (table .entry)) given level sc at v r ⌝ }
 {
     let mut a = at;
@@ -154,7 +209,16 @@ fn factors(names: &[u64], tokens: &[u64], table: &[u64], given: usize, level: us
 }
 
 // Primary: literal, name, `SUM` or formula in brackets.
-pub fn primary(names: &[u64], tokens: &[u64], table: &[u64], given: usize, level: usize, nest: usize, sc: Scope, at: usize) -> Answer
+pub fn primary(
+    names: &[u64],
+    tokens: &[u64],
+    table: &[u64],
+    given: usize,
+    level: usize,
+    nest: usize,
+    sc: Scope,
+    at: usize,
+) -> Answer
     ensures { λ r. ⌜ Values (primaryIn nest) (now (names .entry)) (now (tokens .entry)) (now (table .entry)) given level sc at r ⌝ }
 {
     let token = tokens::token_at(tokens, at);
@@ -178,7 +242,17 @@ pub fn primary(names: &[u64], tokens: &[u64], table: &[u64], given: usize, level
 }
 
 // `SUM(index, lower, upper, formula)` behind its word, which stands at p.
-fn sum(names: &[u64], tokens: &[u64], table: &[u64], given: usize, level: usize, nest: usize, sc: Scope, at: usize, p: u64) -> Answer
+fn sum(
+    names: &[u64],
+    tokens: &[u64],
+    table: &[u64],
+    given: usize,
+    level: usize,
+    nest: usize,
+    sc: Scope,
+    at: usize,
+    p: u64,
+) -> Answer
     ensures { λ r. ⌜ Values (sumIn nest p) (now (names .entry)) (now (tokens .entry)) (now (table .entry)) given level sc at r ⌝ }
 {
     let head = steps::names::head(tokens, level, at);
@@ -189,7 +263,20 @@ fn sum(names: &[u64], tokens: &[u64], table: &[u64], given: usize, level: usize,
                 Limited::Limits(l, b) => {
                     let run = values::run(sc, l, i, p);
                     match run {
-                        Runs::Count(n) => body(names, tokens, table, given, level, nest, sc, b, i, l, n, p),
+                        Runs::Count(n) => body(
+                            names,
+                            tokens,
+                            table,
+                            given,
+                            level,
+                            nest,
+                            sc,
+                            b,
+                            i,
+                            l,
+                            n,
+                            p,
+                        ),
                         Runs::Refused(m, q) => Answer::Refused(m, q),
                     }
                 }
@@ -201,7 +288,20 @@ fn sum(names: &[u64], tokens: &[u64], table: &[u64], given: usize, level: usize,
 }
 
 // A sum's body, walked anew for each of the n numbers of the run of index i.
-fn body(names: &[u64], tokens: &[u64], table: &[u64], given: usize, level: usize, nest: usize, sc: Scope, at: usize, i: usize, l: Limits, n: usize, p: u64) -> Answer
+fn body(
+    names: &[u64],
+    tokens: &[u64],
+    table: &[u64],
+    given: usize,
+    level: usize,
+    nest: usize,
+    sc: Scope,
+    at: usize,
+    i: usize,
+    l: Limits,
+    n: usize,
+    p: u64,
+) -> Answer
     ensures { λ r. ⌜ BodyIs nest i p (now (names .entry)) (now (tokens .entry)) (now (table .entry)) given level sc at l n r ⌝ }
 {
     let end = passing::behind_bracket(tokens, at);
@@ -224,7 +324,17 @@ fn body(names: &[u64], tokens: &[u64], table: &[u64], given: usize, level: usize
 }
 
 // Two limits, each with the sign behind it; refused at p if not whole.
-pub fn both_limits(names: &[u64], tokens: &[u64], table: &[u64], given: usize, level: usize, nest: usize, sc: Scope, at: usize, p: u64) -> Limited
+pub fn both_limits(
+    names: &[u64],
+    tokens: &[u64],
+    table: &[u64],
+    given: usize,
+    level: usize,
+    nest: usize,
+    sc: Scope,
+    at: usize,
+    p: u64,
+) -> Limited
     ensures { λ r. ⌜ LimitsAre (limitsWalk nest p) (now (names .entry)) (now (tokens .entry)) (now (table .entry)) given level sc at r ⌝ }
 {
     let low = limit(names, tokens, table, given, level, nest, sc, at, p);
@@ -241,7 +351,17 @@ pub fn both_limits(names: &[u64], tokens: &[u64], table: &[u64], given: usize, l
 }
 
 // A limit or a subscript: a formula and the sign behind it; refused at p if not whole.
-fn limit(names: &[u64], tokens: &[u64], table: &[u64], given: usize, level: usize, nest: usize, sc: Scope, at: usize, p: u64) -> Answer
+fn limit(
+    names: &[u64],
+    tokens: &[u64],
+    table: &[u64],
+    given: usize,
+    level: usize,
+    nest: usize,
+    sc: Scope,
+    at: usize,
+    p: u64,
+) -> Answer
     ensures { λ r. ⌜ Wholes (limitIn nest p) (now (names .entry)) (now (tokens .entry)) (now (table .entry)) given level sc at r ⌝ }
 {
     let r = part(names, tokens, table, given, level, nest, sc, at);
@@ -252,7 +372,16 @@ fn limit(names: &[u64], tokens: &[u64], table: &[u64], given: usize, level: usiz
 }
 
 // A formula inside a bracket, and the sign behind it.
-fn part(names: &[u64], tokens: &[u64], table: &[u64], given: usize, level: usize, nest: usize, sc: Scope, at: usize) -> Answer
+fn part(
+    names: &[u64],
+    tokens: &[u64],
+    table: &[u64],
+    given: usize,
+    level: usize,
+    nest: usize,
+    sc: Scope,
+    at: usize,
+) -> Answer
     ensures { λ r. ⌜ Values (partIn nest) (now (names .entry)) (now (tokens .entry)) (now (table .entry)) given level sc at r ⌝ }
 {
     let r = inside(names, tokens, table, given, level, nest, sc, at);
@@ -264,7 +393,16 @@ fn part(names: &[u64], tokens: &[u64], table: &[u64], given: usize, level: usize
 }
 
 // A formula inside one of `nest` brackets; with none it is never read.
-fn inside(names: &[u64], tokens: &[u64], table: &[u64], given: usize, level: usize, nest: usize, sc: Scope, at: usize) -> Answer
+fn inside(
+    names: &[u64],
+    tokens: &[u64],
+    table: &[u64],
+    given: usize,
+    level: usize,
+    nest: usize,
+    sc: Scope,
+    at: usize,
+) -> Answer
     ensures { λ r. ⌜ Values (insideIn nest) (now (names .entry)) (now (tokens .entry)) (now (table .entry)) given level sc at r ⌝ }
 {
     if nest == 0 {
@@ -274,7 +412,18 @@ fn inside(names: &[u64], tokens: &[u64], table: &[u64], given: usize, level: usi
 }
 
 // A primary that is a name, read at p: an index, a declared formula, an integer or a real.
-fn named(names: &[u64], tokens: &[u64], table: &[u64], given: usize, level: usize, nest: usize, sc: Scope, at: usize, name: Listed, p: u64) -> Answer
+fn named(
+    names: &[u64],
+    tokens: &[u64],
+    table: &[u64],
+    given: usize,
+    level: usize,
+    nest: usize,
+    sc: Scope,
+    at: usize,
+    name: Listed,
+    p: u64,
+) -> Answer
     ensures { λ r. ⌜ NamedIs nest p (now (names .entry)) (now (tokens .entry)) (now (table .entry)) given level sc at name r ⌝ }
 {
     match name {
@@ -286,14 +435,36 @@ fn named(names: &[u64], tokens: &[u64], table: &[u64], given: usize, level: usiz
                 return values::index_value(sc, i, p, at);
             }
             if sort == sorts::FORMULA {
-                let r = formula(names, tokens, table, given, i, rules::NESTING_LIMIT, sc, start);
+                let r = formula(
+                    names,
+                    tokens,
+                    table,
+                    given,
+                    i,
+                    rules::NESTING_LIMIT,
+                    sc,
+                    start,
+                );
                 let Answer::Value(v, a) = r else {
                     return r;
                 };
                 return Answer::Value(v, at);
             }
             if (sort == sorts::INTEGER) | (sort == sorts::REAL) {
-                return datum(names, tokens, table, given, level, nest, sc, at, i, count, start, p);
+                return datum(
+                    names,
+                    tokens,
+                    table,
+                    given,
+                    level,
+                    nest,
+                    sc,
+                    at,
+                    i,
+                    count,
+                    start,
+                    p,
+                );
             }
             Answer::Refused(rules::Refusal::Misplaced, p)
         }
@@ -302,7 +473,20 @@ fn named(names: &[u64], tokens: &[u64], table: &[u64], given: usize, level: usiz
 }
 
 // The datum of name i, whose domain has `count` indices and was declared at `start`.
-fn datum(names: &[u64], tokens: &[u64], table: &[u64], given: usize, level: usize, nest: usize, sc: Scope, at: usize, i: usize, count: u64, start: usize, p: u64) -> Answer
+fn datum(
+    names: &[u64],
+    tokens: &[u64],
+    table: &[u64],
+    given: usize,
+    level: usize,
+    nest: usize,
+    sc: Scope,
+    at: usize,
+    i: usize,
+    count: u64,
+    start: usize,
+    p: u64,
+) -> Answer
     requires { ⌜ i < level ⌝ }
     ensures { λ r. ⌜ DatumIs nest i count start p (now (names .entry)) (now (tokens .entry)) (now (table .entry)) given level sc at r ⌝ }
 {
@@ -320,7 +504,18 @@ fn datum(names: &[u64], tokens: &[u64], table: &[u64], given: usize, level: usiz
 }
 
 // `[` as many formulas as the name has indices `]`, each tested whole as read.
-pub fn subscripts(names: &[u64], tokens: &[u64], table: &[u64], given: usize, level: usize, nest: usize, sc: Scope, at: usize, count: u64, p: u64) -> Numbers
+pub fn subscripts(
+    names: &[u64],
+    tokens: &[u64],
+    table: &[u64],
+    given: usize,
+    level: usize,
+    nest: usize,
+    sc: Scope,
+    at: usize,
+    count: u64,
+    p: u64,
+) -> Numbers
     ensures { λ r. ⌜ SubscriptsAre nest p count (now (names .entry)) (now (tokens .entry)) (now (table .entry)) given level sc at r ⌝ }
 {
     let mut e = Element::none();
@@ -346,7 +541,16 @@ pub fn subscripts(names: &[u64], tokens: &[u64], table: &[u64], given: usize, le
 }
 
 // Lower formula `<=` index `<=` upper formula, and the sign behind it.
-pub fn entry(names: &[u64], tokens: &[u64], table: &[u64], given: usize, level: usize, nest: usize, sc: Scope, at: usize) -> Entered
+pub fn entry(
+    names: &[u64],
+    tokens: &[u64],
+    table: &[u64],
+    given: usize,
+    level: usize,
+    nest: usize,
+    sc: Scope,
+    at: usize,
+) -> Entered
     ensures { λ r. ⌜ EntryIs (entryIn nest) (now (names .entry)) (now (tokens .entry)) (now (table .entry)) given level sc at r ⌝ }
 {
     let low = part(names, tokens, table, given, level, nest, sc, at);
@@ -357,7 +561,17 @@ pub fn entry(names: &[u64], tokens: &[u64], table: &[u64], given: usize, level: 
 }
 
 // An entry behind its lower formula, whose value is v; the index's place is that of refusals.
-fn bounds(names: &[u64], tokens: &[u64], table: &[u64], given: usize, level: usize, nest: usize, sc: Scope, at: usize, v: Value) -> Entered
+fn bounds(
+    names: &[u64],
+    tokens: &[u64],
+    table: &[u64],
+    given: usize,
+    level: usize,
+    nest: usize,
+    sc: Scope,
+    at: usize,
+    v: Value,
+) -> Entered
     ensures { λ r. ⌜ BoundsAre (boundsIn nest) (now (names .entry)) (now (tokens .entry)) (now (table .entry)) given level sc at v r ⌝ }
 {
     let token = tokens::token_at(tokens, at);
@@ -384,7 +598,16 @@ fn bounds(names: &[u64], tokens: &[u64], table: &[u64], given: usize, level: usi
 }
 
 // The domain test of an element for a name read at p: position by position, the declared limits read as they are reached.
-pub fn within(names: &[u64], tokens: &[u64], table: &[u64], given: usize, level: usize, at: usize, e: Element, p: u64) -> Passed
+pub fn within(
+    names: &[u64],
+    tokens: &[u64],
+    table: &[u64],
+    given: usize,
+    level: usize,
+    at: usize,
+    e: Element,
+    p: u64,
+) -> Passed
     ensures { λ r. ⌜ WithinIs (now (names .entry)) (now (tokens .entry)) (now (table .entry)) given level at e p r ⌝ }
 {
     let n = e.length();
@@ -392,7 +615,16 @@ pub fn within(names: &[u64], tokens: &[u64], table: &[u64], given: usize, level:
     let mut a = at;
     let mut j = 0;
     while j < n {
-        let next = entry(names, tokens, table, given, level, rules::NESTING_LIMIT, sc, a);
+        let next = entry(
+            names,
+            tokens,
+            table,
+            given,
+            level,
+            rules::NESTING_LIMIT,
+            sc,
+            a,
+        );
         match next {
             Entered::Bounds(b, c) => {
                 let test = values::test(sc, e, j, b, p);
