@@ -98,52 +98,52 @@ use Rattle.evaluator.proofs.+body+both_limits+bounds+datum+entry+factor
 }
 
 abbrev μ-body : Measures 3 body-kinds.ps ℕ
-μ-body κs a = 300 * a .1 .1 .1 .1 .0 + 20 * a .1 .1 .1 .1 .1 .0 + 1
+μ-body κs a = 300 * a .1 .1 .1 .0 .level + 20 * a .1 .1 .1 .0 .nest + 1
 
 abbrev μ-both-limits : Measures 3 both-limits-kinds.ps ℕ
-μ-both-limits κs a = 300 * a .1 .1 .1 .1 .0 + 20 * a .1 .1 .1 .1 .1 .0 + 3
+μ-both-limits κs a = 300 * a .1 .1 .1 .0 .level + 20 * a .1 .1 .1 .0 .nest + 3
 
 abbrev μ-bounds : Measures 3 bounds-kinds.ps ℕ
-μ-bounds κs a = 300 * a .1 .1 .1 .1 .0 + 20 * a .1 .1 .1 .1 .1 .0 + 3
+μ-bounds κs a = 300 * a .1 .1 .1 .0 .level + 20 * a .1 .1 .1 .0 .nest + 3
 
 abbrev μ-datum : Measures 3 datum-kinds.ps ℕ
-μ-datum κs a = 300 * a .1 .1 .1 .1 .0 + 20 * a .1 .1 .1 .1 .1 .0 + 4
+μ-datum κs a = 300 * a .1 .1 .1 .0 .level + 20 * a .1 .1 .1 .0 .nest + 4
 
 abbrev μ-entry : Measures 3 entry-kinds.ps ℕ
-μ-entry κs a = 300 * a .1 .1 .1 .1 .0 + 20 * a .1 .1 .1 .1 .1 .0 + 4
+μ-entry κs a = 300 * a .1 .1 .1 .0 .level + 20 * a .1 .1 .1 .0 .nest + 4
 
 abbrev μ-factors : Measures 3 factors-kinds.ps ℕ
-μ-factors κs a = 300 * a .1 .1 .1 .1 .0 + 20 * a .1 .1 .1 .1 .1 .0 + 7
+μ-factors κs a = 300 * a .1 .1 .1 .0 .level + 20 * a .1 .1 .1 .0 .nest + 7
 
 abbrev μ-formula : Measures 3 formula-kinds.ps ℕ
-μ-formula κs a = 300 * a .1 .1 .1 .1 .0 + 20 * a .1 .1 .1 .1 .1 .0 + 10
+μ-formula κs a = 300 * a .1 .1 .1 .0 .level + 20 * a .1 .1 .1 .0 .nest + 10
 
 abbrev μ-inside : Measures 3 inside-kinds.ps ℕ
-μ-inside κs a = 300 * a .1 .1 .1 .1 .0 + 20 * a .1 .1 .1 .1 .1 .0 + 0
+μ-inside κs a = 300 * a .1 .1 .1 .0 .level + 20 * a .1 .1 .1 .0 .nest + 0
 
 abbrev μ-limit : Measures 3 limit-kinds.ps ℕ
-μ-limit κs a = 300 * a .1 .1 .1 .1 .0 + 20 * a .1 .1 .1 .1 .1 .0 + 2
+μ-limit κs a = 300 * a .1 .1 .1 .0 .level + 20 * a .1 .1 .1 .0 .nest + 2
 
 abbrev μ-named : Measures 3 named-kinds.ps ℕ
-μ-named κs a = 300 * a .1 .1 .1 .1 .0 + 20 * a .1 .1 .1 .1 .1 .0 + 5
+μ-named κs a = 300 * a .1 .1 .1 .0 .level + 20 * a .1 .1 .1 .0 .nest + 5
 
 abbrev μ-part : Measures 3 part-kinds.ps ℕ
-μ-part κs a = 300 * a .1 .1 .1 .1 .0 + 20 * a .1 .1 .1 .1 .1 .0 + 1
+μ-part κs a = 300 * a .1 .1 .1 .0 .level + 20 * a .1 .1 .1 .0 .nest + 1
 
 abbrev μ-primary : Measures 3 primary-kinds.ps ℕ
-μ-primary κs a = 300 * a .1 .1 .1 .1 .0 + 20 * a .1 .1 .1 .1 .1 .0 + 6
+μ-primary κs a = 300 * a .1 .1 .1 .0 .level + 20 * a .1 .1 .1 .0 .nest + 6
 
 abbrev μ-subscripts : Measures 3 subscripts-kinds.ps ℕ
-μ-subscripts κs a = 300 * a .1 .1 .1 .1 .0 + 20 * a .1 .1 .1 .1 .1 .0 + 3
+μ-subscripts κs a = 300 * a .1 .1 .1 .0 .level + 20 * a .1 .1 .1 .0 .nest + 3
 
 abbrev μ-sum : Measures 3 sum-kinds.ps ℕ
-μ-sum κs a = 300 * a .1 .1 .1 .1 .0 + 20 * a .1 .1 .1 .1 .1 .0 + 4
+μ-sum κs a = 300 * a .1 .1 .1 .0 .level + 20 * a .1 .1 .1 .0 .nest + 4
 
 abbrev μ-summands : Measures 3 summands-kinds.ps ℕ
-μ-summands κs a = 300 * a .1 .1 .1 .1 .0 + 20 * a .1 .1 .1 .1 .1 .0 + 9
+μ-summands κs a = 300 * a .1 .1 .1 .0 .level + 20 * a .1 .1 .1 .0 .nest + 9
 
 abbrev μ-term : Measures 3 term-kinds.ps ℕ
-μ-term κs a = 300 * a .1 .1 .1 .1 .0 + 20 * a .1 .1 .1 .1 .1 .0 + 8
+μ-term κs a = 300 * a .1 .1 .1 .0 .level + 20 * a .1 .1 .1 .0 .nest + 8
 
 abbrev μ-within : Measures 3 within-kinds.ps ℕ
 μ-within κs a = 300 * a .1 .1 .1 .1 .0 + 250
@@ -256,34 +256,34 @@ abbrev within-below : ℕ → In 3 within-kinds.ps
 within-below t = and 3 within-kinds.ps (falls 3 within-kinds.ps _<_ μ-within t) within.Pre
 
 abbrev body-Inv-loop : body-lts.InvT-loop
-body-Inv-loop names tokens table given level nest sc at i l n p end v₀ j₀ v j = TurnsOn nest i p names tokens table given level sc at l n v j
+body-Inv-loop names tokens table cx at i l n p end scope v₀ j₀ v j = TurnsOn (cx .nest) i p names tokens table (cx .given) (cx .level) (cx .scope) at l n v j
 
 abbrev body-μ-loop : body-lts.MeasureT-loop
-body-μ-loop names tokens table given level nest sc at i l n p end v₀ j₀ v j = n - j
+body-μ-loop names tokens table cx at i l n p end scope v₀ j₀ v j = n - j
 
 abbrev factors-Inv-loop : factors-lts.InvT-loop
-factors-Inv-loop names tokens table given level nest sc at a₀ u₀ left₀ a u left = LoopOn (factorsIn nest) names tokens table given level sc at u₀ left a u
+factors-Inv-loop names tokens table cx at a₀ u₀ left₀ a u left = LoopOn (factorsIn (cx .nest)) names tokens table (cx .given) (cx .level) (cx .scope) at u₀ left a u
 
 abbrev factors-μ-loop : factors-lts.MeasureT-loop
-factors-μ-loop names tokens table given level nest sc at a₀ u₀ left₀ a u left = left
+factors-μ-loop names tokens table cx at a₀ u₀ left₀ a u left = left
 
 abbrev subscripts-Inv-loop : subscripts-lts.InvT-loop
-subscripts-Inv-loop names tokens table given level nest sc at count p e₀ a₀ left₀ e a left = NumbersOn nest p count names tokens table given level sc at e a left
+subscripts-Inv-loop names tokens table cx at count p e₀ a₀ left₀ e a left = NumbersOn (cx .nest) p count names tokens table (cx .given) (cx .level) (cx .scope) at e a left
 
 abbrev subscripts-μ-loop : subscripts-lts.MeasureT-loop
-subscripts-μ-loop names tokens table given level nest sc at count p e₀ a₀ left₀ e a left = left
+subscripts-μ-loop names tokens table cx at count p e₀ a₀ left₀ e a left = left
 
 abbrev summands-Inv-loop : summands-lts.InvT-loop
-summands-Inv-loop names tokens table given level nest sc at a₀ u₀ left₀ a u left = LoopOn (summandsIn nest) names tokens table given level sc at u₀ left a u
+summands-Inv-loop names tokens table cx at a₀ u₀ left₀ a u left = LoopOn (summandsIn (cx .nest)) names tokens table (cx .given) (cx .level) (cx .scope) at u₀ left a u
 
 abbrev summands-μ-loop : summands-lts.MeasureT-loop
-summands-μ-loop names tokens table given level nest sc at a₀ u₀ left₀ a u left = left
+summands-μ-loop names tokens table cx at a₀ u₀ left₀ a u left = left
 
 abbrev within-Inv-loop : within-lts.InvT-loop
-within-Inv-loop names tokens table given level at e p n sc₀ a₀ j₀ sc a j = WithinOn names tokens table given level at e p sc a j
+within-Inv-loop names tokens table given level at e p n scope₀ a₀ j₀ scope a j = WithinOn names tokens table given level at e p scope a j
 
 abbrev within-μ-loop : within-lts.MeasureT-loop
-within-μ-loop names tokens table given level at e p n sc₀ a₀ j₀ sc a j = n - j
+within-μ-loop names tokens table given level at e p n scope₀ a₀ j₀ scope a j = n - j
 
 pub +body+both-limits+bounds+datum+entry+factors+formula+inside+limit+named+part+primary+subscripts+sum+summands+term+within-spec :
     {M : Type 1} → statement M
@@ -334,7 +334,7 @@ pub +body+both-limits+bounds+datum+entry+factors+formula+inside+limit+named+part
     (λ c. search needs)  -- body-enum-known-s
     (λ c. search needs)  -- body-enum-told-2
     (λ c. search body-unfit depth 11)  -- body-returns-2
-    (λ c. omega (arith, c .before .before .before .before .before .before .before .before .before .loop-test .taken, c .before .before .before .before .before .before .before .before .before .before .before .before .before .before .before .before .fits .n))  -- body-add-j
+    (λ c. omega (arith, c .before .before .before .before .before .before .before .before .before .loop-test .taken, c .before .before .before .before .before .before .before .before .before .before .before .before .before .before .before .before .before .fits .n))  -- body-add-j
     (λ c. omega (arith, c .before .before .before .before .before .before .before .before .before .loop-test .taken))  -- body-loop-less
     (λ c. search (turns-on, c .before .before .before .before .before .before .before .before .before .before .loop .inv, c .before .before .before .before .before .before .before .before .before .loop-test .taken) depth 11)  -- body-loop-again
     (λ c. search body-end depth 7))  -- body-returns-3
@@ -477,7 +477,7 @@ pub +body+both-limits+bounds+datum+entry+factors+formula+inside+limit+named+part
     (inside-at t)
     inside.Post
     (λ c. search inside-full)  -- inside-returns
-    (λ c. search needs)  -- inside-sub-formula
+    (λ c. search needs)  -- inside-sub-fewer
     (λ c κs. omega arith)  -- inside-formula-requires
     (λ c. search inside-formula depth 6))  -- inside-returns-2
     (λ t. limit-lts.spec
