@@ -6,3 +6,4 @@ pub mod Primaries
 pub mod Loops
 pub mod Turns
 pub mod Lists
+pub mod WalkedOver
