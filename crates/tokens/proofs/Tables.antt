@@ -123,14 +123,14 @@ passes s (suc (suc (suc (suc (suc (suc k)))))) p x t l h = refl
 
 -- ---- the token at a position
 
-view-here : (s ts : List ℕ) (at : ℕ) → at < length ts
+pub view-here : (s ts : List ℕ) (at : ℕ) → at < length ts
     → view s (drop at ts) ≡ token s (kindPart (getD ts at 0)) (placePart (getD ts at 0)) (payloadPart (getD ts at 0)) ∷ view s (drop (at + 1) ts)
 unfolding view
 view-here s [] at h = absurd (omega arith)
 view-here s (w ∷ ts) zero h = refl
 view-here s (w ∷ ts) (suc at) h = let e : suc at + 1 ≡ suc (at + 1) = omega arith in rw e (view-here s ts at (omega arith))
 
-view-end : (s ts : List ℕ) (at : ℕ) → length ts ≤ at → view s (drop at ts) ≡ []
+pub view-end : (s ts : List ℕ) (at : ℕ) → length ts ≤ at → view s (drop at ts) ≡ []
 unfolding view
 view-end s [] zero h = refl
 view-end s [] (suc at) h = refl

@@ -1,0 +1,9 @@
+pub mod Laws
+pub mod Entries
+pub mod Sums
+pub mod Names
+pub mod Primaries
+pub mod Loops
+pub mod Turns
+pub mod Lists
+pub mod WalkedOver
