@@ -19,15 +19,12 @@ use Rattle.language.specs.Scope.{bind, unbound, boundTo, sameWhole, same
 use Rattle.language.specs.Evaluation.{wholeAt, limitsOf, lengthOf, fresh, runOf, each, eval, over}
 use Rattle.language.specs.Store.{stored, scopeOf, portionBy, setAt, elementOf, positionRun, wholeIf, accept, isGiven, givenBy, allGiven}
 use Rattle.language.specs.Data.{digitsOf, signedEntry, entryBy, readEntry, entriesOf as entriesOf·data, marksOf, noRepeats, allIn, rearranges, positionOf, positionsOf, orderFrom, readOrder, boundOf, valueOf, readNumber, eachRead, runs, subscriptedPortion, portionOf, portionsOf, readClose, dataOf, readEnd, readData}
-use Rattle.language.specs.Model.{model, readModel, start, asDiscrete, asContinuous, declared, discretes, continuouses}
+use Rattle.language.specs.Model.{model, whatOf, readModel, start, asDiscrete, asContinuous, declared, discretes, continuouses}
 use Rattle.language.specs.Numbering.{addVariable, addVariables, sameVariable, numberOf, addAt, variableAt, gather, gathered, factOf, keep, rowCount, addEntry, addEntries, picked, extreme, largest, smallest, lowerOf, upperOf, lessRows, equalRows, rows, generate}
 use Rattle.language.specs.Listing.{rowLines, varLines, columnLines, colLines, linesOf, fields, upperField, bytesOf, bytesOfAll}
-use Rattle.language.specs.Answer.{accepted, listingOf, listing, respond, answer}
+use Rattle.language.specs.Answer.{accepted, listingOf, listing, Answer, respond, answer}
 use Rattle.language.specs.Outcome.{Outcome, _>>=_}
 use Rattle.language.specs.Syntax as Syntax
-use Rattle.language.specs.Syntax.{Name}
-use Rattle.language.specs.Model.{whatOf}
-use Rattle.language.specs.Answer.{Answer}
 
 unfoldable formulaText : List ℕ → Outcome Value
 formulaText text = do

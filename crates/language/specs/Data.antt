@@ -1,28 +1,27 @@
 -- Document 01, "Grammar", "Meaning" and "Order": the data section. Portions are carried out as read. Assumes nothing.
-use mathlib.Core.Bool.{Bool, true, false, cond, _&&_, _||_, not}
+use mathlib.Core.Bool.{Bool, true, false, cond, _&&_, not}
 use mathlib.Core.Option.{Option, none, some}
-use mathlib.Core.List.{List, [], _∷_, _++_}
-use Prim.Native.Nat.{ℕ, zero, suc, _+_}
+use mathlib.Core.List.{List, [], _∷_}
+use Prim.Native.Nat.{ℕ, zero, suc}
 use lib.Dec.{eqb}
 use lib.ListN.{length}
-use lib.IntN.{ℤ, pos, negℤ}
+use lib.IntN.{ℤ, negℤ}
 use Rattle.rules.specs.declared.Refusal.the-variants.{Misplaced, BadIndex, Missing, Full}
 use Rattle.rules.specs.Limits.{byteLimit, nestingLimit}
 use Rattle.lexer.specs.Marks.{plusSign, minusSign, comma, opens, closes, opensList, closesList, initWord, closeWord}
 use Rattle.value.specs.declared.Value.{Value}
 use Rattle.value.specs.Decimal.{negate}
-use Rattle.lexer.specs.Text.{Token, Kind}
+use Rattle.lexer.specs.Text.{Kind}
 use Rattle.lexer.specs.Text
-use Rattle.language.specs.Syntax.{Name, Sort, Spans, point, span}
-use Rattle.language.specs.Syntax
-use Rattle.language.specs.Reader.{Reader, _>>=_, give, refuse, lift, next, look, isMark, isName, isSome, demand, require, expect, bracket, isIndex, Used, known, readKnown, readIndex, readString}
+use Rattle.language.specs.Syntax.{Name, Spans, point, span}
+use Rattle.language.specs.Reader.{Reader, _>>=_, give, refuse, lift, next, look, isMark, isName, demand, require, expect, bracket, isIndex, known, readKnown, readIndex, readString}
 use Rattle.language.specs.Formulas.{isSum}
 use Rattle.language.specs.Declarations.{isIn}
 use Rattle.language.specs.Store.{Store, scopeOf, Portion, portionBy, Bound, setAt, elementOf, positionRun, accept}
 
 -- ---- a portion's head
 
--- An entry is a fixed whole number (digits, optionally signed) or an index name, which only marks its position
+-- An entry is a fixed whole number (digits, optionally signed; decision 38) or an index name, which only marks its position
 pub data Entry : Type 0 where
   fixed : ℤ → Entry
   marked : ℕ → Entry
@@ -119,7 +118,8 @@ orderFrom names (suc n) = do
       give (i .number ∷ [])
   ]
 
--- an optional order `(` indices `)`: a rearrangement of the marks, else 7 at the portion's name; without it, left to right
+-- an optional order `(` indices `)`: a rearrangement of the marks, else 7 at the portion's name (decision 31); without it, left
+-- to right
 unfoldable pub readOrder : List Name → ℕ → List ℕ → Reader (List ℕ)
 readOrder names p marks = do
   t ← look
@@ -152,6 +152,7 @@ signedValue true v = negate v
 signedValue false v = v
 
 -- A number is `+` or `-`, then a literal: a sign awaited and not found is 10 there, a sign without a literal 3 at what follows
+-- (decision 35)
 unfoldable pub readNumber : Portion → List ℤ → Store → Reader Store
 readNumber x e st = do
   t ← next
@@ -165,7 +166,8 @@ unfoldable pub eachRead : {A : Type 0} → (ℤ → A → Reader A) → List ℤ
 eachRead f [] a = give a
 eachRead f (k ∷ ks) a = f k a >>= λ b. eachRead f ks b
 
--- the positions still to run, outermost first: limits once the next token has passed its tests up to 5. Each run takes one number
+-- the positions still to run, outermost first: limits once the next token has passed its tests up to 5 (decision 33). Each run
+-- takes one number; empty runs take none (decision 37)
 unfoldable pub runs : Portion → List ℕ → Bound → Store → Reader Store
 runs x [] b st = readNumber x (elementOf b) st
 runs x (j ∷ js) b st = do
@@ -173,7 +175,7 @@ runs x (j ∷ js) b st = do
   ks ← lift (positionRun (x .domain) b j (scopeOf st))
   eachRead (λ k st. runs x js (setAt j k b) st) ks st
 
--- marks are tested at the `]`, an order at its `)`
+-- marks are tested at the `]`, an order at its `)` (decision 31)
 unfoldable pub subscriptedPortion : List Name → Portion → Store → Reader Store
 subscriptedPortion names x st = do
   _ ← bracket opensList nestingLimit
@@ -207,7 +209,7 @@ pub record Given : Type 0 where
   pub title : List ℕ  -- empty if there is no data section
   pub store : Store
 
--- behind the last portion: `CLOSE`; a sign is one number too many
+-- behind the last portion: `CLOSE`; a sign is one number too many (decision 36)
 unfoldable pub readClose : Reader (Unit {0})
 readClose = do
   t ← next
@@ -230,7 +232,7 @@ isEnd (Text.string l) = false
 isEnd Text.end = true
 isEnd (Text.wrong r) = false
 
--- only blanks may follow `CLOSE`
+-- only blanks may follow `CLOSE` (decision 8)
 unfoldable pub readEnd : Reader (Unit {0})
 readEnd = do
   t ← next

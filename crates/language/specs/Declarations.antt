@@ -1,21 +1,19 @@
 -- Document 01, "Grammar": declarations stand in the order of the six words, each at most once: word, comma-separated list, `;`.
--- A name is usable after its own list entry has ended. Assumes nothing.
-use mathlib.Core.Bool.{Bool, true, false, cond, _&&_, _||_, not}
-use mathlib.Core.Option.{Option, none, some}
+-- A name is usable after its own list entry has ended. All six lists may be absent (decision 10). Assumes nothing.
+use mathlib.Core.Bool.{Bool, true, false, _&&_, not}
 use mathlib.Core.List.{List, [], _∷_, _++_}
 use Prim.Native.Nat.{ℕ, zero, suc, _-_}
-use lib.Dec.{eqb, leb, ltb}
+use lib.Dec.{eqb, ltb}
 use lib.ListN.{length}
 use Rattle.rules.specs.declared.Refusal.the-variants.{Misplaced, BadName, Full}
 use Rattle.rules.specs.Limits.{tokenLimit, nestingLimit, nameLimit, indexLimit}
 use Rattle.lexer.specs.Marks.{comma, semicolon, equals, opens, closes, opensList, closesList, indexWord, integerWord, realWord, formulaWord, discreteWord, continuousWord}
-use Rattle.lexer.specs.Text.{Token}
-use Rattle.language.specs.Syntax.{Formula, Spans, Name, Sort, point}
+use Rattle.language.specs.Syntax.{Spans, Name, Sort, point}
 use Rattle.language.specs.Syntax
 use Rattle.language.specs.Reader.{Reader, _>>=_, give, refuse, next, look, isMark, isSome, demand, require, expect, bracket, nameOf, Titled, Used, find, readKnown, readIndex}
-use Rattle.language.specs.Formulas.{formulaAt, Entry, entryOf, spanOf, inDomain}
+use Rattle.language.specs.Formulas.{formulaAt, entryOf, spanOf, inDomain}
 
--- a new name: 3 if there is none, 4 if it is declared again, 6 if it is the 65th
+-- a new name: 3 if there is none, 4 if it is declared again, 6 if it is the 65th (decision 13)
 unfoldable pub newName : List Name → Reader Titled
 newName names = do
   t ← next
@@ -24,7 +22,7 @@ newName names = do
   _ ← require (ltb (length names) nameLimit) Full (t .place)
   give (record { title = l; place = t .place })
 
--- the indices of a list, at most n more behind this one; the list may repeat one
+-- the indices of a list, at most n more behind this one; the list may repeat one (decisions 11, 12)
 unfoldable pub indicesOf : List Name → ℕ → Reader (List ℕ)
 indicesOf names zero = do
   i ← readIndex names
@@ -47,7 +45,7 @@ unfoldable pub isIn : ℕ → List ℕ → Bool
 isIn i [] = false
 isIn i (j ∷ l) = elim (eqb i j) [ true ↦ true | false ↦ isIn i l ]
 
--- the index that is due in a declared domain, and was not named in it before
+-- the index that is due in a declared domain, and was not named in it before (decisions 11, 12)
 unfoldable pub readDue : List Name → ℕ → List ℕ → Reader Used
 readDue names i named = do
   u ← readKnown names
@@ -95,7 +93,7 @@ domainEntry sort names = do
   d ← subscripted names
   give (sort d)
 
--- the list's entries, each ended by `,` or by the list's `;`
+-- the list's entries, each ended by `,` or by the list's `;`; inside its own entry a name is unknown (decision 13)
 unfoldable pub entriesFrom : (List Name → Reader Sort) → ℕ → List Name → Reader (List Name)
 entriesFrom E zero names = refuse Full 0
 entriesFrom E (suc n) names = do

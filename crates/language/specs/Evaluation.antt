@@ -1,15 +1,14 @@
 -- Document 01, "Meaning": evaluation goes left to right; every value fits, or the reading is refused. Assumes nothing.
-use mathlib.Core.Bool.{Bool, true, false, cond, _&&_}
+use mathlib.Core.Bool.{Bool, true, false, _&&_}
 use mathlib.Core.Option.{Option, none, some}
 use mathlib.Core.List.{List, [], _∷_}
-use Prim.Native.Nat.{ℕ, zero, suc, _+_, _-_}
+use Prim.Native.Nat.{ℕ}
 use lib.Dec.{leb, ltb}
 use lib.ListN.{length}
 use lib.IntN.{ℤ, pos, _+ℤ_, _-ℤ_}
 use lib.Signed.{leZ}
 use Rattle.language.specs.Ranges.{upFrom}
 use Rattle.value.specs.Integer.{up}
-use Rattle.rules.specs.declared.Refusal.{Refusal}
 use Rattle.rules.specs.declared.Refusal.the-variants.{BadIndex, NotWhole, Outside, Missing}
 use Rattle.language.specs.Outcome.{Outcome, done, refused, _>>=_, orRefuse, fitting, wholeNumber, check}
 use Rattle.rules.specs.Limits.{runLimit, indexLimit}
@@ -29,7 +28,8 @@ pub record Limits : Type 0 where
   pub lower : ℤ
   pub upper : ℤ
 
--- the two limits of a run or of a domain test, lower first, each tested whole as read; f and g are what their formulas give
+-- the two limits of a run or of a domain test, lower first, each tested whole as read (decision 19); f and g are what their
+-- formulas give
 unfoldable pub limitsOf : Outcome Value → Outcome Value → ℕ → Outcome Limits
 limitsOf f g p = do
   v ← f
@@ -50,7 +50,7 @@ isNone (some a) = false
 unfoldable pub fresh : ℕ → Scope → ℕ → Outcome (Unit {0})
 fresh i s p = check BadIndex p (isNone (boundTo i (s .bound)) && ltb (length (s .bound)) indexLimit)
 
--- the run of an index from lower to upper: above 256 is 8, then 7
+-- the run of an index from lower to upper: above 256 is 8, then 7 (decision 19)
 unfoldable pub runOf : Limits → ℕ → Scope → ℕ → Outcome (List ℤ)
 runOf l i s p = do
   _ ← check NotWhole p (leb (lengthOf l) runLimit)
@@ -64,7 +64,7 @@ each f (k ∷ ks) a = f k a >>= λ b. each f ks b
 
 -- ---- formulas
 
--- a partial sum of a `SUM` at p
+-- a partial sum of a `SUM` at p must fit (decision 25)
 abbrev pub addTo : ℕ → Value → Outcome Value → Outcome Value
 addTo p v o = o >>= λ w. fitting p (sumOf v w)
 
@@ -94,7 +94,7 @@ unfoldable mutual
     ks ← runOf l i s p
     each (λ k v. addTo p v (eval h (bind i k s))) ks zeroValue
 
-  -- a name's subscripts, each tested whole as read, before its domain test
+  -- a name's subscripts, each tested whole as read, before its domain test (decision 21)
   pub evalAll : Formulas → Scope → ℕ → Outcome (List ℤ)
   evalAll Syntax.none s p = done []
   evalAll (Syntax.more f fs) s p = do
@@ -104,7 +104,7 @@ unfoldable mutual
     done (k ∷ ks)
 
   -- A domain test binds the subscripts from first to last, reading each position's declared limits as it gets there;
-  -- a limit's refusal stands at its index, 9 at p
+  -- a limit's refusal stands at its index, 9 at p (decision 20). The scope has nothing bound at first (decision 23)
   pub within : Spans → List ℤ → Scope → ℕ → Outcome (Unit {0})
   within point ks s p = done tt
   within (span i f g q d) [] s p = refused Outside p
@@ -115,7 +115,8 @@ unfoldable mutual
 
 -- ---- domains
 
--- a step at each element of a domain, the first index outermost, each limit read anew under the values bound by then
+-- a step at each element of a domain, the first index outermost, each limit read anew under the values bound by then; what a
+-- step refuses comes before what a later limit refuses (decision 28)
 unfoldable pub over : {A : Type 0} → Spans → Scope → (Scope → List ℤ → A → Outcome A) → A → Outcome A
 over point s f a = f s [] a
 over (span i lower upper p d) s f a = do

@@ -1,10 +1,9 @@
 -- Document 01, "Grammar": formulas and domains. Each reader takes the reader below it as an argument; the nesting ties them.
--- A loop has as many turns as a text may have tokens. Assumes nothing.
-use mathlib.Core.Bool.{Bool, true, false, cond, _&&_, _||_, not}
-use mathlib.Core.Option.{Option, none, some}
-use mathlib.Core.List.{List, [], _∷_}
+-- A loop has as many turns as a text may have tokens, which it never takes (proofs/Turns). Assumes nothing.
+use mathlib.Core.Bool.{Bool, true, false, cond, _||_}
+use mathlib.Core.List.{List}
 use Prim.Native.Nat.{ℕ, zero, suc, _-_}
-use lib.Dec.{eqb, leb}
+use lib.Dec.{eqb}
 use Rattle.rules.specs.declared.Refusal.the-variants.{Misplaced, Full}
 use Rattle.rules.specs.Limits.{tokenLimit, nestingLimit, indexLimit}
 use Rattle.lexer.specs.Marks.{plusSign, minusSign, timesSign, comma, atMost, opens, closes, opensList, closesList, sumWord}
@@ -12,7 +11,7 @@ use Rattle.lexer.specs.Text.{Token, Kind}
 use Rattle.lexer.specs.Text
 use Rattle.language.specs.Syntax.{Formula, Formulas, Spans, Name, Sort, more, point, span, datum, times, plus, minus, sum}
 use Rattle.language.specs.Syntax
-use Rattle.language.specs.Reader.{Reader, _>>=_, give, refuse, next, look, isMark, require, expect, bracket, Used, known, readIndex}
+use Rattle.language.specs.Reader.{Reader, _>>=_, give, refuse, next, look, isMark, expect, bracket, Used, known, readIndex}
 
 -- ---- formulas
 
@@ -70,7 +69,7 @@ readSign = do
     | false ↦ give (record { written = false; negative = false })
   ]
 
--- Formula: optional sign, then terms joined by `+` or `-`; the sign belongs to the first term
+-- Formula: optional sign, then terms joined by `+` or `-`; the sign belongs to the first term (decision 18)
 unfoldable pub formulaOf : Reader Formula → Reader Formula
 formulaOf T = do
   s ← readSign
@@ -119,7 +118,7 @@ subscriptsOf n F (span i lower upper p d) = do
   _ ← bracket opensList n
   formulasOf F (span i lower upper p d)
 
--- a primary that is a name: an index, an integer, a real, a declared formula; else 3
+-- a primary that is a name: an index, an integer, a real, a declared formula, whose tree stands there (decision 24); else 3
 unfoldable pub namedBy : ℕ → Reader Formula → ℕ → ℕ → Sort → Reader Formula
 namedBy n F i p Syntax.index = give (Syntax.index i p)
 namedBy n F i p (Syntax.integer d) = do
@@ -132,7 +131,7 @@ namedBy n F i p (Syntax.formula f) = give f
 namedBy n F i p (Syntax.discrete d) = refuse Misplaced p
 namedBy n F i p (Syntax.continuous d) = refuse Misplaced p
 
--- `(` formula `)`, the bracket read already
+-- `(` formula `)`, the bracket read already; the thirteenth open one is 6 at it (decision 16)
 unfoldable pub nestedOf : ℕ → Reader Formula → ℕ → Reader Formula
 nestedOf zero F p = refuse Full p
 nestedOf (suc n) F p = partOf F closes
@@ -185,7 +184,7 @@ entryOf F I = do
 abbrev pub spanOf : Entry → Spans → Spans
 spanOf e d = span (e .number) (e .lower) (e .upper) (e .place) d
 
--- at most n entries more behind this one
+-- at most n entries more behind this one; the fifth is 3 at the `,` (decision 12)
 unfoldable pub entriesOf : Reader Formula → Reader Used → ℕ → Reader Spans
 entriesOf F I zero = do
   e ← entryOf F I
@@ -208,7 +207,7 @@ entriesOf F I (suc n) = do
 abbrev pub inDomain : List Name → Reader Formula
 inDomain names = insideAt names nestingLimit
 
--- a constraint's domain: one to four indices, in any order and even twice
+-- a constraint's domain: one to four indices, in any order and even twice (decision 14)
 unfoldable pub domainOf : List Name → Reader Spans
 domainOf names = do
   _ ← bracket opens nestingLimit

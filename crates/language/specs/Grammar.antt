@@ -1,9 +1,8 @@
 -- Document 01, "Grammar": a model up to its data section. Assumes nothing.
-use mathlib.Core.Bool.{Bool, true, false, cond, _&&_, _||_, not}
+use mathlib.Core.Bool.{Bool, true, false, cond, _||_}
 use mathlib.Core.Option.{Option, none, some}
 use mathlib.Core.List.{List, [], _∷_}
 use Prim.Native.Nat.{ℕ, zero, suc}
-use lib.Dec.{eqb}
 use Rattle.rules.specs.declared.Refusal.the-variants.{Misplaced, Full}
 use Rattle.rules.specs.Limits.{nestingLimit, constraintLimit}
 use Rattle.lexer.specs.Marks as Marks
@@ -38,7 +37,7 @@ constraintOf names = do
   d ← optionalDomain names
   give (record { title = s .title; place = s .place; left = sideOf (l .signed) (l .form); relation = r; right = f; domain = d })
 
--- one or more constraints, at most n; one more is 6 at its string
+-- one or more constraints, at most n; one more is 6 at its string, before its linear form (decision 15)
 unfoldable pub constraintsOf : List Name → ℕ → Reader (List Constraint)
 constraintsOf names zero = do
   t ← look

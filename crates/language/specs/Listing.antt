@@ -5,7 +5,7 @@ use mathlib.Core.List.{List, [], _∷_, _++_, map}
 use Prim.Native.Nat.{ℕ, zero, suc}
 use lib.Dec.{ltb}
 use lib.ListN.{length, getD}
-use lib.IntN.{ℤ, pos}
+use lib.IntN.{ℤ}
 use Rattle.value.specs.declared.Value.{Value}
 use Rattle.value.specs.Decimal.{zeroValue, isZero}
 use Rattle.value.specs.Printed.{natural, printed, printedWhole}
@@ -78,7 +78,7 @@ upperField none = 105 ∷ 110 ∷ 102 ∷ []  -- inf
 upperField (some v) = printed v
 
 unfoldable pub bytesOf : Line → List ℕ
--- lp
+-- lp; without a data section its last field is empty (decision 42)
 bytesOf (lpLine a b c d s t) = 108 ∷ 112 ∷ fields (natural a ∷ natural b ∷ natural c ∷ natural d ∷ s ∷ t ∷ [])
 -- row; E or L
 bytesOf (rowLine n q v s e) = 114 ∷ 111 ∷ 119 ∷ fields (natural n ∷ (cond q 69 76 ∷ []) ∷ printed v ∷ s ∷ map printedWhole e)

@@ -1,11 +1,10 @@
 -- A model text, read: its structure and what its data section gives. Assumes nothing.
 use mathlib.Core.Option.{Option, none, some}
 use mathlib.Core.List.{List, [], _∷_}
-use mathlib.Core.Bool.{Bool}
-use Prim.Native.Nat.{ℕ, zero, suc}
+use Prim.Native.Nat.{ℕ, suc}
 use Rattle.language.specs.Outcome.{Outcome, done, refused}
 use Rattle.lexer.specs.Text.{tokens}
-use Rattle.language.specs.Syntax.{Name, Sort, Spans, Form, Constraint, Structure}
+use Rattle.language.specs.Syntax.{Name, Sort, Spans, Structure}
 use Rattle.language.specs.Syntax
 use Rattle.language.specs.Reader.{Reader, Read, _>>=_, give}
 use Rattle.language.specs.Grammar.{structure}

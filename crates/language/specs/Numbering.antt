@@ -2,12 +2,12 @@
 use mathlib.Core.Bool.{Bool, true, false, cond, _&&_}
 use mathlib.Core.Option.{Option, none, some}
 use mathlib.Core.List.{List, [], _∷_, _++_, map}
-use Prim.Native.Nat.{ℕ, zero, suc}
+use Prim.Native.Nat.{ℕ, suc}
 use lib.Dec.{eqb, ltb}
 use lib.ListN.{length, getD, set, replicate}
 use lib.IntN.{ℤ}
 use Rattle.rules.specs.declared.Refusal.the-variants.{Full, Outside}
-use Rattle.language.specs.Outcome.{Outcome, done, refused, _>>=_, orRefuse, fitting, check}
+use Rattle.language.specs.Outcome.{Outcome, done, _>>=_, orRefuse, fitting, check}
 use Rattle.rules.specs.Limits.{variableLimit, rowLimit}
 use Rattle.value.specs.declared.Value.{Value}
 use Rattle.value.specs.Decimal.{zeroValue, oneValue, negate, sumOf, productOf, isAtMost}
@@ -25,7 +25,7 @@ pub record Variable : Type 0 where
   pub name : ℕ
   pub element : List ℤ
 
--- the 513th is 6 at the declared name
+-- the 513th is 6 at the declared name (decision 41)
 unfoldable pub addVariable : Declaration → Scope → List ℤ → List Variable → Outcome (List Variable)
 addVariable d s e vs = do
   _ ← check Full (d .place) (ltb (length vs) variableLimit)
@@ -64,7 +64,7 @@ abbrev pub signed : Bool → Value → Value
 signed true v = negate v
 signed false v = v
 
--- a coefficient's sum is refused at the variable
+-- a coefficient's sum is refused at the variable (decision 27)
 unfoldable pub addAt : ℕ → Value → ℕ → Row → Outcome Row
 addAt j v p r = do
   w ← fitting p (sumOf (getD r j zeroValue) v)
@@ -80,7 +80,8 @@ module _ (vs : List Variable) where
     orRefuse Outside p (numberOf i ks vs)
 
   unfoldable mutual
-    -- c is the coefficient before the form (the product written before its sigma), m whether a minus stands before it
+    -- c is the coefficient before the form (the product written before its sigma), m whether a minus stands before it; signs
+    -- come last (decision 26)
     pub gather : Form → Scope → Value → Bool → Row → Outcome Row
     gather Syntax.end s c m r = done r
     gather (also n t f) s c m r = do
@@ -121,7 +122,7 @@ pub record Entry : Type 0 where
   pub source : Source
   pub fact : Fact
 
--- a `>=` row is negated on both sides
+-- a `>=` row is negated on both sides, after gathering (decision 27)
 abbrev pub flips : Relation → Bool
 flips atMost = false
 flips atLeast = true
@@ -160,7 +161,7 @@ lessRow e = cond (isEqual (e .source .constraint .relation)) false (isRow (e .fa
 abbrev pub equalRow : Entry → Bool
 equalRow e = cond (isEqual (e .source .constraint .relation)) (isRow (e .fact)) false
 
--- the 513th row is 6 at its string
+-- the 513th row is 6 at its string, after both sides (decision 30)
 unfoldable pub rowCount : Fact → ℕ → List Entry → Outcome (Unit {0})
 rowCount (bound j v) p es = done tt
 rowCount (row r v) p es = check Full p (ltb (length (keep anyRow es)) rowLimit)
@@ -239,7 +240,7 @@ equalRows p = keep equalRow (p .entries)
 unfoldable pub rows : Lp → List Entry
 rows p = lessRows p ++ equalRows p
 
--- Missing data, variables, the objective (negated for MINIMIZE), constraints
+-- missing data, variables, the objective (negated for MINIMIZE), constraints
 unfoldable pub generate : Model → Outcome Lp
 generate m = do
   _ ← allGiven 0 (m .structure .names) (start m)

@@ -55,6 +55,9 @@ refused-done e = let z : _≡_ {A = ℕ} 0 1 = cc in omega arith
 pub some-injective : {A : Type 0} {a b : A} → _≡_ {A = Option A} (some a) (some b) → a ≡ b
 some-injective e = cc
 
+pub none-some : {A : Type 0} {a : A} → _≡_ {A = Option A} none (some a) → ⊥
+none-some e = let z : _≡_ {A = ℕ} 0 1 = cc in omega arith
+
 module _ {A B : Type 0} where
   pub after : {C : Type 0} (m : Outcome A) (f : A → Outcome B) (b : B) → (m >>= f) ≡ done b → ((a : A) → m ≡ done a → f a ≡ done b → C) → C
   after (done a) f b e k = k a refl e
@@ -77,6 +80,10 @@ pub whole-of : (p : ℕ) (o : Whole) (k : ℤ) → wholeNumber p o ≡ done k �
 whole-of p (Number j) k e = cc
 whole-of p noNumber k e = absurd (refused-done e)
 
+pub check-of : (n : Refusal) (p : ℕ) (t : Bool) (u : Unit {0}) → check n p t ≡ done u → t ≡ true
+check-of n p true u e = refl
+check-of n p false u e = absurd (refused-done e)
+
 module _ {B : Type 0} where
   pub after-fits : {C : Type 0} (p : ℕ) (o : Fit) (f : Value → Outcome B) (b : B) → (fitting p o >>= f) ≡ done b → ((v : Value) → o ≡ Fits v → f v ≡ done b → C) → C
   after-fits p o f b e k = after (fitting p o) f b e (λ v h. k v (fits-of p o v h))
@@ -85,5 +92,4 @@ module _ {B : Type 0} where
   after-whole p o f b e k = after (wholeNumber p o) f b e (λ j h. k j (whole-of p o j h))
 
   pub after-check : {C : Type 0} (n : Refusal) (p : ℕ) (t : Bool) (f : Unit {0} → Outcome B) (b : B) → (check n p t >>= f) ≡ done b → (t ≡ true → f tt ≡ done b → C) → C
-  after-check n p true f b e k = k refl e
-  after-check n p false f b e k = absurd (refused-done e)
+  after-check n p t f b e k = after (check n p t) f b e (λ u h. k (check-of n p t u h))

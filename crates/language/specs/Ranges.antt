@@ -1,5 +1,5 @@
 -- The whole numbers from one to another, by ones, as a list: what a run goes through. Assumes nothing.
-use mathlib.Core.Path.{_≡_, refl}
+use mathlib.Core.Path.{_≡_}
 use mathlib.Core.Logic.{_⊎_, inl, inr}
 use mathlib.Core.List.{List, [], _∷_}
 use Prim.Native.Nat.{ℕ, zero, suc, _+_, _<_}
@@ -7,7 +7,7 @@ use native.Mathlib.Omega.{arith}
 use lib.IntN.{ℤ, pos, _+ℤ_, negℤ, ℤ-discrete}
 use lib.Signed.{_≤ℤ_, ≤ℤ-refl}
 use Rattle.value.specs.Integer.{up, down, one-part, by-parts, add-parts, neg-up, neg-down, le-parts, le-of-parts}
-use Rattle.language.specs.Listed.{In, Distinct, in-nil, in-cons, in-later, distinct-nil, distinct-cons}
+use Rattle.language.specs.Listed.{In, in-nil, in-cons, in-later}
 
 abbrev pub upFrom : ℤ → ℕ → List ℤ
 upFrom a zero = []
@@ -44,11 +44,6 @@ upFrom-in (suc n) a k l r = go (ℤ-discrete a k) (upFrom-in n (a +ℤ pos 1) k)
         (ih (le-of-parts _ _ (omega (arith, ne, le-parts a k l, add-parts a (pos 1))))
         (le-of-parts _ _ (omega (arith, le-parts _ _ r, add-parts k (pos 1), add-parts a (pos (suc n)), add-parts a (pos 1), add-parts (a +ℤ pos 1) (pos n)))))
 
-pub distinct-upFrom : (n : ℕ) (a : ℤ) → Distinct (upFrom a n)
-distinct-upFrom zero a = distinct-nil
-distinct-upFrom (suc n) a =
-    distinct-cons a _ (λ h. absurd (omega (arith, le-parts _ _ (in-upFrom n (a +ℤ pos 1) a h .0), add-parts a (pos 1)))) (distinct-upFrom n (a +ℤ pos 1))
-
 -- k stands in the range where it is neither below a nor above b
 pub in-range : (a b k : ℤ) → In (range a b) k → (a ≤ℤ k) × (k ≤ℤ b)
 in-range a b k h =
@@ -62,6 +57,3 @@ range-in a b k l r =
     let n : ℕ = up (b +ℤ pos 1 +ℤ negℤ a) in
     upFrom-in n a k l
     (le-of-parts _ _ (omega (arith, le-parts a k l, le-parts k b r, add-parts k (pos 1), add-parts a (pos n), add-parts (b +ℤ pos 1) (negℤ a), add-parts b (pos 1), neg-up a, neg-down a)))
-
-pub distinct-range : (a b : ℤ) → Distinct (range a b)
-distinct-range a b = distinct-upFrom (up (b +ℤ pos 1 +ℤ negℤ a)) a

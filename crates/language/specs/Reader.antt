@@ -1,9 +1,9 @@
 -- Readers: what is read from the tokens that are left, and the tokens then left. A token passes its own tests before anything
 -- is asked of it (document 01, "Order"). Assumes nothing.
-use mathlib.Core.Bool.{Bool, true, false, cond}
+use mathlib.Core.Bool.{Bool, true, false}
 use mathlib.Core.Option.{Option, none, some}
 use mathlib.Core.List.{List, [], _∷_}
-use Prim.Native.Nat.{ℕ, zero, suc, _+_}
+use Prim.Native.Nat.{ℕ, zero, suc}
 use lib.Dec.{eqb}
 use Rattle.rules.specs.declared.Refusal.{Refusal}
 use Rattle.rules.specs.declared.Refusal.the-variants.{Misplaced, BadName, Full}
@@ -53,7 +53,7 @@ passed (string l) t ts = done (record { what = t; rest = ts })
 passed end t ts = done (record { what = t; rest = ts })
 passed (wrong r) t ts = refused r (t .place)
 
--- the next token, after its own tests; a token list always ends with `end` or a refusal
+-- the next token, after its own tests (decision 5); a token list always ends with `end` or a refusal (decision 9)
 unfoldable pub next : Reader Token
 next [] = refused Misplaced 0
 next (t ∷ ts) = passed (t .kind) t ts
@@ -117,7 +117,7 @@ expect c = do
   _ ← require (isMark c t) Misplaced (t .place)
   give (t .place)
 
--- an opening bracket, with n more allowed: the thirteenth is 6 at it, after its placement
+-- an opening bracket, with n more allowed: the thirteenth is 6 at it, after its placement (decision 16)
 unfoldable pub bracket : ℕ → ℕ → Reader ℕ
 bracket c zero = do
   p ← expect c
@@ -155,7 +155,7 @@ found none p = refuse BadName p
 unfoldable pub known : List Name → List ℕ → ℕ → Reader Used
 known names l p = found (find l names 0 p) p
 
--- a name (else 3) that is declared (else 4)
+-- a name (else 3) that is declared (else 4); of a wrong sort it is 3 where it is used (decision 6)
 unfoldable pub readKnown : List Name → Reader Used
 readKnown names = do
   t ← next

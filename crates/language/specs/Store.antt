@@ -1,6 +1,6 @@
--- Document 01, "Meaning" and "Order": the store of the data, what a portion's runs and numbers do with it, and Missing data.
+-- Document 01, "Meaning" and "Order": the store of the data, what a portion's runs and numbers do with it, and missing data.
 -- Assumes nothing.
-use mathlib.Core.Bool.{Bool, true, false, cond, _&&_, not}
+use mathlib.Core.Bool.{Bool, true, false, _&&_, not}
 use mathlib.Core.Option.{Option, none, some}
 use mathlib.Core.List.{List, [], _∷_}
 use Prim.Native.Nat.{ℕ, zero, suc}
@@ -8,7 +8,7 @@ use lib.Dec.{eqb, ltb}
 use lib.ListN.{length}
 use lib.IntN.{ℤ, pos}
 use Rattle.rules.specs.declared.Refusal.the-variants.{Missing, Full}
-use Rattle.language.specs.Outcome.{Outcome, done, refused, _>>=_, check}
+use Rattle.language.specs.Outcome.{Outcome, done, _>>=_, check}
 use Rattle.rules.specs.Limits.{dataLimit}
 use Rattle.value.specs.declared.Value.{Value}
 use Rattle.language.specs.Syntax.{Name, Sort, Spans, point, span}
@@ -71,7 +71,7 @@ abbrev pub bindIf : ℕ → Option ℤ → Scope → Scope
 bindIf i none s = s
 bindIf i (some k) s = bind i k s
 
--- the run of position j: its own declared limits, which see the earlier positions that are bound by now
+-- the run of position j: its own declared limits, which see the earlier positions that are bound by now (decision 32)
 unfoldable pub positionRun : Spans → Bound → ℕ → Scope → Outcome (List ℤ)
 positionRun point b j s = done []
 positionRun (span i f g p d) [] j s = done []
@@ -88,7 +88,8 @@ wholeIf true p v = do
   done tt
 wholeIf false p v = done tt
 
--- For each number, whose sign stands at p: 8, 9 (at the portion's name), 10 if given twice, 6 (data elements)
+-- For each number, whose sign stands at p: 8, 9 (at the portion's name), 10 if given twice, 6 (data elements, scalars too);
+-- decisions 34, 39
 unfoldable pub accept : Portion → List ℤ → ℕ → Value → Store → Outcome Store
 accept x e p v st = do
   _ ← wholeIf (x .whole) p v
@@ -97,7 +98,7 @@ accept x e p v st = do
   _ ← check Full p (ltb (length st) dataLimit)
   done (record { name = x .name; element = e; value = v } ∷ st)
 
--- ---- Missing data, by declaration: 10 at the declared name
+-- ---- missing data, by declaration: 10 at the declared name (decision 40)
 
 unfoldable pub isGiven : ℕ → ℕ → Scope → List ℤ → Unit {0} → Outcome (Unit {0})
 isGiven i p s e u = check Missing p (not (isNone (s .known i e)))

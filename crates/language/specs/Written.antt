@@ -1,10 +1,11 @@
 -- Document 01, "The words of demand 3": written values, on the text's own terms, without limit of size and not by way of
--- gathered coefficients. Assumes nothing.
+-- gathered coefficients; constraints at their elements, and declared variables. Assumes nothing.
+use mathlib.Core.Path.{_≡_}
 use mathlib.Core.Bool.{Bool, true, false}
 use mathlib.Core.Option.{Option, none, some}
-use mathlib.Core.List.{List, [], _∷_}
-use Prim.Native.Nat.{ℕ, zero, suc}
-use lib.IntN.{ℤ, pos}
+use mathlib.Core.List.{List, [], _∷_, _++_}
+use lib.IntN.{ℤ}
+use Rattle.language.specs.Listed.{At, In}
 use Rattle.language.specs.Ranges.{range}
 use Rattle.value.specs.Rational.{ℚ, 𝟎, _⊕_, _⊗_, neg, whole, floor, ceiling, _⊑_}
 use Rattle.value.specs.Number.{exactly}
@@ -12,7 +13,8 @@ use Rattle.value.specs.declared.Value.{Value}
 use Rattle.language.specs.Scope.{Scope, bind, boundTo}
 use Rattle.language.specs.Syntax.{Formula, Formulas, Spans, datum, minus, plus, times, sum, point, span, Form, Term, also, factor, variable, sigma}
 use Rattle.language.specs.Syntax
-use Rattle.language.specs.Numbering.{Variable}
+use Rattle.language.specs.Model.{Model, start, Declaration, discretes, continuouses}
+use Rattle.language.specs.Numbering.{Variable, Source}
 
 unfoldable pub sumOver : (ℤ → ℚ) → List ℤ → ℚ
 sumOver f [] = 𝟎
@@ -76,3 +78,21 @@ unfoldable pub bindAll : Spans → List ℤ → Scope → Scope
 bindAll point e s = s
 bindAll (span i f g p d) [] s = s
 bindAll (span i f g p d) (k ∷ e) s = bindAll d e (bind i k s)
+
+-- ---- what is written
+
+-- the scope of a constraint at an element
+unfoldable pub scopeAt : Model → Source → Scope
+scopeAt m o = bindAll (o .constraint .domain) (o .element) (start m)
+
+-- A constraint is taken at each element of its domain, or once where it has none; constraints differ by their place in the text
+pub record Written (m : Model) (o : Source) : Type 0 where
+  pub listed : At (m .structure .constraints) (o .ordinal) (o .constraint)
+  pub inside : InDomain (o .constraint .domain) (start m) (o .element)
+
+-- A declared variable is a `discrete` or `continuous` name, with one element of its domain if it has one
+pub record Declared (m : Model) (v : Variable) : Type 0 where
+  pub declaration : Declaration
+  pub listed : In (discretes m ++ continuouses m) declaration
+  pub named : declaration .name ≡ v .name
+  pub inside : InDomain (declaration .domain) (start m) (v .element)

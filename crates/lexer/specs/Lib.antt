@@ -1,2 +1,4 @@
 pub mod Marks
 pub mod Text
+pub mod View
+pub mod Inner

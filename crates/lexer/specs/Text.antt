@@ -1,5 +1,6 @@
 -- Document 01, "Text": the tokens of a text, from left to right. A refusal of a token by itself (2, 3 shape, 4 length, 5),
--- by the token count (6) or by the text's length (1) is a token too, and the last one. Assumes nothing.
+-- by the token count (6) or by the text's length (1) is a token too, and the last one: so a token's own tests come before its
+-- placement, everywhere (decision 5; the numbers are those of docs/DECISIONS.md). Assumes nothing.
 use mathlib.Core.Bool.{Bool, true, false, cond, _&&_, _||_, not}
 use mathlib.Core.List.{List, [], _∷_, _++_}
 use Prim.Native.Nat.{ℕ, zero, suc, _+_, _-_}
@@ -34,7 +35,7 @@ pub record Step : Type 0 where
 abbrev pub step : Kind → ℕ → ℕ → Step
 step k p n = record { token = record { kind = k; place = p }; size = n }
 
--- ---- runs of bytes: each token is the longest one possible
+-- ---- runs of bytes: each token is the longest one possible; no blank is needed between tokens (decision 2)
 
 -- the bytes of a class at the front, and what stands behind them
 unfoldable pub front : (ℕ → Bool) → List ℕ → List ℕ
@@ -56,7 +57,8 @@ sameBytes (a ∷ s) (b ∷ t) = elim (eqb a b) [ true ↦ sameBytes s t | false 
 unfoldable pub isBlank : ℕ → Bool
 isBlank b = eqb b 32 || eqb b 9 || eqb b 10 || eqb b 13
 
--- ---- names are a lower-case letter, then lower-case letters and digits, at most 15 bytes; the six words are not names
+-- ---- names are a lower-case letter, then lower-case letters and digits, at most 15 bytes; the six words are not names, but
+-- kinds of their own (decision 6)
 
 unfoldable pub isSmall : ℕ → Bool
 isSmall b = leb 97 b && leb b 122
@@ -80,7 +82,7 @@ isCapital b = leb 65 b && leb b 90
 unfoldable pub wordStep : ℕ → List ℕ → Step
 wordStep p l = step (among capitalWords l (wrong Misplaced)) p (length l)
 
--- ---- signs: + - * , ; : = ( ) [ ] and `<=`, `>=`; a lone `<` or `>` starts no token
+-- ---- signs: + - * , ; : = ( ) [ ] and `<=`, `>=`; a lone `<` or `>` starts no token (decision 1)
 
 unfoldable pub isSign : ℕ → Bool
 isSign b = eqb b 43 || eqb b 45 || eqb b 42 || eqb b 44 || eqb b 59 || eqb b 58 || eqb b 61 || eqb b 40 || eqb b 41 || eqb b 91 || eqb b 93
@@ -89,7 +91,8 @@ unfoldable pub orderStep : ℕ → ℕ → List ℕ → Step
 orderStep p k [] = step (wrong StrangeByte) p 0
 orderStep p k (b ∷ t) = cond (eqb b 61) (step (mark k) p 2) (step (wrong StrangeByte) p 0)
 
--- ---- literals: digits, digits.digits or .digits; a point with no digit behind it starts no token
+-- ---- literals: digits, digits.digits or .digits; a point with no digit behind it starts no token (decision 1). A literal of
+-- more than 18 digits is one token, 5 at its first byte (decision 3)
 
 unfoldable pub literalKind : Bool → Fit → Kind
 literalKind w (Fits v) = literal w v
@@ -117,7 +120,7 @@ unfoldable pub inString : ℕ → Bool
 inString b = leb 32 b && leb b 126 && not (eqb b 123)
 
 -- it reaches to its `}` or to the text's end: first the first byte that may not stand in it, wherever it stands, then the
--- shape; `e` is what the string is where every byte may stand
+-- shape (decision 4); `e` is what the string is where every byte may stand
 unfoldable pub strange : ℕ → List ℕ → Step → Step
 strange p [] e = e
 strange p (b ∷ t) e = elim (inString b) [ true ↦ strange (suc p) t e | false ↦ step (wrong StrangeByte) p 0 ]
@@ -164,7 +167,7 @@ tokensFrom p zero (b ∷ t) =
           elim (isWrong (x .token .kind)) [ true ↦ x .token ∷ [] | false ↦ x .token ∷ tokensFrom (suc p) (x .size - 1) t ]
     ]
 
--- tokens that no longer count: the end, a refusal, `INIT` and `CLOSE`, and all behind
+-- tokens that no longer count: the end, a refusal, `INIT` and `CLOSE`, and all behind (decision 7)
 unfoldable pub uncounted : Kind → Bool
 uncounted (mark c) = eqb c initWord || eqb c closeWord
 uncounted (name l) = false

@@ -5,6 +5,7 @@ use mathlib.Core.Path.{_≡_}
 use Prim.Native.Nat.{ℕ, _*_, _<_}
 use native.Mathlib.Nat.{mul-pos}
 use lib.IntN.{ℤ, pos, negℤ, _+ℤ_, _-ℤ_, _*ℤ_}
+use lib.Dec.{lit<}
 use lib.Signed.{_≤ℤ_}
 
 pub record Fraction : Type 0 where
@@ -36,3 +37,7 @@ p ⊗ q = record { num = p .num *ℤ q .num; den = p .den * q .den; positive = m
 
 unfoldable pub opposite : Fraction → Fraction
 opposite p = record { num = negℤ (p .num); den = p .den; positive = p .positive }
+
+-- an integer as a fraction
+unfoldable pub integer : ℤ → Fraction
+integer z = record { num = z; den = 1; positive = lit< tt }

@@ -1,16 +1,16 @@
--- Laws of ℤ that the kit lacks: the ring laws, and the order with sums and products.
--- Each is proved over ℕ: an integer is the difference of its parts, `up z - down z`, and `omega` does the rest.
+-- Laws of ℤ that the kit lacks: a commutative ring (`simp ringℤ`), its order, and division rounded down.
+-- They rest on ℕ: an integer is the difference of its parts, `up z - down z`, and `omega` does the rest.
 -- Assumes nothing.
-use mathlib.Core.Path.{_≡_, refl, sym, _∙_, ap}
+use mathlib.Core.Path.{_≡_, refl, sym, _∙_, ap, subst}
 use mathlib.Core.Bool.{Bool, true, false, cond}
 use mathlib.Core.Logic.{_↔_, _⊎_, inl, inr}
-use Prim.Native.Nat.{ℕ, zero, suc, _+_, _*_, _-_, _<_, _≤_}
+use Prim.Native.Nat.{ℕ, zero, suc, _+_, _*_, _-_, _/_, _<_, _≤_}
 use native.Mathlib.Omega.{arith}
-use lib.Dec.{T, eqb, ltb, leb, ltb→lt, nltb→le, leb→le, le→leb}
-use lib.IntN.{ℤ, pos, negsuc, _+ℤ_, _*ℤ_, negℤ, subℕ, ℤ-discrete}
-use lib.Signed.{_≤ℤ_, leZ, ≤ℤ-refl}
-use borrow.Author.Tests.{ltb-true, ltb-false, eqb-true}
-use native.Mathlib.Nat.{mul-le-mul-left, mul-le-mul-right}
+use native.Mathlib.Nat.{mul-le-mul-right, le-of-mul-le-mul-right, le-div-iff-mul-le, div-lt-iff-lt-mul}
+use lib.Dec.{T, T-prop, ltb, leb→le, le→leb}
+use lib.IntN.{ℤ, pos, negsuc, _+ℤ_, _*ℤ_, negℤ, subℕ, +ℤ-assoc, +ℤ-comm, +ℤ-idl, +ℤ-idr, zero-*ℤ, *ℤ-zero, *ℤ-comm, negℤ-+ℤ, negℤ-negℤ}
+use lib.Signed.{_≤ℤ_, leZ, leZ-yes, shrZ, ≤ℤ-refl}
+use borrow.Author.Tests.{ltb-true, ltb-false, leb-false}
 
 -- the two parts of an integer
 abbrev pub up : ℤ → ℕ
@@ -79,7 +79,29 @@ negℤ-*ℤ a b =
     by-parts _ _
     (omega (arith, mul-parts (negℤ a) b, mul-parts a b, neg-up (a *ℤ b), neg-down (a *ℤ b), times (up b) (neg-up a), times (up b) (neg-down a), times (down b) (neg-up a), times (down b) (neg-down a)))
 
--- the order
+pub +ℤ-*ℤ : (a b c : ℤ) → (a +ℤ b) *ℤ c ≡ a *ℤ c +ℤ b *ℤ c
++ℤ-*ℤ a b c = *ℤ-comm (a +ℤ b) c ∙ *ℤ-+ℤ c a b ∙ cc (*ℤ-comm c a, *ℤ-comm c b)
+
+pub *ℤ-negℤ : (a b : ℤ) → a *ℤ negℤ b ≡ negℤ (a *ℤ b)
+*ℤ-negℤ a b = *ℤ-comm a (negℤ b) ∙ negℤ-*ℤ b a ∙ ap negℤ (*ℤ-comm b a)
+
+pub *ℤ-id : (a : ℤ) → a *ℤ pos 1 ≡ a
+*ℤ-id a = by-parts _ _ (omega (arith, mul-parts a (pos 1)))
+
+pub id-*ℤ : (a : ℤ) → pos 1 *ℤ a ≡ a
+id-*ℤ a = *ℤ-comm (pos 1) a ∙ *ℤ-id a
+
+pub +ℤ-left-comm : (a b c : ℤ) → a +ℤ (b +ℤ c) ≡ b +ℤ (a +ℤ c)
++ℤ-left-comm a b c = sym (+ℤ-assoc a b c) ∙ ap (λ z. z +ℤ c) (+ℤ-comm a b) ∙ +ℤ-assoc b a c
+
+pub *ℤ-left-comm : (a b c : ℤ) → a *ℤ (b *ℤ c) ≡ b *ℤ (a *ℤ c)
+*ℤ-left-comm a b c = sym (*ℤ-assoc a b c) ∙ ap (λ z. z *ℤ c) (*ℤ-comm a b) ∙ *ℤ-assoc b a c
+
+-- `simp ringℤ` proves an identity over variables: it multiplies out and sorts
+pub ruleset ringℤ = (+ℤ-assoc, +ℤ-comm, +ℤ-left-comm, +ℤ-idl, +ℤ-idr, *ℤ-assoc, *ℤ-comm, *ℤ-left-comm, *ℤ-id, id-*ℤ, *ℤ-zero, zero-*ℤ, *ℤ-+ℤ, +ℤ-*ℤ, *ℤ-negℤ, negℤ-*ℤ, negℤ-+ℤ, negℤ-negℤ)
+
+-- ---- the order
+
 pub le-parts : (a b : ℤ) → a ≤ℤ b → up a + down b ≤ up b + down a
 le-parts (pos a) (pos b) h = omega (arith, leb→le a b (h .le))
 le-parts (pos a) (negsuc b) h = absurd (h .le)
@@ -106,3 +128,62 @@ negℤ-mono {a} {b} h = le-of-parts _ _ (omega (arith, le-parts a b h, neg-up a,
 
 pub *ℤ-mono : {a b : ℤ} (n : ℕ) → a ≤ℤ b → (a *ℤ pos n) ≤ℤ (b *ℤ pos n)
 *ℤ-mono {a} {b} n h = le-of-parts _ _ (omega (arith, mul-parts a (pos n), mul-parts b (pos n), mul-le-mul-right n (le-parts a b h)))
+
+-- by a factor that is not negative
+pub *ℤ-mono-up : {a b c : ℤ} → pos 0 ≤ℤ c → a ≤ℤ b → (a *ℤ c) ≤ℤ (b *ℤ c)
+*ℤ-mono-up {c = pos n} z h = *ℤ-mono n h
+*ℤ-mono-up {c = negsuc n} z h = absurd (z .le)
+
+-- a positive factor cancels
+pub *ℤ-cancel-≤ : {a b : ℤ} (n : ℕ) → 0 < n → (a *ℤ pos n) ≤ℤ (b *ℤ pos n) → a ≤ℤ b
+*ℤ-cancel-≤ {a} {b} n p h =
+    le-of-parts a b (le-of-mul-le-mul-right {k = n} (omega (arith, mul-parts a (pos n), mul-parts b (pos n), le-parts _ _ h)) p)
+
+pub ≤ℤ-of-≡ : {a b : ℤ} → a ≡ b → a ≤ℤ b
+≤ℤ-of-≡ {a} e = subst (λ z. a ≤ℤ z) e (≤ℤ-refl a)
+
+pub *ℤ-cancel : {a b : ℤ} (n : ℕ) → 0 < n → a *ℤ pos n ≡ b *ℤ pos n → a ≡ b
+*ℤ-cancel n p e = ≤ℤ-antisym (*ℤ-cancel-≤ n p (≤ℤ-of-≡ e)) (*ℤ-cancel-≤ n p (≤ℤ-of-≡ (sym e)))
+
+pub ≤ℤ-prop : (a b : ℤ) → IsProp (a ≤ℤ b)
+≤ℤ-prop a b x y = λ i. record { le = T-prop (leZ a b) (x .le) (y .le) i }
+
+-- the test of the order
+pub leZ-true : (a b : ℤ) → leZ a b ≡ true → a ≤ℤ b
+leZ-true a b e = leZ-yes (subst T (sym e) tt)
+
+pub leZ-false : (a b : ℤ) → leZ a b ≡ false → b ≤ℤ a
+leZ-false (pos a) (pos b) e = leZ-yes (le→leb b a (omega (arith, leb-false a b e)))
+leZ-false (pos a) (negsuc b) e = leZ-yes tt
+leZ-false (negsuc a) (pos b) e = leZ-yes (subst T e tt)
+leZ-false (negsuc a) (negsuc b) e = leZ-yes (le→leb a b (omega (arith, leb-false b a e)))
+
+pub le-leZ : {a b : ℤ} → a ≤ℤ b → leZ a b ≡ true
+le-leZ {a} {b} h = go (leZ a b) (h .le)
+  where
+    go : (t : Bool) → T t → t ≡ true
+    go true x = refl
+    go false x = absurd x
+
+pub ≤ℤ-total : (a b : ℤ) → (a ≤ℤ b) ⊎ (b ≤ℤ a)
+≤ℤ-total a b = go (leZ a b) refl
+  where
+    go : (t : Bool) → leZ a b ≡ t → (a ≤ℤ b) ⊎ (b ≤ℤ a)
+    go true e = inl (leZ-true a b e)
+    go false e = inr (leZ-false a b e)
+
+-- the quotient by d, rounded down, is the largest integer whose d-fold is at most n
+pub shrZ-is : (n : ℤ) (d : ℕ) (k : ℤ) → 0 < d → ((k *ℤ pos d) ≤ℤ n) ↔ (k ≤ℤ shrZ n d)
+shrZ-is (pos n) d (pos k) z = (
+  λ h. leZ-yes (le→leb k (n / d) (le-div-iff-mul-le z .1 (leb→le _ _ (h .le)))),
+  λ h. leZ-yes (le→leb (k * d) n (le-div-iff-mul-le z .0 (leb→le _ _ (h .le)))),
+)
+shrZ-is (pos n) d (negsuc k) z = (λ h. leZ-yes tt, λ h. le-of-parts _ _ (omega (arith, neg-up (pos (suc k * d)))))
+shrZ-is (negsuc n) d (pos k) z = (λ h. absurd (h .le), λ h. absurd (h .le))
+shrZ-is (negsuc n) d (negsuc k) z =
+    let i : (n / d < suc k) ↔ (n < suc k * d) = div-lt-iff-lt-mul z in
+    let up-zero : up (negℤ (pos (suc k * d))) ≡ 0 = neg-up (pos (suc k * d)) in
+    let down-all : down (negℤ (pos (suc k * d))) ≡ suc k * d = neg-down (pos (suc k * d)) in (
+      λ h. leZ-yes (le→leb (n / d) k (omega (arith, i .1 (omega (arith, le-parts _ _ h))))),
+      λ h. le-of-parts _ _ (omega (arith, i .0 (omega (arith, leb→le (n / d) k (h .le))))),
+    )

@@ -1,8 +1,10 @@
 pub mod Integer
 pub mod Fraction
+pub mod FractionLaws
+pub mod Rational
 pub mod Decimal
+pub mod Number
 pub mod Literal
 pub mod Printed
 pub mod Gathering
-pub mod Rational
-pub mod Number
+pub mod Parts

@@ -1,11 +1,7 @@
-use Prim.Native.Nat.{ℕ, zero, suc}
-use lib.Dec.{lit<}
+-- The exact number that a value is. Assumes nothing.
 use Rattle.value.specs.declared.Value.{Value}
-use Rattle.value.specs.Rational.{ℚ, 𝟏, _⊗_, whole, part}
-
-unfoldable pub tenth : ℕ → ℚ
-tenth zero = 𝟏
-tenth (suc s) = part 10 (lit< tt) ⊗ tenth s
+use Rattle.value.specs.Decimal.{frac}
+use Rattle.value.specs.Rational.{ℚ, rational}
 
 unfoldable pub exactly : Value → ℚ
-exactly v = whole (v .m) ⊗ tenth (v .s)
+exactly v = rational (frac v)

@@ -1,4 +1,18 @@
 // Values: m / 10^s, s from 0 to 6 and as small as it can be, m at most 999,999,999 either side of zero.
+// Every public function is total: it answers for any numbers m and s, also those that are no value.
+ghost use mathlib.Core.Path.{_≡_};
+ghost use mathlib.Core.Bool.{true, false, cond, _&&_};
+ghost use mathlib.Core.List.{[], _∷_};
+ghost use Prim.Native.Nat.{_+_, _*_, _/_, _%_, _^_, _<_, _≤_};
+ghost use lib.ListN.{length};
+ghost use lib.IntN.{pos, natAbs, _+ℤ_, _-ℤ_, _*ℤ_};
+ghost use Rattle.rules.specs.Limits.{mantissaLimit, scaleLimit};
+ghost use Rattle.value.specs.Decimal.{tenths, withSign, at, choose, fitOf, inRange, ifInRange, sumOf, differenceOf, productOf, negate, isAtMost, isZero, wholeOf, ofWhole};
+ghost use Rattle.value.specs.Gathering.{millionths, ofMillionths, isCount, Gathered};
+ghost use Rattle.value.specs.Literal.{isDigit, allDigits, digitOf, numberFrom, before, literalOf};
+ghost use Rattle.value.specs.Printed.{widthFrom, digits, minusSign, places, printed, shown, Written};
+ghost use Rattle.value.specs.Parts.{partsValue};
+
 pub struct Value {
     pub m: i64,
     pub s: usize,
@@ -14,4 +28,460 @@ pub enum Fit {
 pub enum Whole {
     Number(i64),
     NotWhole,
+}
+
+// ---- powers of ten
+
+const POWERS: [u64; 19] = [
+    1,
+    10,
+    100,
+    1000,
+    10000,
+    100000,
+    1000000,
+    10000000,
+    100000000,
+    1000000000,
+    10000000000,
+    100000000000,
+    1000000000000,
+    10000000000000,
+    100000000000000,
+    1000000000000000,
+    10000000000000000,
+    100000000000000000,
+    1000000000000000000,
+];
+
+fn power(k: usize) -> u64
+    requires { ⌜ k < 19 ⌝ }
+    ensures { λ r. ⌜ r ≡ 10 ^ k ⌝ }
+{
+    POWERS[k]
+}
+
+// ---- signed numbers: all code that adds, subtracts or multiplies them stands here
+
+fn plus(a: i64, b: i64) -> i64
+    requires { ⌜ natAbs a + natAbs b < 2 ^ 63 ⌝ }
+    ensures { λ r. ⌜ r ≡ a +ℤ b ⌝ }
+{
+    a + b
+}
+
+fn minus(a: i64, b: i64) -> i64
+    requires { ⌜ natAbs a + natAbs b < 2 ^ 63 ⌝ }
+    ensures { λ r. ⌜ r ≡ a -ℤ b ⌝ }
+{
+    a - b
+}
+
+fn times(a: i64, b: i64) -> i64
+    requires { ⌜ natAbs a * natAbs b < 2 ^ 63 ⌝ }
+    ensures { λ r. ⌜ r ≡ a *ℤ b ⌝ }
+{
+    a * b
+}
+
+// Of any number, also the least, whose magnitude is 2^63.
+fn magnitude(a: i64) -> u64
+    ensures { λ r. ⌜ r ≡ natAbs a ⌝ }
+{
+    if a < 0 {
+        (0 - (a + 1)) as u64 + 1
+    } else {
+        a as u64
+    }
+}
+
+// x with the sign of a
+fn with_sign(a: i64, x: u64) -> i64
+    requires { ⌜ x < 2 ^ 63 ⌝ }
+    ensures { λ r. ⌜ r ≡ withSign a x ⌝ }
+{
+    if a < 0 { 0 - (x as i64) } else { x as i64 }
+}
+
+// ---- the lowest form
+
+// m / 10^i with the sign of z, if m is small enough.
+fn chosen(z: i64, m: u64, i: usize) -> Fit
+    ensures { λ r. ⌜ r ≡ choose z (at m i) ⌝ }
+{
+    if m <= rules::MANTISSA_LIMIT {
+        return Fit::Fits(Value {
+            m: with_sign(z, m),
+            s: i,
+        });
+    }
+    Fit::TooBig
+}
+
+// z / 10^s over the lowest power of ten over which it can be written.
+fn normalise(z: i64, s: usize) -> Fit
+    requires { ⌜ s < 19 ⌝ }
+    ensures { λ r. ⌜ r ≡ fitOf (tenths z s) ⌝ }
+{
+    let x = magnitude(z);
+    let mut i = 0;
+    while i <= rules::SCALE_LIMIT {
+        let d = power(s - i);
+        if x % d == 0 {
+            return chosen(z, x / d, i);
+        }
+        i = i + 1;
+    }
+    Fit::TooBig
+}
+
+// ---- operations
+
+// Are m and s within the bounds of a value?
+fn in_range(v: Value) -> bool
+    ensures { λ r. ⌜ r ≡ inRange v ⌝ }
+{
+    if rules::MANTISSA_LIMIT < magnitude(v.m) {
+        return false;
+    }
+    v.s <= rules::SCALE_LIMIT
+}
+
+fn both_in_range(a: Value, b: Value) -> bool
+    ensures { λ r. ⌜ r ≡ (inRange a && inRange b) ⌝ }
+{
+    if in_range(a) {
+        return in_range(b);
+    }
+    false
+}
+
+// m * 10^k
+fn scaled(m: i64, k: usize) -> i64
+    requires { ⌜ (natAbs m ≤ mantissaLimit) × (k ≤ scaleLimit) ⌝ }
+    ensures { λ r. ⌜ r ≡ m *ℤ pos (10 ^ k) ⌝ }
+{
+    times(m, power(k) as i64)
+}
+
+// A value as a count of millionths.
+fn aligned(v: Value) -> i64
+    requires { ⌜ inRange v ≡ true ⌝ }
+    ensures { λ r. ⌜ r ≡ millionths v ⌝ }
+{
+    let s = v.s;
+    scaled(v.m, rules::SCALE_LIMIT - s)
+}
+
+// The value of a count of millionths, if it fits.
+pub fn of_millionths(z: i64) -> Fit
+    ensures { λ r. ⌜ r ≡ ofMillionths z ⌝ }
+{
+    normalise(z, rules::SCALE_LIMIT)
+}
+
+// Sum, difference and product, exact, if they fit; too big where an operand is out of range.
+pub fn add(a: Value, b: Value) -> Fit
+    ensures { λ r. ⌜ r ≡ ifInRange a b (sumOf a b) ⌝ }
+{
+    if both_in_range(a, b) {
+        return of_millionths(plus(aligned(a), aligned(b)));
+    }
+    Fit::TooBig
+}
+
+pub fn sub(a: Value, b: Value) -> Fit
+    ensures { λ r. ⌜ r ≡ ifInRange a b (differenceOf a b) ⌝ }
+{
+    if both_in_range(a, b) {
+        return of_millionths(minus(aligned(a), aligned(b)));
+    }
+    Fit::TooBig
+}
+
+pub fn mul(a: Value, b: Value) -> Fit
+    ensures { λ r. ⌜ r ≡ ifInRange a b (productOf a b) ⌝ }
+{
+    if both_in_range(a, b) {
+        let m = times(a.m, b.m);
+        let s = a.s + b.s;
+        return normalise(m, s);
+    }
+    Fit::TooBig
+}
+
+// The opposite; what is out of range stays as it is.
+pub fn negated(v: Value) -> Value
+    ensures { λ r. ⌜ r ≡ cond (inRange v) (negate v) v ⌝ }
+{
+    if in_range(v) {
+        return Value {
+            m: minus(0, v.m),
+            s: v.s,
+        };
+    }
+    v
+}
+
+// Is a at most b? Not so where one is out of range.
+pub fn at_most(a: Value, b: Value) -> bool
+    ensures { λ r. ⌜ r ≡ cond (inRange a && inRange b) (isAtMost a b) false ⌝ }
+{
+    if both_in_range(a, b) {
+        return scaled(a.m, b.s) <= scaled(b.m, a.s);
+    }
+    false
+}
+
+pub fn is_zero(v: Value) -> bool
+    ensures { λ r. ⌜ r ≡ isZero v ⌝ }
+{
+    magnitude(v.m) == 0
+}
+
+pub fn whole_of(v: Value) -> Whole
+    ensures { λ r. ⌜ r ≡ wholeOf v ⌝ }
+{
+    if v.s == 0 {
+        return Whole::Number(v.m);
+    }
+    Whole::NotWhole
+}
+
+pub fn of_whole(k: i64) -> Value
+    ensures { λ r. ⌜ r ≡ ofWhole k ⌝ }
+{
+    Value { m: k, s: 0 }
+}
+
+// ---- gathering coefficients
+
+// A count that a value has is below this, either side of zero.
+const COUNT_LIMIT: u64 = 1000000000000000;
+
+fn is_count(z: i64) -> bool
+    ensures { λ r. ⌜ r ≡ isCount z ⌝ }
+{
+    magnitude(z) < COUNT_LIMIT
+}
+
+// Adds v to element k of the sums, which are counts of millionths, and says whether it did: there is such an element, it is
+// a count, v is in range, and the sum fits. Otherwise nothing changes.
+pub fn gather(sums: &mut [i64], k: usize, v: Value) -> bool
+    ensures { λ r. ⌜ Gathered (now (sums .entry)) k v r (now (sums .exit)) ⌝ }
+{
+    if sums.len() <= k {
+        return false;
+    }
+    if !in_range(v) {
+        return false;
+    }
+    let old = sums[k];
+    if !is_count(old) {
+        return false;
+    }
+    let sum = plus(old, aligned(v));
+    match of_millionths(sum) {
+        Fit::Fits(_) => {
+            sums[k] = sum;
+            true
+        }
+        Fit::TooBig => false,
+    }
+}
+
+// ---- reading a literal
+
+fn is_digit(b: u8) -> bool
+    ensures { λ r. ⌜ r ≡ isDigit b ⌝ }
+{
+    if b < 48 {
+        return false;
+    }
+    b <= 57
+}
+
+fn all_digits(t: &[u8]) -> bool
+    ensures { λ r. ⌜ r ≡ allDigits (now (t .entry)) ⌝ }
+{
+    let mut i = 0;
+    while i < t.len() {
+        if !is_digit(t[i]) {
+            return false;
+        }
+        i = i + 1;
+    }
+    true
+}
+
+fn digit(b: u8) -> u64
+    ensures { λ r. ⌜ r ≡ digitOf b ⌝ }
+{
+    if is_digit(b) {
+        return (b - 48) as u64;
+    }
+    0
+}
+
+// The number m followed by the digits of t.
+fn number(t: &[u8], m: u64) -> u64
+    requires { ⌜ (m + 1) * 10 ^ length (now t) ≤ 10 ^ 18 ⌝ }
+    ensures { λ r. ⌜ r ≡ numberFrom m (now (t .entry)) ⌝ }
+{
+    let mut x = m;
+    let mut i = 0;
+    while i < t.len() {
+        x = x * 10 + digit(t[i]);
+        i = i + 1;
+    }
+    x
+}
+
+// Where the first point is, or the end.
+fn point(t: &[u8]) -> usize
+    ensures { λ r. ⌜ r ≡ length (before (now (t .entry))) ⌝ }
+{
+    let mut i = 0;
+    while i < t.len() {
+        if t[i] == b'.' {
+            return i;
+        }
+        i = i + 1;
+    }
+    i
+}
+
+// The value of the digits a before the point and b after it.
+fn read_parts(a: &[u8], b: &[u8]) -> Fit
+    ensures { λ r. ⌜ r ≡ partsValue (now (a .entry)) (now (b .entry)) ⌝ }
+{
+    let w = a.len();
+    let f = b.len();
+    if rules::DIGIT_LIMIT < w {
+        return Fit::TooBig;
+    }
+    if rules::DIGIT_LIMIT - w < f {
+        return Fit::TooBig;
+    }
+    if !all_digits(a) {
+        return Fit::TooBig;
+    }
+    if !all_digits(b) {
+        return Fit::TooBig;
+    }
+    let m = number(a, 0);
+    let x = number(b, m);
+    normalise(x as i64, f)
+}
+
+// The value of a literal: digits, digits.digits or .digits, at most 18 digits. Too big if t is none, or doesn't fit.
+pub fn literal(t: &[u8]) -> Fit
+    ensures { λ r. ⌜ r ≡ literalOf (now (t .entry)) ⌝ }
+{
+    let n = t.len();
+    if n == 0 {
+        return Fit::TooBig;
+    }
+    let p = point(t);
+    if n <= p {
+        return read_parts(t, &t[n..]);
+    }
+    let q = p + 1;
+    if n <= q {
+        return Fit::TooBig;
+    }
+    read_parts(&t[..p], &t[q..])
+}
+
+// ---- printing
+
+// Writes b at a place of the output, or past its end nothing; the next place.
+fn put(out: &mut [u8], at: usize, b: u8) -> usize
+    requires { ⌜ at < 2 ^ 62 ⌝ }
+    ensures { λ r. ⌜ Written (now (out .entry)) at (b ∷ []) r (now (out .exit)) ⌝ }
+{
+    if at < out.len() {
+        out[at] = b;
+        return at + 1;
+    }
+    at + 1
+}
+
+fn digit_at(n: u64, k: usize) -> u8
+    requires { ⌜ k < 19 ⌝ }
+    ensures { λ r. ⌜ r ≡ n / 10 ^ k % 10 + 48 ⌝ }
+{
+    (n / power(k) % 10) as u8 + 48
+}
+
+// The lowest k digits of n.
+fn put_digits(out: &mut [u8], at: usize, k: usize, n: u64) -> usize
+    requires { ⌜ (k < 19) × (at < 2 ^ 61) ⌝ }
+    ensures { λ r. ⌜ Written (now (out .entry)) at (digits k n) r (now (out .exit)) ⌝ }
+{
+    let mut i = at;
+    let mut j = k;
+    while 0 < j {
+        j = j - 1;
+        i = put(out, i, digit_at(n, j));
+    }
+    i
+}
+
+// How many digits n has, up to 18.
+fn width_of(n: u64) -> usize
+    ensures { λ r. ⌜ (r ≡ widthFrom 17 1 n) × (r < 19) ⌝ }
+{
+    let mut w = 1;
+    while w < 18 {
+        if n < power(w) {
+            return w;
+        }
+        w = w + 1;
+    }
+    w
+}
+
+fn put_sign(out: &mut [u8], m: i64) -> usize
+    ensures { λ r. ⌜ Written (now (out .entry)) 0 (minusSign m) r (now (out .exit)) ⌝ }
+{
+    if m < 0 {
+        return put(out, 0, b'-');
+    }
+    0
+}
+
+// A point and s digits, or nothing if s is 0.
+fn put_places(out: &mut [u8], at: usize, s: usize, x: u64) -> usize
+    requires { ⌜ (s < 19) × (at < 2 ^ 60) ⌝ }
+    ensures { λ r. ⌜ Written (now (out .entry)) at (places s x) r (now (out .exit)) ⌝ }
+{
+    if s == 0 {
+        return at;
+    }
+    let next = put(out, at, b'.');
+    put_digits(out, next, s, x)
+}
+
+fn put_value(out: &mut [u8], v: Value) -> usize
+    requires { ⌜ inRange v ≡ true ⌝ }
+    ensures { λ r. ⌜ Written (now (out .entry)) 0 (printed v) r (now (out .exit)) ⌝ }
+{
+    let m = v.m;
+    let s = v.s;
+    let x = magnitude(m);
+    let whole = x / power(s);
+    let at = put_sign(out, m);
+    let mid = put_digits(out, at, width_of(whole), whole);
+    put_places(out, mid, s, x)
+}
+
+// Writes a value, as far as the output reaches; the text's length. Nothing for what is out of range.
+pub fn print(v: Value, out: &mut [u8]) -> usize
+    ensures { λ r. ⌜ Written (now (out .entry)) 0 (shown v) r (now (out .exit)) ⌝ }
+{
+    if in_range(v) {
+        return put_value(out, v);
+    }
+    0
 }

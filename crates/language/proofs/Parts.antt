@@ -1,0 +1,32 @@
+-- A line is its word and its fields. Assumes nothing.
+use mathlib.Core.Path.{_≡_, refl}
+use mathlib.Core.Bool.{cond}
+use mathlib.Core.List.{List, [], _∷_, _++_, map}
+use Prim.Native.Nat.{ℕ}
+use Rattle.value.specs.Printed.{natural, printed, printedWhole}
+use Rattle.language.specs.Listing.{Line, lpLine, rowLine, varLine, colLine, endLine, fields, upperField, bytesOf}
+
+abbrev pub wordOf : Line → List ℕ
+wordOf (lpLine a b c d s t) = 108 ∷ 112 ∷ []
+wordOf (rowLine n q v s e) = 114 ∷ 111 ∷ 119 ∷ []
+wordOf (varLine n d l u s e) = 118 ∷ 97 ∷ 114 ∷ []
+wordOf (colLine j i v) = 99 ∷ 111 ∷ 108 ∷ []
+wordOf endLine = 101 ∷ 110 ∷ 100 ∷ []
+
+abbrev pub fieldsOf : Line → List (List ℕ)
+fieldsOf (lpLine a b c d s t) = natural a ∷ natural b ∷ natural c ∷ natural d ∷ s ∷ t ∷ []
+fieldsOf (rowLine n q v s e) = natural n ∷ (cond q 69 76 ∷ []) ∷ printed v ∷ s ∷ map printedWhole e
+fieldsOf (varLine n d l u s e) = natural n ∷ (cond d 68 67 ∷ []) ∷ printed l ∷ upperField u ∷ s ∷ map printedWhole e
+fieldsOf (colLine j i v) = natural j ∷ natural i ∷ printed v ∷ []
+fieldsOf endLine = []
+
+abbrev pub partsOf : Line → List (List ℕ)
+partsOf l = wordOf l ∷ fieldsOf l
+
+pub bytes-parts : (l : Line) → bytesOf l ≡ wordOf l ++ fields (fieldsOf l)
+unfolding bytesOf
+bytes-parts (lpLine a b c d s t) = refl
+bytes-parts (rowLine n q v s e) = refl
+bytes-parts (varLine n d l u s e) = refl
+bytes-parts (colLine j i v) = refl
+bytes-parts endLine = refl

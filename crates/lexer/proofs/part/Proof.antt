@@ -1,0 +1,65 @@
+use borrow.Author.Needs.{needs}
+use Rattle.lexer.proofs.Runs.{part-out, part-rest, part-whole}
+use Rattle.lexer.proofs.part.Statement.{statement}
+use Rattle.lexer.proofs.part.Tie as tie
+
+sub-result : tie.Need-sub-result
+sub-result c = search needs
+
+part-result-start : tie.Need-part-result-start
+part-result-start c = search needs
+
+part-result-end : tie.Need-part-result-end
+part-result-end c = search needs
+
+returns : tie.Need-returns
+returns c = search part-out depth 5
+
+sub-if2 : tie.Need-sub-if2
+sub-if2 c = search needs
+
+sub-result-2 : tie.Need-sub-result-2
+sub-result-2 c = search needs
+
+part-result-start-2 : tie.Need-part-result-start-2
+part-result-start-2 c = search needs
+
+part-result-end-2 : tie.Need-part-result-end-2
+part-result-end-2 c = search needs
+
+returns-2 : tie.Need-returns-2
+returns-2 c = search part-rest depth 5
+
+add-stop : tie.Need-add-stop
+add-stop c = search needs
+
+sub-result-3 : tie.Need-sub-result-3
+sub-result-3 c = search needs
+
+part-result-start-3 : tie.Need-part-result-start-3
+part-result-start-3 c = search needs
+
+part-result-end-3 : tie.Need-part-result-end-3
+part-result-end-3 c = search needs
+
+returns-3 : tie.Need-returns-3
+returns-3 c = search part-whole depth 4
+
+pub part-spec : {M : Type 1} → statement M
+part-spec =
+    tie.close
+    (tie.spec
+    sub-result
+    part-result-start
+    part-result-end
+    returns
+    sub-if2
+    sub-result-2
+    part-result-start-2
+    part-result-end-2
+    returns-2
+    add-stop
+    sub-result-3
+    part-result-start-3
+    part-result-end-3
+    returns-3)

@@ -1,0 +1,210 @@
+-- Laws of the search by halving: keys are compared word by word; a key bracketed in a sorted table; the row that a search from
+-- the front finds. Assumes nothing.
+use mathlib.Core.Path.{_≡_, refl, sym, _∙_, ap, subst}
+use mathlib.Core.Bool.{Bool, true, false}
+use mathlib.Core.Option.{none, some}
+use mathlib.Core.List.{List}
+use mathlib.Core.Logic.{_⊎_, inl, inr, ⊎-elim}
+use Prim.Native.Nat.{ℕ, zero, suc, _+_, _*_, _<_, _≤_}
+use native.Mathlib.Omega.{arith}
+use native.Mathlib.Nat.{eq-or-lt-of-le}
+use borrow.Author.Tests.{lt-ltb, le-ltb, ltb-true, ltb-false, eq-eqb, ne-eqb, eqb-true, eqb-false}
+use lib.Dec.{eqb, ltb}
+use Rattle.store.specs.declared.Key.{Key}
+use Rattle.store.specs.declared.Found.the-variants.{At, Nothing}
+use Rattle.store.specs.declared.Place.{Place}
+use Rattle.store.specs.declared.Place.the-variants.{Taken, Free}
+use Rattle.store.specs.Key.{threeWords, keyNumber}
+use Rattle.store.specs.Table.{partAt, keyAt, wordAt, Sorted, rowFrom, rowOf, wordIn, lookup, Finds, Between, PlaceIs}
+use Rattle.store.proofs.Keys.{higher, nearer, three}
+
+-- ---- three words as one number
+
+module _ (h m l a b c : ℕ) where
+  high-less : h < a → m < 18446744073709551616 → l < 18446744073709551616 → threeWords h m l < threeWords a b c
+  unfolding threeWords
+  high-less u v w = higher 18446744073709551616 _ l _ c (higher 18446744073709551616 h m a b u v) w
+
+  middle-less : h ≡ a → m < b → l < 18446744073709551616 → threeWords h m l < threeWords a b c
+  unfolding threeWords
+  middle-less u v w = rw u (higher 18446744073709551616 _ l _ c (nearer (a * 18446744073709551616) v) w)
+
+  low-less : h ≡ a → m ≡ b → l < c → threeWords h m l < threeWords a b c
+  unfolding threeWords
+  low-less u v w = rw (u, v) (nearer ((a * 18446744073709551616 + b) * 18446744073709551616) w)
+
+more : {x y : ℕ} → y < x → ltb x y ≡ false
+more {x} {y} h = le-ltb x y (omega arith)
+
+less-not-equal : {A : Type 0} {x y : ℕ} → x ≡ y → x < y → A
+less-not-equal e h = absurd (omega arith)
+
+module _ (h m l a b c : ℕ) (w : m < 18446744073709551616) (x : l < 18446744073709551616) (y : b < 18446744073709551616) (z : c < 18446744073709551616)
+    (e : threeWords h m l ≡ threeWords a b c) where
+  same-high : h ≡ a
+  same-high = three h a (λ u. less-not-equal e (high-less h m l a b c u w x)) (λ u. u) (λ u. less-not-equal (sym e) (high-less a b c h m l u y z))
+
+  same-middle : m ≡ b
+  same-middle = three m b
+      (λ u. less-not-equal e (middle-less h m l a b c same-high u x))
+      (λ u. u)
+      (λ u. less-not-equal (sym e) (middle-less a b c h m l (sym same-high) u z))
+
+-- by the last word, where the others are equal
+module _ (h m l a b c : ℕ) (p : h ≡ a) (q : m ≡ b) where
+  last-less : ltb l c ≡ ltb (threeWords h m l) (threeWords a b c)
+  last-less = three l c
+      (λ u. lt-ltb l c u ∙ sym (lt-ltb _ _ (low-less h m l a b c p q u)))
+      (λ u. rw (p, q, u) (le-ltb c c (omega arith) ∙ sym (le-ltb (threeWords a b c) (threeWords a b c) (omega arith))))
+      (λ u. more u ∙ sym (more (low-less a b c h m l (sym p) (sym q) u)))
+
+  last-equal : eqb l c ≡ eqb (threeWords h m l) (threeWords a b c)
+  last-equal = three l c
+      (λ u. ne-eqb l c (λ e. omega arith) ∙ sym (ne-eqb _ _ (λ e. less-not-equal e (low-less h m l a b c p q u))))
+      (λ u. rw (p, q, u) (eq-eqb c c refl ∙ sym (eq-eqb (threeWords a b c) (threeWords a b c) refl)))
+      (λ u. ne-eqb l c (λ e. omega arith) ∙ sym (ne-eqb _ _ (λ e. less-not-equal (sym e) (low-less a b c h m l (sym p) (sym q) u))))
+
+-- a row's key against another, by the words h, m, l of the row
+module _ (t : List ℕ) (i : ℕ) (k : Key) (h m l : ℕ) (p : h ≡ partAt t i 0) (q : m ≡ partAt t i 1) (r : l ≡ partAt t i 2) where
+  row-key : keyAt t i ≡ threeWords h m l
+  unfolding keyAt
+  row-key = rw (p, q, r)
+
+  pub high-below : h < k .high → m < 18446744073709551616 → l < 18446744073709551616 → true ≡ ltb (keyAt t i) (keyNumber k)
+  unfolding keyNumber
+  high-below u v w = rw row-key (sym (lt-ltb _ _ (high-less h m l (k .high) (k .middle) (k .low) u v w)))
+
+  pub high-above : k .high < h → k .middle < 18446744073709551616 → k .low < 18446744073709551616 → false ≡ ltb (keyAt t i) (keyNumber k)
+  unfolding keyNumber
+  high-above u v w = rw row-key (sym (more (high-less (k .high) (k .middle) (k .low) h m l u v w)))
+
+  pub middle-below : k .high ≤ h → h ≤ k .high → m < k .middle → l < 18446744073709551616 → true ≡ ltb (keyAt t i) (keyNumber k)
+  unfolding keyNumber
+  middle-below u u′ v w = rw row-key (sym (lt-ltb _ _ (middle-less h m l (k .high) (k .middle) (k .low) (omega arith) v w)))
+
+  pub middle-above : k .high ≤ h → h ≤ k .high → k .middle < m → k .low < 18446744073709551616 → false ≡ ltb (keyAt t i) (keyNumber k)
+  unfolding keyNumber
+  middle-above u u′ v w =
+      rw row-key (sym (more (middle-less (k .high) (k .middle) (k .low) h m l (omega arith) v w)))
+
+  pub low-below : k .high ≤ h → h ≤ k .high → k .middle ≤ m → m ≤ k .middle → ltb l (k .low) ≡ ltb (keyAt t i) (keyNumber k)
+  unfolding keyNumber
+  low-below u u′ v v′ = rw row-key (last-less h m l (k .high) (k .middle) (k .low) (omega arith) (omega arith))
+
+  pub high-differs : (h ≡ k .high → ⊥) → m < 18446744073709551616 → l < 18446744073709551616 → k .middle < 18446744073709551616 → k .low < 18446744073709551616
+      → false ≡ eqb (keyAt t i) (keyNumber k)
+  unfolding keyNumber
+  high-differs u w x y z = rw row-key (sym (ne-eqb _ _ (λ e. u (same-high h m l (k .high) (k .middle) (k .low) w x y z e))))
+
+  pub middle-differs : (m ≡ k .middle → ⊥) → m < 18446744073709551616 → l < 18446744073709551616 → k .middle < 18446744073709551616 → k .low < 18446744073709551616
+      → false ≡ eqb (keyAt t i) (keyNumber k)
+  unfolding keyNumber
+  middle-differs u w x y z = rw row-key (sym (ne-eqb _ _ (λ e. u (same-middle h m l (k .high) (k .middle) (k .low) w x y z e))))
+
+  pub low-same : h ≡ k .high → m ≡ k .middle → eqb l (k .low) ≡ eqb (keyAt t i) (keyNumber k)
+  unfolding keyNumber
+  low-same u v = rw row-key (last-equal h m l (k .high) (k .middle) (k .low) u v)
+
+-- ---- a bracketed key
+
+pub between-start : (t : List ℕ) (n k : ℕ) → Between t n k 0 n
+between-start t n k = record {
+  ordered = omega arith;
+  within = omega arith;
+  below = λ s p h. absurd (omega arith);
+  above = λ s p h g. absurd (omega arith);
+}
+
+module _ (t : List ℕ) (n k from to m : ℕ) (b : Between t n k from to) (f : from ≤ m) (g : m < to) where
+  up : keyAt t m < k → Between t n k (m + 1) to
+  up h = record {
+    ordered = omega arith;
+    within = b .within;
+    below = λ s p y. ⊎-elim (λ e. rw e h) (λ z. omega (arith, s .rising p m z (omega (arith, b .within)), h)) (eq-or-lt-of-le {n = p} {m = m} (omega arith));
+    above = b .above;
+  }
+
+  down : k ≤ keyAt t m → Between t n k from m
+  down h = record {
+    ordered = f;
+    within = omega (arith, b .within);
+    below = b .below;
+    above = λ s p y z. ⊎-elim (λ e. rw (← e) h) (λ w. omega (arith, s .rising m p w z, h)) (eq-or-lt-of-le {n = m} {m = p} y);
+  }
+
+  -- by the test of row m
+  pub between-up : (r : Bool) → r ≡ ltb (keyAt t m) k → r ≡ true → Between t n k (m + 1) to
+  between-up r e a = up (ltb-true (keyAt t m) k (sym e ∙ a))
+
+  pub between-down : (r : Bool) → r ≡ ltb (keyAt t m) k → r ≡ false → Between t n k from m
+  between-down r e a = down (ltb-false (keyAt t m) k (sym e ∙ a))
+
+pub between-end : (t : List ℕ) (n k from to : ℕ) → Between t n k from to → to ≤ from → Between t n k from from
+between-end t n k from to b h = let e : to ≡ from = omega (arith, b .ordered) in rw e at b
+
+-- ---- a free place
+
+module _ (t : List ℕ) (n k at : ℕ) (s : Sorted t n) (b : Between t n k at at) (f : at < n → keyAt t at ≡ k → ⊥) where
+  pub free-above : (p : ℕ) → at ≤ p → p < n → k < keyAt t p
+  free-above p y z = three k (keyAt t p)
+      (λ u. u)
+      (λ u. ⊎-elim (λ e. absurd (f (omega arith) (rw e (sym u)))) (λ w. absurd (omega (arith, s .rising at p w z, b .above s at (omega arith) (omega arith)))) (eq-or-lt-of-le {n = at} {m = p} y))
+      (λ u. absurd (omega (arith, b .above s p y z)))
+
+  pub free-none : (p : ℕ) → p < n → keyAt t p ≡ k → ⊥
+  free-none p z e = three p at (λ y. omega (arith, b .below s p y)) (λ y. omega (arith, free-above p (omega arith) z)) (λ y. omega (arith, free-above p (omega arith) z))
+
+-- ---- the row that a search from the front finds
+
+module _ (t : List ℕ) (k : ℕ) where
+  from-at : (n i j : ℕ) → i ≤ j → j < i + n → ((p : ℕ) → i ≤ p → p < j → keyAt t p ≡ k → ⊥) → keyAt t j ≡ k → rowFrom t k i n ≡ At j
+  unfolding rowFrom
+  from-at zero i j a b h e = absurd (omega arith)
+  from-at (suc n) i j a b h e = ⊎-elim
+      (λ w. rw (eq-eqb (keyAt t i) k (rw w e)) (ap At w))
+      (λ w. rw (ne-eqb (keyAt t i) k (h i (omega arith) w)) (from-at n (i + 1) j (omega arith) (omega arith) (λ p y z. h p (omega arith) z) e))
+      (eq-or-lt-of-le {n = i} {m = j} a)
+
+  from-none : (n i : ℕ) → ((p : ℕ) → i ≤ p → p < i + n → keyAt t p ≡ k → ⊥) → rowFrom t k i n ≡ Nothing
+  unfolding rowFrom
+  from-none zero i h = refl
+  from-none (suc n) i h = rw (ne-eqb (keyAt t i) k (h i (omega arith) (omega arith))) (from-none n (i + 1) (λ p y z. h p (omega arith) (omega arith)))
+
+  -- a row has the key, or none has
+  pub row-or-none : (n : ℕ) → ((i : ℕ) × (i < n) × (keyAt t i ≡ k)) ⊎ ((p : ℕ) → p < n → keyAt t p ≡ k → ⊥)
+  row-or-none zero = inr (λ p h e. omega arith)
+  row-or-none (suc n) = go (eqb (keyAt t n) k) refl (row-or-none n)
+    where
+      go : (b : Bool) → eqb (keyAt t n) k ≡ b → ((i : ℕ) × (i < n) × (keyAt t i ≡ k)) ⊎ ((p : ℕ) → p < n → keyAt t p ≡ k → ⊥)
+          → ((i : ℕ) × (i < suc n) × (keyAt t i ≡ k)) ⊎ ((p : ℕ) → p < suc n → keyAt t p ≡ k → ⊥)
+      go true e r = inl (n, omega arith, eqb-true (keyAt t n) k e)
+      go false e (inl r) = inl (r .0, omega (arith, r .1), r .2)
+      go false e (inr r) = inr (λ p h f. ⊎-elim (λ w. eqb-false (keyAt t n) k e (rw w at f)) (λ w. r p w f) (eq-or-lt-of-le {n = p} {m = n} (omega arith)))
+
+module _ (t : List ℕ) (n k : ℕ) where
+  pub row-at : Sorted t n → (i : ℕ) → i < n → keyAt t i ≡ k → rowOf t n k ≡ At i
+  unfolding rowOf
+  row-at s i h e = from-at t k n 0 i (omega arith) (omega arith) (λ p y z w. omega (arith, s .rising p i z h)) e
+
+  pub row-none : ((p : ℕ) → p < n → keyAt t p ≡ k → ⊥) → rowOf t n k ≡ Nothing
+  unfolding rowOf
+  row-none f = from-none t k n 0 (λ p y z. f p (omega arith))
+
+  pub lookup-at : Sorted t n → (i : ℕ) → i < n → keyAt t i ≡ k → lookup t n k ≡ some (wordAt t i)
+  unfolding lookup wordIn
+  lookup-at s i h e = rw (row-at s i h e)
+
+  pub lookup-none : ((p : ℕ) → p < n → keyAt t p ≡ k → ⊥) → lookup t n k ≡ none
+  unfolding lookup wordIn
+  lookup-none f = rw (row-none f)
+
+  -- what `find` answers
+  pub finds-taken : (r : Place) (i : ℕ) → PlaceIs t n k r → r ≡ Taken i → Finds t n k (At i)
+  finds-taken r i h e =
+      let g : PlaceIs t n k (Taken i) = subst (λ p. PlaceIs t n k p) e h in
+      record { within = λ j f. let w : i ≡ j = cc in omega (arith, g .0); is-row = λ s. sym (row-at s i (g .0) (g .1)) }
+
+  pub finds-free : (r : Place) (at : ℕ) → PlaceIs t n k r → r ≡ Free at → Finds t n k Nothing
+  finds-free r at h e =
+      let g : PlaceIs t n k (Free at) = subst (λ p. PlaceIs t n k p) e h in
+      record { within = λ j f. absurd (let w : _≡_ {A = ℕ} 0 1 = cc in omega arith); is-row = λ s. sym (row-none (free-none t n k at s (g .0) (g .1))) }

@@ -1,0 +1,40 @@
+-- The key of a name and an element: one number, in three words. Its digits, most significant first, are the name's number and one
+-- digit for each of four subscripts. Assumes nothing.
+use mathlib.Core.Bool.{cond}
+use mathlib.Core.List.{List, [], _∷_}
+use Prim.Native.Nat.{ℕ, zero, suc, _+_, _*_}
+use lib.Dec.{leb, ltb}
+use lib.IntN.{ℤ, pos, natAbs, _+ℤ_}
+use Rattle.rules.specs.Limits.{mantissaLimit}
+use Rattle.store.specs.declared.Key.{Key}
+
+-- a number in bounds moved above zero, from 1 to 1,999,999,999; 0 for any other
+unfoldable pub digitOf : ℤ → ℕ
+digitOf k = cond (leb (natAbs k) mantissaLimit) (natAbs (k +ℤ pos (suc mantissaLimit))) 0
+
+-- the digit of position i; 0 where the list has none
+unfoldable pub digitAt : List ℤ → ℕ → ℕ
+digitAt [] i = 0
+digitAt (k ∷ l) zero = digitOf k
+digitAt (k ∷ l) (suc i) = digitAt l i
+
+-- names are told apart below 2^20
+unfoldable pub nameBound : ℕ
+nameBound = 1048576
+
+unfoldable pub nameDigit : ℕ → ℕ
+nameDigit i = cond (ltb i nameBound) i nameBound
+
+-- two digits of 31 bits
+unfoldable pub paired : ℕ → ℕ → ℕ
+paired x y = x * 2147483648 + y
+
+-- three words as one number
+unfoldable pub threeWords : ℕ → ℕ → ℕ → ℕ
+threeWords high middle low = (high * 18446744073709551616 + middle) * 18446744073709551616 + low
+
+unfoldable pub keyNumber : Key → ℕ
+keyNumber k = threeWords (k .high) (k .middle) (k .low)
+
+unfoldable pub keyOf : ℕ → List ℤ → ℕ
+keyOf i l = threeWords (paired (nameDigit i) (digitAt l 0)) (paired (digitAt l 1) (digitAt l 2)) (digitAt l 3)

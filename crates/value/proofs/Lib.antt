@@ -1,0 +1,13 @@
+mod Table
+pub mod Integers
+mod Scales
+mod Tenths
+pub mod Fitting
+pub mod Numbers
+pub mod Ranges
+pub mod Operations
+pub mod Gathering
+pub mod Reading
+pub mod Writing
+pub mod ReadBack
+pub mod Cases

@@ -1,0 +1,27 @@
+-- `value::put` meets its contract. Assumes nothing.
+use borrow.Author.Needs.{needs}
+use Rattle.value.proofs.Writing.{written-past}
+use Rattle.value.proofs.put.Statement.{statement}
+use Rattle.value.proofs.put.Tie as tie
+
+slice-write-out : tie.Need-slice-write-out
+slice-write-out c = search needs
+
+add-result : tie.Need-add-result
+add-result c = search needs
+
+same-length : tie.Need-same-length
+same-length c = search needs
+
+returns : tie.Need-returns
+returns c = search needs
+
+add-result-2 : tie.Need-add-result-2
+add-result-2 c = search needs
+
+returns-2 : tie.Need-returns-2
+returns-2 c = written-past _ _ _ (c .if1 .left)
+
+pub put-spec : {M : Type 1} → statement M
+put-spec =
+    tie.close (tie.spec slice-write-out add-result same-length returns add-result-2 returns-2)
