@@ -133,3 +133,49 @@ fn more(text: &[u8], names: &[u64], tokens: &[u64], at: usize) -> Joint
         },
     }
 }
+
+// No row.
+fn no_row(end: Move) -> Row
+    ensures { λ r. ⌜ r ≡ record { title = 0; left = 0; relation = 0; right = 0; domain = 0; end = end } ⌝ }
+{
+    Row {
+        title: 0,
+        left: 0,
+        relation: 0,
+        right: 0,
+        domain: 0,
+        end: end,
+    }
+}
+
+// String, linear form, relation, formula, optional domain.
+pub fn constraint(text: &[u8], names: &[u64], tokens: &[u64], at: usize) -> Row
+    ensures { λ r. ⌜ Gives constraintIn (RowOf (now (text .entry)) (now (tokens .entry)) (wordsOf r)) (now (text .entry)) (now (names .entry)) (now (tokens .entry)) at (r .end) ⌝ }
+{
+    let string = title(text, names, tokens, at);
+    let Move::At(a) = string else {
+        return no_row(string);
+    };
+    let left = linear::linear(text, names, tokens, a, rules::NESTING_LIMIT);
+    let Move::At(b) = left else {
+        return no_row(left);
+    };
+    let compared = relation(text, names, tokens, b);
+    let sign = compared.end;
+    let Move::At(d) = sign else {
+        return no_row(sign);
+    };
+    let right = formulas::formula(text, names, tokens, d, rules::NESTING_LIMIT);
+    let Move::At(e) = right else {
+        return no_row(right);
+    };
+    let end = domains::optional_domain(text, names, tokens, e);
+    Row {
+        title: at as u64,
+        left: a as u64,
+        relation: compared.mark,
+        right: d as u64,
+        domain: e as u64,
+        end: end,
+    }
+}
