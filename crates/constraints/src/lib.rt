@@ -179,3 +179,68 @@ pub fn constraint(text: &[u8], names: &[u64], tokens: &[u64], at: usize) -> Row
         end: end,
     }
 }
+
+// No constraint more is allowed: 6 at the token that stands there.
+fn full(text: &[u8], names: &[u64], tokens: &[u64], at: usize) -> Move
+    ensures { λ r. ⌜ Moves (constraintsIn 0) (now (text .entry)) (now (names .entry)) (now (tokens .entry)) at r ⌝ }
+{
+    let token = tokens::token_at(tokens, at);
+    match token {
+        Seen::Token(k, p, x, next) => Move::Refused(rules::Refusal::Full, p),
+        Seen::Refused(n, p) => Move::Refused(n, p),
+    }
+}
+
+// One or more constraints, into the first rows of the table.
+fn read_rows(text: &[u8], names: &[u64], tokens: &[u64], rows: &mut [u64], at: usize) -> Listed
+    requires { ⌜ 320 ≤ length (now rows) ⌝ }
+    ensures { λ r. ⌜ Constrained (now (text .entry)) (now (names .entry)) (now (tokens .entry)) (now (rows .entry)) at r (now (rows .exit)) ⌝ }
+{
+    let mut n = 0;
+    let mut a = at;
+    while n < rules::CONSTRAINT_LIMIT {
+        let row = constraint(text, names, tokens, a);
+        let read = row.end;
+        let Move::At(b) = read else {
+            return Listed {
+                count: n,
+                end: read,
+            };
+        };
+        tokens::put_row(
+            rows,
+            n,
+            row.title,
+            row.left,
+            row.relation,
+            row.right,
+            row.domain,
+        );
+        n += 1;
+        let joint = more(text, names, tokens, b);
+        let end = joint.end;
+        let Move::At(d) = end else {
+            return Listed { count: n, end: end };
+        };
+        if joint.more {
+            a = d;
+        } else {
+            return Listed { count: n, end: end };
+        }
+    }
+    let end = full(text, names, tokens, a);
+    Listed { count: n, end: end }
+}
+
+// All constraints: 1 to 64 rows of five words.
+pub fn constraints(
+    text: &[u8],
+    names: &[u64],
+    tokens: &[u64],
+    rows: &mut [u64; 320],
+    at: usize,
+) -> Listed
+    ensures { λ r. ⌜ Constrained (now (text .entry)) (now (names .entry)) (now (tokens .entry)) (now (rows .entry)) at r (now (rows .exit)) ⌝ }
+{
+    read_rows(text, names, tokens, rows, at)
+}
