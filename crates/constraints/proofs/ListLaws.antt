@@ -8,6 +8,7 @@ use lib.ListN.{length, drop}
 use lib.Seq.{drop-drop}
 use Rattle.rules.specs.declared.Refusal.{Refusal}
 use Rattle.rules.specs.declared.Refusal.the-variants.{Full}
+use Rattle.rules.specs.Limits.{constraintLimit}
 use Rattle.lexer.specs.Text.{Token}
 use Rattle.language.specs.Outcome.{Outcome, done, refused, refused-done}
 use Rattle.language.specs.Syntax.{Name, Constraint}
@@ -105,6 +106,7 @@ module _ (s ns ts t : List ℕ) (at : ℕ) where
 
   refused-with : (n : ℕ) (t′ : List ℕ) (e : Refusal) (p : ℕ) (r : Move) → r ≡ Refused e p → length t′ ≡ length t → n ≤ 64 → drop (n * 5) t′ ≡ drop (n * 5) t
       → ((names : List Name) → Named s ns names → constraintsIn 64 names (from s ts at) ≡ refused e p) → Constrained s ns ts t at (record { count = n; end = r }) t′
+  unfolding constraintLimit
   refused-with n t′ e p r f size within rest g =
       record {
         size = size;
@@ -118,6 +120,7 @@ module _ (s ns ts t : List ℕ) (at : ℕ) where
     not-at g m names d = never names (from s ts a) _ (stood (constraintsIn 0) s ns ts a (At g) m names d g refl .reads)
 
     pub constraints-full : (q : Move) → 64 ≤ n → Moves (constraintsIn 0) s ns ts a q → Constrained s ns ts t at (record { count = n; end = q }) t′
+    unfolding constraintLimit
     constraints-full (Refused e p) h m =
         let z : 64 - n ≡ 0 = omega arith in
         refused-with n t′ e p (Refused e p) refl (o .size) (o .within) (o .rest) (λ names d.
@@ -174,7 +177,7 @@ module _ (s ns ts t : List ℕ) (at : ℕ) where
               ∙ ap (λ v. turn (64 - (n + 1)) (row-got names d .what) names v (from s ts g)) (x .holds .same ∙ e)
 
           pub constraints-end : j .more ≡ false → Constrained s ns ts t at (record { count = n + 1; end = At g }) t″
-          unfolding turn
+          unfolding turn constraintLimit
           constraints-end e =
               record {
                 size = w .size ∙ o .size;

@@ -4,7 +4,7 @@ use mathlib.Core.Bool.{Bool}
 use mathlib.Core.List.{List, [], _∷_}
 use Prim.Native.Nat.{ℕ, _*_, _≤_}
 use lib.ListN.{length, drop, getD}
-use Rattle.rules.specs.Limits.{nestingLimit}
+use Rattle.rules.specs.Limits.{nestingLimit, constraintLimit}
 use Rattle.lexer.specs.Marks as Marks
 use Rattle.language.specs.Syntax.{Name, Relation, atMost, atLeast, equal, Side, Constraint}
 use Rattle.language.specs.Reader.{readString}
@@ -62,5 +62,5 @@ Rows s ts (a ∷ b ∷ c ∷ d ∷ e ∷ rows) names (x ∷ xs) = RowOf s ts (a 
 pub record Constrained (s ns ts t : List ℕ) (at : ℕ) (r : Listed) (t′ : List ℕ) : Type 0 where
   pub size : length t′ ≡ length t
   pub within : r .count ≤ 64
-  pub gives : Gives (constraintsIn 64) (Rows s ts (rowsOf (r .count) t′)) s ns ts at (r .end)
+  pub gives : Gives (constraintsIn constraintLimit) (Rows s ts (rowsOf (r .count) t′)) s ns ts at (r .end)
   pub rest : drop (r .count * 5) t′ ≡ drop (r .count * 5) t
