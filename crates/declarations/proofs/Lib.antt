@@ -2,3 +2,4 @@ pub mod DueLaws
 pub mod IndexLaws
 pub mod EntryLaws
 pub mod RowLaws
+pub mod ListLaws

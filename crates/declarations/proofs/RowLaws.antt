@@ -1,9 +1,8 @@
 -- Laws of one entry of a list, over plain variables. Assumes nothing.
 use mathlib.Core.Path.{_≡_, refl, sym, _∙_, ap, subst}
 use mathlib.Core.Bool.{Bool, true, false, not}
-use mathlib.Core.Option.{none, some}
 use mathlib.Core.List.{List, [], _∷_}
-use Prim.Native.Nat.{ℕ, zero, suc, _+_, _*_, _/_, _%_, _<_, _≤_}
+use Prim.Native.Nat.{ℕ, _*_, _/_, _<_, _≤_}
 use native.Mathlib.Omega.{arith}
 use lib.Dec.{eqb, ltb}
 use lib.ListN.{length}
@@ -12,11 +11,10 @@ use Rattle.rules.specs.declared.Refusal.{Refusal}
 use Rattle.rules.specs.declared.Refusal.the-variants.{Misplaced, BadName, Full}
 use Rattle.rules.specs.Limits.{nameLimit}
 use Rattle.lexer.specs.Text.{Token}
-use Rattle.lexer.specs.Text
 use Rattle.lexer.specs.Marks.{comma, semicolon}
-use Rattle.language.specs.Outcome.{Outcome, done, refused}
+use Rattle.language.specs.Outcome.{refused}
 use Rattle.language.specs.Syntax.{Name, Sort}
-use Rattle.language.specs.Reader.{Reader, Read, follow, _>>=_, give, next, isMark, isSome, demand, require, nameOf, Titled, find}
+use Rattle.language.specs.Reader.{Reader, follow, _>>=_, give, isMark, isSome, demand, require, nameOf, Titled, find}
 use Rattle.language.specs.Declarations.{newName}
 use Rattle.tokens.specs.declared.Move.{Move}
 use Rattle.tokens.specs.declared.Move.the-variants.{At, Refused}

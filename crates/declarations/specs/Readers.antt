@@ -1,16 +1,16 @@
 -- The readers of declarations, each a function of the names. Assumes nothing.
 use mathlib.Core.Bool.{Bool, true, false, _&&_, not}
 use mathlib.Core.List.{List, [], _∷_}
-use Prim.Native.Nat.{ℕ, zero, suc, _-_}
+use Prim.Native.Nat.{ℕ, zero, suc, _-_, _+_}
 use lib.Dec.{eqb}
 use lib.ListN.{getD}
 use Rattle.rules.specs.declared.Refusal.the-variants.{Misplaced}
 use Rattle.rules.specs.Limits.{nestingLimit, indexLimit}
-use Rattle.lexer.specs.Marks.{comma, opens, opensList, closesList, semicolon}
+use Rattle.lexer.specs.Marks.{comma, opens, opensList, closesList, semicolon, indexWord}
 use Rattle.language.specs.Syntax.{Name, Sort, Spans}
 use Rattle.language.specs.Syntax
 use Rattle.language.specs.Reader.{Reader, give, require, next, look, isMark, expect, bracket, Used, readKnown, Titled, _>>=_}
-use Rattle.language.specs.Declarations.{dueOf, indicesOf, subscripted, indexEntry, formulaEntry, domainEntry, newName}
+use Rattle.language.specs.Declarations.{dueOf, indicesOf, subscripted, indexEntry, formulaEntry, domainEntry, newName, entriesFrom, listOf}
 
 -- the first k numbers of a list, the last one first
 unfoldable pub shown : List ℕ → ℕ → List ℕ
@@ -93,3 +93,18 @@ rowIn k names = do
   y ← entryIn k names
   b ← separatorIn names
   give (record { name = record { spelling = x .title; place = x .place; sort = y }; more = b })
+
+-- at most n entries of sort k
+unfoldable pub entriesIn : ℕ → ℕ → List Name → Reader (List Name)
+entriesIn k n names = entriesFrom (entryIn k) n names
+
+-- the list of sort k, if its word stands there; the words have the numbers from 140 on
+unfoldable pub listIn : ℕ → List Name → Reader (List Name)
+listIn k names = listOf (indexWord + k) (entryIn k) names
+
+-- n lists, from that of sort k on
+unfoldable pub listsIn : ℕ → ℕ → List Name → Reader (List Name)
+listsIn zero k names = give names
+listsIn (suc n) k names = do
+  all ← listIn k names
+  listsIn n (suc k) all

@@ -1,22 +1,24 @@
 -- What code tells of what it read, and what the name table tells of the declared names. Assumes nothing.
 use mathlib.Core.Path.{_≡_}
 use mathlib.Core.Bool.{Bool}
-use mathlib.Core.List.{List, []}
+use mathlib.Core.List.{List, [], _∷_, _++_}
 use Prim.Native.Nat.{ℕ, _≤_, _/_, _<_}
 use lib.ListN.{length, take}
 use Rattle.rules.specs.Limits.{nestingLimit}
 use Rattle.language.specs.Syntax.{Name, Sort, Spans}
 use Rattle.language.specs.Syntax
-use Rattle.language.specs.Reader.{Used, Titled}
+use Rattle.language.specs.Reader.{Used, Titled, Reader, Read}
 use Rattle.language.specs.Formulas.{formulaAt}
-use Rattle.language.specs.Declarations.{dueOf}
-use Rattle.tokens.specs.Stored.{size, Shaped, Stands, Gives, spelling}
+use Rattle.language.specs.Declarations.{dueOf, declarations}
+use Rattle.tokens.specs.Stored.{size, Shaped, Stands, Gives, spelling, Named, rowsOf, from}
 use Rattle.declarations.specs.declared.Indices.{Indices}
+use Rattle.declarations.specs.declared.Listed.{Listed}
 use Rattle.declarations.specs.declared.Row.{Row}
 use Rattle.declarations.specs.declared.Title.{Title}
 use Rattle.tokens.specs.declared.Move.{Move}
 use Rattle.tokens.specs.declared.Move.the-variants.{At, Refused}
 use Rattle.declarations.specs.Readers.{indicesIn, newNameIn, One, rowIn}
+use Rattle.language.specs.Outcome.{Outcome, done, refused}
 
 -- an index has the number i
 pub record IsNumber (i : ℕ) (names : List Name) (u : Used) : Type 0 where
@@ -84,3 +86,39 @@ pub record IsRow (s ts : List ℕ) (k p n c q : ℕ) (b : Bool) (names : List Na
 pub record RowedAt (s ns ts : List ℕ) (k at : ℕ) (r : Row) : Type 0 where
   pub gives : Gives (rowIn k) (IsRow s ts k (r .place) (r .bytes) (r .count) (r .position) (r .more)) s ns ts at (r .end)
   pub room : Room ns (r .end)
+
+-- ---- the name table
+
+-- of each name its place, and where what was declared stands; the names before it read it there
+abbrev pub Told : List ℕ → List ℕ → List ℕ → List Name → List Name → Type 0
+Told s ts [] before [] = Unit {0}
+Told s ts [] before (y ∷ ys) = ⊥
+Told s ts (p ∷ []) before ys = ⊥
+Told s ts (p ∷ n ∷ []) before ys = ⊥
+Told s ts (p ∷ n ∷ k ∷ []) before ys = ⊥
+Told s ts (p ∷ n ∷ k ∷ c ∷ []) before ys = ⊥
+Told s ts (p ∷ n ∷ k ∷ c ∷ q ∷ ns) before [] = ⊥
+Told s ts (p ∷ n ∷ k ∷ c ∷ q ∷ ns) before (y ∷ ys) = (y .place ≡ p) × Declares s ts before (y .sort) q × Told s ts ns (before ++ (y ∷ [])) ys
+
+-- all that the rows tell of the declared names
+pub record NamesAre (s ts ns : List ℕ) (names : List Name) : Type 0 where
+  pub named : Named s ns names
+  pub told : Told s ts ns [] names
+
+-- the same refusal, or the rows tell of the names
+abbrev pub Listing : Outcome (Read (List Name)) → List ℕ → List ℕ → Move → List ℕ → Type 0
+Listing (done x) s ts (At a) ns = (x .rest ≡ from s ts a) × NamesAre s ts ns (x .what)
+Listing (done x) s ts (Refused r p) ns = ⊥
+Listing (refused r q) s ts (At a) ns = ⊥
+Listing (refused r q) s ts (Refused r′ p) ns = (r ≡ r′) × (q ≡ p)
+
+-- a reader of more names, of a table ns with `count` rows that becomes ns′
+pub record Lists (m : List Name → Reader (List Name)) (s ts ns : List ℕ) (count at : ℕ) (r : Listed) (ns′ : List ℕ) : Type 0 where
+  pub size : length ns′ ≡ length ns
+  pub within : r .count ≤ 64
+  pub lists : (names : List Name) → NamesAre s ts (rowsOf count ns) names → Listing (m names (from s ts at)) s ts (r .end) (rowsOf (r .count) ns′)
+
+-- all declarations
+pub record Declared (s ts : List ℕ) (at : ℕ) (r : Listed) (ns : List ℕ) : Type 0 where
+  pub within : r .count ≤ 64
+  pub lists : Listing (declarations (from s ts at)) s ts (r .end) (rowsOf (r .count) ns)

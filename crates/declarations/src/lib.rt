@@ -8,14 +8,16 @@ use tokens::marks;
 use tokens::sorts;
 ghost use mathlib.Core.Path.{_≡_};
 ghost use mathlib.Core.Bool.{false};
-ghost use lib.ListN.{getD};
+ghost use Prim.Native.Nat.{_≤_};
+ghost use lib.ListN.{length, getD};
+ghost use Rattle.rules.specs.Limits.{tokenLimit};
 ghost use Rattle.language.specs.Declarations.{isIn};
 ghost use Rattle.tokens.specs.Stored.{Moves, Gives};
 ghost use Rattle.tokens.specs.declared.Move.the-variants.{Refused};
 ghost use Rattle.tokens.specs.Pieces.{indexIn};
 ghost use Rattle.domains.specs.Domains.{entryWith};
-ghost use Rattle.declarations.specs.Readers.{shown, dueWith, dueIn, jointIn, subscriptedIn, domainIn, entryIn, separatorIn};
-ghost use Rattle.declarations.specs.Tables.{IsNumber, IsMore, Indexed, Spanning, Entered, TitledAt, RowedAt};
+ghost use Rattle.declarations.specs.Readers.{shown, dueWith, dueIn, jointIn, subscriptedIn, domainIn, entryIn, separatorIn, entriesIn, listIn, listsIn};
+ghost use Rattle.declarations.specs.Tables.{IsNumber, IsMore, Indexed, Spanning, Entered, TitledAt, RowedAt, Lists, Declared};
 
 // An index by its number, and where its reading ended.
 struct Index {
@@ -482,4 +484,111 @@ fn no_row(end: Move) -> Row
         more: false,
         end: end,
     }
+}
+
+// The entries of a list of the given sort, each appended to the `count` rows of the name table.
+fn entries(
+    text: &[u8],
+    tokens: &[u64],
+    names: &mut [u64],
+    at: usize,
+    count: usize,
+    sort: u64,
+) -> Listed
+    requires { ⌜ (320 ≤ length (now names)) × (count ≤ 64) × (sort ≤ 5) ⌝ }
+    ensures { λ r. ⌜ Lists (entriesIn sort tokenLimit) (now (text .entry)) (now (tokens .entry)) (now (names .entry)) count at r (now (names .exit)) ⌝ }
+{
+    let mut n = count;
+    let mut a = at;
+    let mut left = rules::TOKEN_LIMIT;
+    while 0 < left {
+        let k = n * 5;
+        let row = read_row(text, &names[..k], tokens, a, sort);
+        let end = row.end;
+        let Move::At(b) = end else {
+            return Listed { count: n, end: end };
+        };
+        tokens::put_row(
+            names,
+            n,
+            row.place,
+            row.bytes,
+            sort,
+            row.count,
+            row.position,
+        );
+        n += 1;
+        if row.more {
+            a = b;
+        } else {
+            return Listed { count: n, end: end };
+        }
+        left -= 1;
+    }
+    Listed {
+        count: n,
+        end: Move::Refused(rules::Refusal::Full, 0),
+    }
+}
+
+// The list of the given sort, if its word stands there.
+fn list(
+    text: &[u8],
+    tokens: &[u64],
+    names: &mut [u64],
+    at: usize,
+    count: usize,
+    sort: u64,
+) -> Listed
+    requires { ⌜ (320 ≤ length (now names)) × (count ≤ 64) × (sort ≤ 5) ⌝ }
+    ensures { λ r. ⌜ Lists (listIn sort) (now (text .entry)) (now (tokens .entry)) (now (names .entry)) count at r (now (names .exit)) ⌝ }
+{
+    let token = tokens::token_at(tokens, at);
+    match token {
+        Seen::Token(k, p, x, next) => {
+            if k == marks::INDEX as u64 + sort {
+                entries(text, tokens, names, next, count, sort)
+            } else {
+                Listed {
+                    count: count,
+                    end: Move::At(at),
+                }
+            }
+        }
+        Seen::Refused(n, p) => Listed {
+            count: count,
+            end: Move::Refused(n, p),
+        },
+    }
+}
+
+// The six lists.
+fn lists(text: &[u8], tokens: &[u64], names: &mut [u64], at: usize) -> Listed
+    requires { ⌜ 320 ≤ length (now names) ⌝ }
+    ensures { λ r. ⌜ Lists (listsIn 6 0) (now (text .entry)) (now (tokens .entry)) (now (names .entry)) 0 at r (now (names .exit)) ⌝ }
+{
+    let mut n = 0;
+    let mut a = at;
+    let mut sort: u64 = 0;
+    while sort < 6 {
+        let some = list(text, tokens, names, a, n, sort);
+        let end = some.end;
+        n = some.count;
+        let Move::At(b) = end else {
+            return Listed { count: n, end: end };
+        };
+        a = b;
+        sort += 1;
+    }
+    Listed {
+        count: n,
+        end: Move::At(a),
+    }
+}
+
+// All declarations, into the rows of the name table.
+pub fn declarations(text: &[u8], tokens: &[u64], names: &mut [u64; 320], at: usize) -> Listed
+    ensures { λ r. ⌜ Declared (now (text .entry)) (now (tokens .entry)) at r (now (names .exit)) ⌝ }
+{
+    lists(text, tokens, names, at)
 }
