@@ -22,7 +22,6 @@ use Rattle.tokens.specs.Stored.{token, from, Sees, Looks, Named, rowsOf, Put, M
 use Rattle.tokens.proofs.Moved.{Got, got, stood, stuck, gives-at, gives-refused, follow-same, look-is}
 use Rattle.constraints.specs.declared.Row.{Row}
 use Rattle.constraints.specs.declared.Joint.{Joint}
-use Rattle.constraints.specs.declared.Listed.{Listed}
 use Rattle.constraints.specs.Readers.{constraintIn, moreIn, constraintsIn}
 use Rattle.constraints.specs.Rows.{IsTrue, RowOf, wordsOf, Rows, Constrained}
 

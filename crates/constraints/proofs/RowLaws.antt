@@ -4,15 +4,14 @@ use mathlib.Core.List.{List, [], _∷_}
 use Prim.Native.Nat.{ℕ}
 use Rattle.rules.specs.declared.Refusal.{Refusal}
 use Rattle.rules.specs.Limits.{nestingLimit}
-use Rattle.language.specs.Outcome.{done, refused}
+use Rattle.language.specs.Outcome.{refused}
 use Rattle.language.specs.Syntax.{Name, Relation, Formula, Spans, Constraint}
-use Rattle.language.specs.Reader.{Reader, follow, _>>=_, give, Titled, readString}
-use Rattle.language.specs.Formulas.{formulaAt, optionalDomain}
-use Rattle.language.specs.Linear.{Linear, linearAt, sideOf}
-use Rattle.language.specs.Grammar.{readRelation, constraintOf}
+use Rattle.language.specs.Reader.{Reader, follow, _>>=_, give, Titled}
+use Rattle.language.specs.Linear.{Linear, sideOf}
+use Rattle.language.specs.Grammar.{constraintOf}
 use Rattle.tokens.specs.declared.Move.{Move}
 use Rattle.tokens.specs.declared.Move.the-variants.{At, Refused}
-use Rattle.tokens.specs.Stored.{from, Named, Stands, Moves, Gives}
+use Rattle.tokens.specs.Stored.{from, Named, Moves, Gives}
 use Rattle.tokens.proofs.Moved.{Stood, stood, stuck, Got, got, gives-at, gives-refused}
 use Rattle.formulas.specs.Cycle.{formulaIn}
 use Rattle.linear.specs.Linear.{linearIn}

@@ -9,9 +9,8 @@ use lib.Dec.{eqb}
 use borrow.Author.Tests.{eqb-true, ne-eqb}
 use Rattle.rules.specs.declared.Refusal.{Refusal}
 use Rattle.rules.specs.declared.Refusal.the-variants.{Misplaced}
-use Rattle.language.specs.Outcome.{done, refused}
 use Rattle.language.specs.Syntax.{Name, Relation, atMost, atLeast, equal}
-use Rattle.language.specs.Reader.{Reader, _>>=_, give, demand, require, isString, stringOf, Titled, readString}
+use Rattle.language.specs.Reader.{_>>=_, give, demand, require, isString, stringOf, readString}
 use Rattle.language.specs.Grammar.{relationOf, readRelation, readGoal}
 use Rattle.tokens.specs.declared.Move.the-variants.{At, Refused}
 use Rattle.tokens.specs.declared.Seen.{Seen}

@@ -20,7 +20,7 @@ use Rattle.tokens.specs.declared.Move.{Move}
 use Rattle.tokens.specs.declared.Move.the-variants.{At, Refused}
 use Rattle.tokens.specs.Stored.{from, Named, Moves, Gives, rowsOf}
 use Rattle.tokens.specs.Pieces.{expectIn}
-use Rattle.tokens.proofs.Moved.{Stood, stood, stuck, Got, got, gives-at, gives-refused, gives-same, follow-same}
+use Rattle.tokens.proofs.Moved.{stood, stuck, Got, got, gives-at, gives-refused, gives-same, follow-same}
 use Rattle.linear.specs.Linear.{linearIn}
 use Rattle.declarations.specs.declared.Listed.{Listed}
 use Rattle.declarations.specs.Tables.{NamesAre, Listing, Declared}
@@ -33,7 +33,7 @@ use Rattle.parser.specs.declared.Body.{Body}
 use Rattle.parser.specs.declared.Opening.{Opening}
 use Rattle.parser.specs.declared.Parsed.{Parsed}
 use Rattle.parser.specs.Readers.{openingIn, Objective, objectiveIn, Content, contentIn}
-use Rattle.parser.specs.Parsed.{TitleAt, FormAt, ObjectiveAt, ContentAt, Bodied, StructureAt, Parsing, ParsedAs}
+use Rattle.parser.specs.Parsed.{TitleAt, ObjectiveAt, ContentAt, Bodied, Parsing, ParsedAs}
 
 -- ---- `OPEN` and a string
 
