@@ -26,7 +26,7 @@ use Rattle.tokens.specs.declared.Known.the-variants as known
 use Rattle.tokens.specs.Stored.{from, Sees, Looks, Named, Knowing, Knows, Moves, Gives, Stands}
 use Rattle.tokens.specs.Pieces.{expectIn, indexIn}
 use Rattle.tokens.proofs.Tables.{index-sort}
-use Rattle.tokens.proofs.Moved.{stuck, Got, gives-at, gives-refused, gives-not, gives-same, gives-stands, gives-map, got, follow-same, next-is, look-is, is-mark, index-yes, index-other, index-wrong}
+use Rattle.tokens.proofs.Moved.{stuck, Got, gives-at, gives-refused, gives-not, gives-same, gives-stands, gives-map, got, follow-same, next-is, look-is, is-mark, index-yes, index-other, index-wrong, prefixed, prefixed-none, prefixed-one, prefixed-twice}
 use Rattle.declarations.specs.Readers.{jointIn, indicesIn}
 use Rattle.declarations.specs.Tables.{IsNumber, IsMore, Numbers, Indexed}
 
@@ -113,26 +113,6 @@ module _ (s ns ts : List ℕ) (at left : ℕ) (r : Move) (h : Moves (expectIn cl
 unfoldable pub indicesLeft : ℕ → List Name → Reader (List ℕ)
 indicesLeft zero names = refuse Full 0
 indicesLeft (suc k) names = indicesOf names k
-
--- with the numbers l in front
-unfoldable pub prefixed : List ℕ → Outcome (Read (List ℕ)) → Outcome (Read (List ℕ))
-prefixed l (done x) = done (record { what = l ++ x .what; rest = x .rest })
-prefixed l (refused n p) = refused n p
-
-prefixed-none : (o : Outcome (Read (List ℕ))) → o ≡ prefixed [] o
-unfolding prefixed
-prefixed-none (done x) = refl
-prefixed-none (refused n p) = refl
-
-prefixed-twice : (l m : List ℕ) (o : Outcome (Read (List ℕ))) → prefixed l (prefixed m o) ≡ prefixed (l ++ m) o
-unfolding prefixed
-prefixed-twice l m (done x) = ap (λ w. done (record { what = w; rest = x .rest })) (sym (append-assoc l m (x .what)))
-prefixed-twice l m (refused n p) = refl
-
-prefixed-one : (i : ℕ) (o : Outcome (Read (List ℕ))) → follow o (λ l. give (i ∷ l)) ≡ prefixed (i ∷ []) o
-unfolding prefixed
-prefixed-one i (done x) = refl
-prefixed-one i (refused n p) = refl
 
 -- behind the index i, with k more allowed
 indicesThen : ℕ → List Name → ℕ → Bool → Reader (List ℕ)

@@ -1,7 +1,7 @@
 -- Laws of moves: a reader and the next one, and the readers of one token. Assumes nothing.
 use mathlib.Core.Path.{_≡_, refl, sym, _∙_, subst, ap}
 use mathlib.Core.Bool.{Bool, true, false, _||_}
-use mathlib.Core.List.{List, _∷_}
+use mathlib.Core.List.{List, _∷_, append-assoc, [], _++_}
 use Prim.Native.Nat.{ℕ, zero, suc, _-_, _<_}
 use native.Mathlib.Omega.{arith}
 use lib.Dec.{eqb}
@@ -145,6 +145,28 @@ module _ {A B : Type 0} where
   pub followed : {C : Type 0} (o : Outcome (Read A)) (f : A → Reader B) (y : Read B) → follow o f ≡ done y → ((x : Read A) → o ≡ done x → f (x .what) (x .rest) ≡ done y → C) → C
   followed (done x) f y e k = k x refl e
   followed (refused n p) f y e k = absurd (refused-done e)
+
+-- ---- lists, with what was read before in front
+
+unfoldable pub prefixed : {A : Type 0} → List A → Outcome (Read (List A)) → Outcome (Read (List A))
+prefixed l (done x) = done (record { what = l ++ x .what; rest = x .rest })
+prefixed l (refused n p) = refused n p
+
+module _ {A : Type 0} where
+  pub prefixed-none : (o : Outcome (Read (List A))) → o ≡ prefixed [] o
+  unfolding prefixed
+  prefixed-none (done x) = refl
+  prefixed-none (refused n p) = refl
+
+  pub prefixed-twice : (l m : List A) (o : Outcome (Read (List A))) → prefixed l (prefixed m o) ≡ prefixed (l ++ m) o
+  unfolding prefixed
+  prefixed-twice l m (done x) = ap (λ w. done (record { what = w; rest = x .rest })) (sym (append-assoc l m (x .what)))
+  prefixed-twice l m (refused n p) = refl
+
+  pub prefixed-one : (a : A) (o : Outcome (Read (List A))) → follow o (λ l. give (a ∷ l)) ≡ prefixed (a ∷ []) o
+  unfolding prefixed
+  prefixed-one a (done x) = refl
+  prefixed-one a (refused n p) = refl
 
 -- ---- one token
 

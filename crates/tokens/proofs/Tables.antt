@@ -7,6 +7,7 @@ use Prim.Native.Nat.{ℕ, zero, suc, _+_, _-_, _<_, _≤_, _/_, _*_}
 use native.Mathlib.Omega.{arith}
 use lib.Dec.{eqb}
 use lib.ListN.{length, drop, getD, List·getD-eq-default, take, set, length-set}
+use lib.Seq.{drop-set-lt}
 use borrow.Author.Tests.{eq-eqb, ne-eqb}
 use Rattle.rules.specs.declared.Refusal.{Refusal}
 use Rattle.rules.specs.declared.Refusal.the-variants.{Misplaced}
@@ -369,10 +370,14 @@ words-put (x ∷ t) (suc i) a b c d e h =
     let i₅ : suc i + 5 ≡ suc (i + 5) = omega arith in
     rw (i₁, i₂, i₃, i₄, i₅) (ap (λ l. x ∷ l) (words-put t i a b c d e (omega arith)))
 
+words-behind : (t : List ℕ) (i j a b c d e : ℕ) → i + 5 ≤ j → drop j (words t i a b c d e) ≡ drop j t
+words-behind t i j a b c d e h =
+    drop-set-lt j _ (i + 4) e (omega arith) ∙ drop-set-lt j _ (i + 3) d (omega arith) ∙ drop-set-lt j _ (i + 2) c (omega arith) ∙ drop-set-lt j _ (i + 1) b (omega arith) ∙ drop-set-lt j t i a (omega arith)
+
 pub put-none : (t row : List ℕ) (n : ℕ) → length t / 5 ≤ n → Put t n row t
-put-none t row n h = record { size = refl; rows = λ i. absurd (omega arith) }
+put-none t row n h = record { size = refl; rows = λ i. absurd (omega arith); rest = refl }
 
 pub put-five : (t : List ℕ) (n a b c d e : ℕ) → n < length t / 5 → Put t n (a ∷ b ∷ c ∷ d ∷ e ∷ []) (words t (n * 5) a b c d e)
 put-five t n a b c d e h =
     let i : (n + 1) * 5 ≡ n * 5 + 5 = omega arith in
-    record { size = simp length-set; rows = λ l. rw i (words-put t (n * 5) a b c d e l) }
+    record { size = simp length-set; rows = λ l. rw i (words-put t (n * 5) a b c d e l); rest = words-behind t (n * 5) ((n + 1) * 5) a b c d e (omega arith) }

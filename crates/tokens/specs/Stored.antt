@@ -148,10 +148,11 @@ Named s (p ∷ n ∷ k ∷ c ∷ q ∷ ns) (y ∷ ys) = (y .spelling ≡ spellin
 abbrev pub rowsOf : ℕ → List ℕ → List ℕ
 rowsOf n t = take (n * 5) t
 
--- row n is written, where the table has room for it
+-- row n is written, where the table has room for it, and what stands behind it stays
 pub record Put (t : List ℕ) (n : ℕ) (row t′ : List ℕ) : Type 0 where
   pub size : length t′ ≡ length t
   pub rows : n * 5 + 5 ≤ length t → rowsOf (n + 1) t′ ≡ rowsOf n t ++ row
+  pub rest : drop ((n + 1) * 5) t′ ≡ drop ((n + 1) * 5) t
 
 -- ---- what stands at a position
 

@@ -1,0 +1,66 @@
+-- What code tells of what it read, and what a table of constraints tells of them. Assumes nothing.
+use mathlib.Core.Path.{_≡_}
+use mathlib.Core.Bool.{Bool}
+use mathlib.Core.List.{List, [], _∷_}
+use Prim.Native.Nat.{ℕ, _*_, _≤_}
+use lib.ListN.{length, drop, getD}
+use Rattle.rules.specs.Limits.{nestingLimit, constraintLimit}
+use Rattle.lexer.specs.Marks as Marks
+use Rattle.language.specs.Syntax.{Name, Relation, atMost, atLeast, equal, Side, Constraint}
+use Rattle.language.specs.Reader.{readString}
+use Rattle.language.specs.Formulas.{formulaAt, optionalDomain}
+use Rattle.language.specs.Linear.{Linear, linearAt, sideOf}
+use Rattle.tokens.specs.Stored.{Stands, Gives, rowsOf}
+use Rattle.constraints.specs.declared.Row.{Row}
+use Rattle.constraints.specs.declared.Listed.{Listed}
+use Rattle.constraints.specs.Readers.{constraintsIn}
+
+-- the mark by which a relation is written
+abbrev pub relationMark : Relation → ℕ
+relationMark atMost = Marks.atMost
+relationMark atLeast = Marks.atLeast
+relationMark equal = Marks.equals
+
+-- a relation is written by the mark m
+pub record IsRelation (m : ℕ) (names : List Name) (r : Relation) : Type 0 where
+  pub mark : relationMark r ≡ m
+
+-- the answer of a test
+pub record IsTrue (b : Bool) (names : List Name) (v : Bool) : Type 0 where
+  pub same : v ≡ b
+
+-- a left side stands at a
+pub record SideAt (s ts : List ℕ) (a : ℕ) (names : List Name) (l : Side) : Type 0 where
+  pub linear : Linear
+  pub stands : Stands (linearAt names nestingLimit) s ts a linear
+  pub side : l ≡ sideOf (linear .signed) (linear .form)
+
+-- a constraint's row: the positions of its string and its left side, the mark of its relation, the positions of its right side and
+-- of its domain
+pub record RowOf (s ts row : List ℕ) (names : List Name) (c : Constraint) : Type 0 where
+  pub title : Stands readString s ts (getD row 0 0) (record { title = c .title; place = c .place })
+  pub left : SideAt s ts (getD row 1 0) names (c .left)
+  pub relation : relationMark (c .relation) ≡ getD row 2 0
+  pub right : Stands (formulaAt names nestingLimit) s ts (getD row 3 0) (c .right)
+  pub domain : Stands (optionalDomain names) s ts (getD row 4 0) (c .domain)
+
+abbrev pub wordsOf : Row → List ℕ
+wordsOf r = r .title ∷ r .left ∷ r .relation ∷ r .right ∷ r .domain ∷ []
+
+-- the rows of a list of constraints, in their order
+abbrev pub Rows : List ℕ → List ℕ → List ℕ → List Name → List Constraint → Type 0
+Rows s ts [] names [] = Unit {0}
+Rows s ts [] names (x ∷ xs) = ⊥
+Rows s ts (a ∷ []) names xs = ⊥
+Rows s ts (a ∷ b ∷ []) names xs = ⊥
+Rows s ts (a ∷ b ∷ c ∷ []) names xs = ⊥
+Rows s ts (a ∷ b ∷ c ∷ d ∷ []) names xs = ⊥
+Rows s ts (a ∷ b ∷ c ∷ d ∷ e ∷ rows) names [] = ⊥
+Rows s ts (a ∷ b ∷ c ∷ d ∷ e ∷ rows) names (x ∷ xs) = RowOf s ts (a ∷ b ∷ c ∷ d ∷ e ∷ []) names x × Rows s ts rows names xs
+
+-- all constraints, in the first rows of a table t that becomes t′
+pub record Constrained (s ns ts t : List ℕ) (at : ℕ) (r : Listed) (t′ : List ℕ) : Type 0 where
+  pub size : length t′ ≡ length t
+  pub within : r .count ≤ 64
+  pub gives : Gives (constraintsIn constraintLimit) (Rows s ts (rowsOf (r .count) t′)) s ns ts at (r .end)
+  pub rest : drop (r .count * 5) t′ ≡ drop (r .count * 5) t

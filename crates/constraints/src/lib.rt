@@ -1,0 +1,246 @@
+// Relations, objectives and constraints read over the stored tokens; each constraint becomes a row of a table.
+use tokens::Move;
+use tokens::Seen;
+use tokens::kinds;
+use tokens::marks;
+ghost use mathlib.Core.Path.{_≡_};
+ghost use Prim.Native.Nat.{_≤_};
+ghost use lib.ListN.{length};
+ghost use Rattle.tokens.specs.Stored.{Moves, Gives};
+ghost use Rattle.constraints.specs.Readers.{titleIn, relationIn, goalIn, constraintIn, moreIn, constraintsIn};
+ghost use Rattle.constraints.specs.Rows.{IsRelation, IsTrue, RowOf, wordsOf, Constrained};
+
+// The mark of a relation, and where its reading ended.
+pub struct Compared {
+    pub mark: u64,
+    pub end: Move,
+}
+
+// Whether the objective is a minimum, and where its word's reading ended.
+pub struct Aim {
+    pub minimize: bool,
+    pub end: Move,
+}
+
+// Whether one more constraint stands there, and where the reading ended.
+struct Joint {
+    more: bool,
+    end: Move,
+}
+
+// A constraint's row: the positions of its string and its left side, the mark of its relation, the positions of its right side and
+// of its domain; and where its reading ended.
+pub struct Row {
+    pub title: u64,
+    pub left: u64,
+    pub relation: u64,
+    pub right: u64,
+    pub domain: u64,
+    pub end: Move,
+}
+
+// How many constraints there are, and where their reading ended.
+pub struct Listed {
+    pub count: usize,
+    pub end: Move,
+}
+
+// A string.
+pub fn title(text: &[u8], names: &[u64], tokens: &[u64], at: usize) -> Move
+    ensures { λ r. ⌜ Moves titleIn (now (text .entry)) (now (names .entry)) (now (tokens .entry)) at r ⌝ }
+{
+    let token = tokens::token_at(tokens, at);
+    match token {
+        Seen::Token(k, p, x, next) => {
+            if k == kinds::STRING {
+                Move::At(next)
+            } else {
+                Move::Refused(rules::Refusal::Misplaced, p)
+            }
+        }
+        Seen::Refused(n, p) => Move::Refused(n, p),
+    }
+}
+
+// One of `<= >= =`.
+pub fn relation(text: &[u8], names: &[u64], tokens: &[u64], at: usize) -> Compared
+    ensures { λ r. ⌜ Gives relationIn (IsRelation (r .mark)) (now (text .entry)) (now (names .entry)) (now (tokens .entry)) at (r .end) ⌝ }
+{
+    let token = tokens::token_at(tokens, at);
+    match token {
+        Seen::Token(k, p, x, next) => {
+            if (k == marks::AT_MOST as u64)
+                | (k == marks::AT_LEAST as u64)
+                | (k == marks::EQUALS as u64)
+            {
+                Compared {
+                    mark: k,
+                    end: Move::At(next),
+                }
+            } else {
+                Compared {
+                    mark: 0,
+                    end: Move::Refused(rules::Refusal::Misplaced, p),
+                }
+            }
+        }
+        Seen::Refused(n, p) => Compared {
+            mark: 0,
+            end: Move::Refused(n, p),
+        },
+    }
+}
+
+// `MAXIMIZE` or `MINIMIZE`.
+pub fn goal(text: &[u8], names: &[u64], tokens: &[u64], at: usize) -> Aim
+    ensures { λ r. ⌜ Gives goalIn (IsTrue (r .minimize)) (now (text .entry)) (now (names .entry)) (now (tokens .entry)) at (r .end) ⌝ }
+{
+    let token = tokens::token_at(tokens, at);
+    match token {
+        Seen::Token(k, p, x, next) => {
+            if (k == marks::MAXIMIZE as u64) | (k == marks::MINIMIZE as u64) {
+                Aim {
+                    minimize: k == marks::MINIMIZE as u64,
+                    end: Move::At(next),
+                }
+            } else {
+                Aim {
+                    minimize: false,
+                    end: Move::Refused(rules::Refusal::Misplaced, p),
+                }
+            }
+        }
+        Seen::Refused(n, p) => Aim {
+            minimize: false,
+            end: Move::Refused(n, p),
+        },
+    }
+}
+
+// Whether a string stands there; it stays.
+fn more(text: &[u8], names: &[u64], tokens: &[u64], at: usize) -> Joint
+    ensures { λ r. ⌜ Gives moreIn (IsTrue (r .more)) (now (text .entry)) (now (names .entry)) (now (tokens .entry)) at (r .end) ⌝ }
+{
+    let token = tokens::token_at(tokens, at);
+    match token {
+        Seen::Token(k, p, x, next) => Joint {
+            more: k == kinds::STRING,
+            end: Move::At(at),
+        },
+        Seen::Refused(n, p) => Joint {
+            more: false,
+            end: Move::Refused(n, p),
+        },
+    }
+}
+
+// No row.
+fn no_row(end: Move) -> Row
+    ensures { λ r. ⌜ r ≡ record { title = 0; left = 0; relation = 0; right = 0; domain = 0; end = end } ⌝ }
+{
+    Row {
+        title: 0,
+        left: 0,
+        relation: 0,
+        right: 0,
+        domain: 0,
+        end: end,
+    }
+}
+
+// String, linear form, relation, formula, optional domain.
+pub fn constraint(text: &[u8], names: &[u64], tokens: &[u64], at: usize) -> Row
+    ensures { λ r. ⌜ Gives constraintIn (RowOf (now (text .entry)) (now (tokens .entry)) (wordsOf r)) (now (text .entry)) (now (names .entry)) (now (tokens .entry)) at (r .end) ⌝ }
+{
+    let string = title(text, names, tokens, at);
+    let Move::At(a) = string else {
+        return no_row(string);
+    };
+    let left = linear::linear(text, names, tokens, a, rules::NESTING_LIMIT);
+    let Move::At(b) = left else {
+        return no_row(left);
+    };
+    let compared = relation(text, names, tokens, b);
+    let sign = compared.end;
+    let Move::At(d) = sign else {
+        return no_row(sign);
+    };
+    let right = formulas::formula(text, names, tokens, d, rules::NESTING_LIMIT);
+    let Move::At(e) = right else {
+        return no_row(right);
+    };
+    let end = domains::optional_domain(text, names, tokens, e);
+    Row {
+        title: at as u64,
+        left: a as u64,
+        relation: compared.mark,
+        right: d as u64,
+        domain: e as u64,
+        end: end,
+    }
+}
+
+// No constraint more is allowed: 6 at the token that stands there.
+fn full(text: &[u8], names: &[u64], tokens: &[u64], at: usize) -> Move
+    ensures { λ r. ⌜ Moves (constraintsIn 0) (now (text .entry)) (now (names .entry)) (now (tokens .entry)) at r ⌝ }
+{
+    let token = tokens::token_at(tokens, at);
+    match token {
+        Seen::Token(k, p, x, next) => Move::Refused(rules::Refusal::Full, p),
+        Seen::Refused(n, p) => Move::Refused(n, p),
+    }
+}
+
+// One or more constraints, into the first rows of the table.
+fn read_rows(text: &[u8], names: &[u64], tokens: &[u64], rows: &mut [u64], at: usize) -> Listed
+    requires { ⌜ 320 ≤ length (now rows) ⌝ }
+    ensures { λ r. ⌜ Constrained (now (text .entry)) (now (names .entry)) (now (tokens .entry)) (now (rows .entry)) at r (now (rows .exit)) ⌝ }
+{
+    let mut n = 0;
+    let mut a = at;
+    while n < rules::CONSTRAINT_LIMIT {
+        let row = constraint(text, names, tokens, a);
+        let read = row.end;
+        let Move::At(b) = read else {
+            return Listed {
+                count: n,
+                end: read,
+            };
+        };
+        tokens::put_row(
+            rows,
+            n,
+            row.title,
+            row.left,
+            row.relation,
+            row.right,
+            row.domain,
+        );
+        n += 1;
+        let joint = more(text, names, tokens, b);
+        let end = joint.end;
+        let Move::At(d) = end else {
+            return Listed { count: n, end: end };
+        };
+        if joint.more {
+            a = d;
+        } else {
+            return Listed { count: n, end: end };
+        }
+    }
+    let end = full(text, names, tokens, a);
+    Listed { count: n, end: end }
+}
+
+// All constraints: 1 to 64 rows of five words.
+pub fn constraints(
+    text: &[u8],
+    names: &[u64],
+    tokens: &[u64],
+    rows: &mut [u64; 320],
+    at: usize,
+) -> Listed
+    ensures { λ r. ⌜ Constrained (now (text .entry)) (now (names .entry)) (now (tokens .entry)) (now (rows .entry)) at r (now (rows .exit)) ⌝ }
+{
+    read_rows(text, names, tokens, rows, at)
+}
