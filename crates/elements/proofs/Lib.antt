@@ -1,2 +1,4 @@
 pub mod Walks
 pub mod Folded
+pub mod Runs
+pub mod Levels

@@ -84,3 +84,9 @@ module _ {A B : Type 0} (f : A → B) where
   behind-mapped (stopped n p) b u h = absurd h
   behind-mapped (reaches a w) b u (inl h) = record { of = a; rest = w; behind = inl (refl, refl); is = h .0; joins = sym (h .1) }
   behind-mapped (reaches a w) b u (inr h) = let i = behind-mapped w b u h in record { of = i .of; rest = i .rest; behind = inr (i .behind); is = i .is; joins = i .joins }
+
+pub mapped-mapped : {A B C : Type 0} (f : A → B) (g : B → C) (w : Walked A) → mapped g (mapped f w) ≡ mapped (λ a. g (f a)) w
+unfolding mapped
+mapped-mapped f g finished = refl
+mapped-mapped f g (stopped n p) = refl
+mapped-mapped f g (reaches a w) = ap (reaches (g (f a))) (mapped-mapped f g w)
