@@ -25,7 +25,7 @@ use Rattle.elements.proofs.Walks.{mapped-mapped, mapped-chained, behind
 use Rattle.elements.proofs.Runs.{behind-range}
 
 -- the numbers of a run are those from one limit to the other
-run-is : (l : Limits) (i : ℕ) (s : Scope) (p : ℕ) (ks : List ℤ) → runOf l i s p ≡ done ks → range (l .lower) (l .upper) ≡ ks
+pub run-is : (l : Limits) (i : ℕ) (s : Scope) (p : ℕ) (ks : List ℤ) → runOf l i s p ≡ done ks → range (l .lower) (l .upper) ≡ ks
 unfolding runOf lengthOf
 run-is l i s p ks e = after (check NotWhole p (leb (lengthOf l) runLimit)) _ ks e λ _ _ e. after (fresh i s p) _ ks e λ _ _ e. done-injective e
 

@@ -2,3 +2,4 @@ pub mod Walks
 pub mod Folded
 pub mod Runs
 pub mod Levels
+pub mod Rising
