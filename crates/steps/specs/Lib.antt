@@ -1,0 +1,4 @@
+pub mod Scopes
+pub mod Passing
+pub mod Names
+pub mod Values

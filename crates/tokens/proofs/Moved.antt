@@ -1,0 +1,258 @@
+-- Laws of moves: a reader and the next one, and the readers of one token. Assumes nothing.
+use mathlib.Core.Path.{_≡_, refl, sym, _∙_, subst}
+use mathlib.Core.Bool.{Bool, true, false, _||_}
+use mathlib.Core.List.{List, _∷_}
+use Prim.Native.Nat.{ℕ, zero, suc, _-_}
+use native.Mathlib.Omega.{arith}
+use lib.Dec.{eqb}
+use borrow.Author.Tests.{eq-eqb, ne-eqb}
+use Rattle.rules.specs.declared.Refusal.{Refusal}
+use Rattle.rules.specs.declared.Refusal.the-variants.{Misplaced, BadName, Full}
+use Rattle.lexer.specs.Text.{Token}
+use Rattle.lexer.specs.Text
+use Rattle.lexer.specs.Marks.{opens, comma, minusSign}
+use Rattle.language.specs.Outcome.{Outcome, done, refused}
+use Rattle.language.specs.Syntax.{Name}
+use Rattle.language.specs.Reader.{Used, Reader, Read, follow, _>>=_, give, next, look, isMark, nameOf, demand, require, expect, bracket, found, known, readKnown, readIndex}
+use Rattle.language.specs.Formulas.{isSum, Signed, readSign, headOf}
+use Rattle.tokens.specs.declared.Move.{Move}
+use Rattle.tokens.specs.declared.Move.the-variants.{At, Refused}
+use Rattle.tokens.specs.declared.Seen.{Seen}
+use Rattle.tokens.specs.declared.Seen.the-variants as seen
+use Rattle.tokens.specs.declared.Found.{Found}
+use Rattle.tokens.specs.declared.Found.the-variants as found
+use Rattle.tokens.specs.Stored.{spelling, nameBytes, kindOf, token, from, markNumber, Unread, Sees, Looks, lookUp, Named, Matches, Moves}
+use Rattle.tokens.specs.Pieces.{expectIn, bracketIn, indexIn, headIn, signIn}
+use Rattle.tokens.proofs.Tables.{mark-of, mark-same, no-name, passes, Declared, declared, not-declared, index-sort, other-sort}
+
+-- ---- one reader after the other
+
+module _ {A B : Type 0} (m : List Name → Reader A) (f : List Name → A → Reader B) (s ns ts : List ℕ) (at : ℕ) where
+  pub then-refused : (n : Refusal) (p : ℕ) → Moves m s ns ts at (Refused n p) → Moves (λ names. m names >>= f names) s ns ts at (Refused n p)
+  then-refused n p h = record { matches = λ names d. go names (m names (from s ts at)) (h .matches names d) }
+    where
+      go : (names : List Name) (o : Outcome (Read A)) → Matches o s ts (Refused n p) → Matches (follow o (f names)) s ts (Refused n p)
+      go names (done x) h = absurd h
+      go names (refused r q) h = h
+
+  pub then-at : (a : ℕ) (r : Move) → Moves m s ns ts at (At a) → ((w : A) → Moves (λ names. f names w) s ns ts a r) → Moves (λ names. m names >>= f names) s ns ts at r
+  then-at a r h k = record { matches = λ names d. go names d (m names (from s ts at)) (h .matches names d) }
+    where
+      go : (names : List Name) → Named s ns names → (o : Outcome (Read A)) → Matches o s ts (At a) → Matches (follow o (f names)) s ts r
+      go names d (done x) h = subst (λ l. Matches (f names (x .what) l) s ts r) (sym h) (k (x .what) .matches names d)
+      go names d (refused n p) h = absurd h
+
+-- the same with the first reader's answer r, as code has it
+module _ {A B : Type 0} (m : List Name → Reader A) (f : List Name → A → Reader B) (s ns ts : List ℕ) (at : ℕ) (r : Move) (h : Moves m s ns ts at r) where
+  pub stops : (n : Refusal) (p : ℕ) → r ≡ Refused n p → Moves (λ names. m names >>= f names) s ns ts at r
+  stops n p e = subst (Moves (λ names. m names >>= f names) s ns ts at) (sym e) (then-refused m f s ns ts at n p (subst (Moves m s ns ts at) e h))
+
+  pub goes : (a : ℕ) (q : Move) → r ≡ At a → ((w : A) → Moves (λ names. f names w) s ns ts a q) → Moves (λ names. m names >>= f names) s ns ts at q
+  goes a q e k = then-at m f s ns ts at a q (subst (Moves m s ns ts at) e h) k
+
+-- a reader, and something made of what it read
+pub given : {A B : Type 0} (m : List Name → Reader A) (f : List Name → A → B) (s ns ts : List ℕ) (at : ℕ) (r : Move) → Moves m s ns ts at r
+    → Moves (λ names. m names >>= (λ w. give (f names w))) s ns ts at r
+given m f s ns ts at (At a) h = then-at m (λ names w. give (f names w)) s ns ts at a (At a) h (λ w. record { matches = λ names d. refl })
+given m f s ns ts at (Refused n p) h = then-refused m (λ names w. give (f names w)) s ns ts at n p h
+
+-- ---- one token
+
+pub next-is : (s ts : List ℕ) (at k p x a : ℕ) → Sees s ts at (seen.Token k p x a) → next (from s ts at) ≡ done (record { what = token s k p x; rest = from s ts a })
+unfolding next token
+next-is s ts at k p x a h = rw (h .1) (passes s k p x _ _ (h .0))
+
+pub look-is : (s ts : List ℕ) (at k p x a : ℕ) → Sees s ts at (seen.Token k p x a) → look (from s ts at) ≡ done (record { what = token s k p x; rest = from s ts at })
+unfolding look token
+look-is s ts at k p x a h = rw (h .1) (passes s k p x _ _ (h .0))
+
+module _ {A : Type 0} (f : List Name → Token → Reader A) (s ns ts : List ℕ) (at : ℕ) where
+  -- a reader that begins with the next token
+  pub next-then : (k p x a : ℕ) (t : Seen) (r : Move) → Looks ts at t → t ≡ seen.Token k p x a
+      → ((names : List Name) → Named s ns names → (k ≡ 5 → ⊥) → Matches (f names (token s k p x) (from s ts a)) s ts r)
+      → Moves (λ names. next >>= f names) s ns ts at r
+  next-then k p x a t r h e g =
+      let sees = subst (Sees s ts at) e (h .sees s) in
+      record { matches = λ names d. subst (λ o. Matches (follow o (f names)) s ts r) (sym (next-is s ts at k p x a sees)) (g names d (sees .0)) }
+
+  pub look-then : (k p x a : ℕ) (t : Seen) (r : Move) → Looks ts at t → t ≡ seen.Token k p x a
+      → ((names : List Name) → Named s ns names → from s ts at ≡ token s k p x ∷ from s ts a → next (from s ts at) ≡ done (record { what = token s k p x; rest = from s ts a })
+      → Matches (f names (token s k p x) (from s ts at)) s ts r)
+      → Moves (λ names. look >>= f names) s ns ts at r
+  unfolding token
+  look-then k p x a t r h e g =
+      let sees = subst (Sees s ts at) e (h .sees s) in
+      record { matches = λ names d. subst (λ o. Matches (follow o (f names)) s ts r) (sym (look-is s ts at k p x a sees)) (g names d (sees .1) (next-is s ts at k p x a sees)) }
+
+  pub next-wrong : (n : Refusal) (p : ℕ) (t : Seen) → Looks ts at t → t ≡ seen.Refused n p → Moves (λ names. next >>= f names) s ns ts at (Refused n p)
+  next-wrong n p t h e =
+      let u = subst (Sees s ts at) e (h .sees s) in
+      record { matches = λ names d. subst (λ o. Matches (follow o (f names)) s ts (Refused n p)) (sym (u .nexts)) (refl, refl) }
+
+  pub look-wrong : (n : Refusal) (p : ℕ) (t : Seen) → Looks ts at t → t ≡ seen.Refused n p → Moves (λ names. look >>= f names) s ns ts at (Refused n p)
+  look-wrong n p t h e =
+      let u = subst (Sees s ts at) e (h .sees s) in
+      record { matches = λ names d. subst (λ o. Matches (follow o (f names)) s ts (Refused n p)) (sym (u .looks)) (refl, refl) }
+
+-- ---- an expected sign
+
+pub expect-is : (s ts : List ℕ) (at c k p x a : ℕ) → Sees s ts at (seen.Token k p x a) → markNumber k ≡ c → expect c (from s ts at) ≡ done (record { what = p; rest = from s ts a })
+unfolding expect token require
+expect-is s ts at c k p x a h e = rw (next-is s ts at k p x a h, mark-of s k p x, eq-eqb (markNumber k) c e) refl
+
+pub expect-not : (s ts : List ℕ) (at c k p x a : ℕ) → Sees s ts at (seen.Token k p x a) → (markNumber k ≡ c → ⊥) → expect c (from s ts at) ≡ refused Misplaced p
+unfolding expect token require
+expect-not s ts at c k p x a h e = rw (next-is s ts at k p x a h, mark-of s k p x, ne-eqb (markNumber k) c e) refl
+
+pub expect-bad : (s ts : List ℕ) (at c : ℕ) (n : Refusal) (p : ℕ) (u : Unread (from s ts at) n p) → expect c (from s ts at) ≡ refused n p
+unfolding expect
+expect-bad s ts at c n p u = rw (u .nexts) refl
+
+module _ (s ns ts : List ℕ) (at c : ℕ) (t : Seen) (h : Looks ts at t) where
+  sees : (w : Seen) → t ≡ w → Sees s ts at w
+  sees w e = subst (Sees s ts at) e (h .sees s)
+
+  pub expect-wrong : (n : Refusal) (p : ℕ) → t ≡ seen.Refused n p → Moves (expectIn c) s ns ts at (Refused n p)
+  unfolding expectIn
+  expect-wrong n p e = let u = sees (seen.Refused n p) e in record { matches = λ names d. rw (expect-bad s ts at c n p u) (refl, refl) }
+
+  pub expect-yes : (k p x a m : ℕ) → t ≡ seen.Token k p x a → m ≡ markNumber k → m ≡ c → Moves (expectIn c) s ns ts at (At a)
+  unfolding expectIn
+  expect-yes k p x a m e i j = record { matches = λ names d. rw (expect-is s ts at c k p x a (sees _ e) (sym i ∙ j)) refl }
+
+  pub expect-no : (k p x a m : ℕ) → t ≡ seen.Token k p x a → m ≡ markNumber k → (m ≡ c → ⊥) → Moves (expectIn c) s ns ts at (Refused Misplaced p)
+  unfolding expectIn
+  expect-no k p x a m e i j = record { matches = λ names d. rw (expect-not s ts at c k p x a (sees _ e) (λ y. j (i ∙ y))) (refl, refl) }
+
+  -- ---- a bracket
+
+  pub bracket-wrong : (nest : ℕ) (n : Refusal) (p : ℕ) → t ≡ seen.Refused n p → Moves (bracketIn c nest) s ns ts at (Refused n p)
+  unfolding bracketIn bracket
+  bracket-wrong zero n p e = let u = sees (seen.Refused n p) e in record { matches = λ names d. rw (expect-bad s ts at c n p u) (refl, refl) }
+  bracket-wrong (suc nest) n p e = let u = sees (seen.Refused n p) e in record { matches = λ names d. rw (expect-bad s ts at c n p u) (refl, refl) }
+
+  pub bracket-no : (nest k p x a m : ℕ) → t ≡ seen.Token k p x a → m ≡ markNumber k → (m ≡ c → ⊥) → Moves (bracketIn c nest) s ns ts at (Refused Misplaced p)
+  unfolding bracketIn bracket
+  bracket-no zero k p x a m e i j = record { matches = λ names d. rw (expect-not s ts at c k p x a (sees _ e) (λ y. j (i ∙ y))) (refl, refl) }
+  bracket-no (suc nest) k p x a m e i j = record { matches = λ names d. rw (expect-not s ts at c k p x a (sees _ e) (λ y. j (i ∙ y))) (refl, refl) }
+
+  pub bracket-full : (nest k p x a m : ℕ) → t ≡ seen.Token k p x a → m ≡ markNumber k → m ≡ c → nest ≡ 0 → Moves (bracketIn c nest) s ns ts at (Refused Full p)
+  unfolding bracketIn bracket
+  bracket-full zero k p x a m e i j z = record { matches = λ names d. rw (expect-is s ts at c k p x a (sees _ e) (sym i ∙ j)) (refl, refl) }
+  bracket-full (suc nest) k p x a m e i j z = absurd (omega arith)
+
+  pub bracket-yes : (nest k p x a m : ℕ) → t ≡ seen.Token k p x a → m ≡ markNumber k → m ≡ c → (nest ≡ 0 → ⊥) → Moves (bracketIn c nest) s ns ts at (At a)
+  unfolding bracketIn bracket
+  bracket-yes zero k p x a m e i j z = absurd (z refl)
+  bracket-yes (suc nest) k p x a m e i j z = record { matches = λ names d. rw (expect-is s ts at c k p x a (sees _ e) (sym i ∙ j)) refl }
+
+-- ---- an index, an optional sign
+
+pub known-not : (s ns : List ℕ) (names : List Name) (p n : ℕ) (l : List Token) → Named s ns names → lookUp s (spelling s p n) ns 0 ≡ found.Nothing → known names (spelling s p n) p l ≡ refused BadName p
+unfolding known found
+known-not s ns names p n l d e = rw (not-declared s (spelling s p n) ns names 0 p d e) refl
+
+pub known-is : (s : List ℕ) (names : List Name) (p n j k c : ℕ) (l : List Token) (u : Declared (spelling s p n) names 0 p j k c) → known names (spelling s p n) p l ≡ done (record { what = u .used; rest = l })
+unfolding known found
+known-is s names p n j k c l u = rw (u .stands) refl
+
+module _ (s ns ts : List ℕ) (at : ℕ) (t : Seen) (h : Looks ts at t) where
+  sees′ : (w : Seen) → t ≡ w → Sees s ts at w
+  sees′ w e = subst (Sees s ts at) e (h .sees s)
+
+  pub index-wrong : (n : Refusal) (p : ℕ) → t ≡ seen.Refused n p → Moves indexIn s ns ts at (Refused n p)
+  unfolding indexIn readIndex readKnown
+  index-wrong n p e = let u = sees′ (seen.Refused n p) e in record { matches = λ names d. rw (u .nexts) (refl, refl) }
+
+  pub index-no-name : (k p x a : ℕ) → t ≡ seen.Token k p x a → (k ≡ 1 → ⊥) → Moves indexIn s ns ts at (Refused Misplaced p)
+  unfolding indexIn readIndex readKnown token demand
+  index-no-name k p x a e i = record { matches = λ names d. rw (next-is s ts at k p x a (sees′ _ e), no-name s k p x i) (refl, refl) }
+
+  name-next : (k p x a : ℕ) → t ≡ seen.Token k p x a → k ≡ 1 → next (from s ts at) ≡ done (record { what = record { kind = Text.name (spelling s p (nameBytes x)); place = p }; rest = from s ts a })
+  unfolding token kindOf
+  name-next k p x a e i = next-is s ts at k p x a (sees′ _ e) ∙ rw i refl
+
+  pub index-unknown : (k p x a : ℕ) (f : Found) → t ≡ seen.Token k p x a → k ≡ 1 → f ≡ lookUp s (spelling s p (nameBytes x)) ns 0 → f ≡ found.Nothing → Moves indexIn s ns ts at (Refused BadName p)
+  unfolding indexIn readIndex readKnown demand nameOf
+  index-unknown k p x a f e i j g = record { matches = λ names d. rw (name-next k p x a e i, known-not s ns names p (nameBytes x) (from s ts a) d (sym j ∙ g)) (refl, refl) }
+
+  pub index-yes : (k p x a number sort count : ℕ) (f : Found) → t ≡ seen.Token k p x a → k ≡ 1 → f ≡ lookUp s (spelling s p (nameBytes x)) ns 0 → f ≡ found.Name number sort count → sort ≡ 0 → Moves indexIn s ns ts at (At a)
+  unfolding indexIn readIndex readKnown demand nameOf require
+  index-yes k p x a number sort count f e i j g z =
+      record {
+        matches = λ names d.
+            let u = declared s (spelling s p (nameBytes x)) ns names 0 p number sort count d (sym j ∙ g) in
+            rw (name-next k p x a e i, known-is s names p (nameBytes x) number sort count (from s ts a) u, index-sort (u .used .sort) sort count (u .shaped) z) refl;
+      }
+
+  pub index-other : (k p x a number sort count : ℕ) (f : Found) → t ≡ seen.Token k p x a → k ≡ 1 → f ≡ lookUp s (spelling s p (nameBytes x)) ns 0 → f ≡ found.Name number sort count → (sort ≡ 0 → ⊥)
+      → Moves indexIn s ns ts at (Refused Misplaced p)
+  unfolding indexIn readIndex readKnown demand nameOf require
+  index-other k p x a number sort count f e i j g z =
+      record {
+        matches = λ names d.
+            let u = declared s (spelling s p (nameBytes x)) ns names 0 p number sort count d (sym j ∙ g) in
+            rw (name-next k p x a e i, known-is s names p (nameBytes x) number sort count (from s ts a) u, other-sort (u .used .sort) sort count (u .shaped) z) (refl, u .placed);
+      }
+
+  -- whether a sign stands there
+  pub is-sum : (k p x : ℕ) → isSum (token s k p x) ≡ (eqb k 43 || eqb k 45)
+  unfolding token
+  is-sum k p x = rw (mark-of s k p x, mark-same k 43 (omega arith), mark-same k 45 (omega arith)) refl
+
+  signed : Bool → Token → Reader Signed
+  signed b x = elim b as (λ _. Reader Signed) [
+    | true ↦ next >>= (λ _. give (record { written = true; negative = isMark minusSign x }))
+    | false ↦ give (record { written = false; negative = false })
+  ]
+
+  pub sign-wrong : (n : Refusal) (p : ℕ) → t ≡ seen.Refused n p → Moves signIn s ns ts at (Refused n p)
+  unfolding signIn readSign
+  sign-wrong n p e = let u = sees′ (seen.Refused n p) e in record { matches = λ names d. rw (u .looks) (refl, refl) }
+
+  sign-by : (k p x a : ℕ) (b : Bool) (r : Move) → t ≡ seen.Token k p x a → (eqb k 43 || eqb k 45) ≡ b → Matches (signed b (token s k p x) (from s ts at)) s ts r → Moves signIn s ns ts at r
+  unfolding signIn readSign signed
+  sign-by k p x a b r e i g =
+      record {
+        matches = λ names d.
+            subst (λ o. Matches (follow o (λ y. signed (isSum y) y)) s ts r) (sym (look-is s ts at k p x a (sees′ _ e)))
+            (subst (λ b. Matches (signed b (token s k p x) (from s ts at)) s ts r) (sym (is-sum k p x ∙ i)) g);
+      }
+
+  pub sign-yes : (k p x a : ℕ) → t ≡ seen.Token k p x a → (eqb k 43 || eqb k 45) ≡ true → Moves signIn s ns ts at (At a)
+  unfolding signed
+  sign-yes k p x a e i = sign-by k p x a true (At a) e i (rw (next-is s ts at k p x a (sees′ _ e)) refl)
+
+  pub sign-no : (k p x a : ℕ) → t ≡ seen.Token k p x a → (eqb k 43 || eqb k 45) ≡ false → Moves signIn s ns ts at (At at)
+  unfolding signed
+  sign-no k p x a e i = sign-by k p x a false (At at) e i refl
+
+-- ---- a bracket's head
+
+module _ (s ns ts : List ℕ) (at nest : ℕ) (r : Move) (h : Moves (bracketIn opens nest) s ns ts at r) where
+  commaRest : List Name → Used → Reader Used
+  commaRest names i = expect comma >>= (λ _. give i)
+
+  indexRest : List Name → ℕ → Reader Used
+  indexRest names _ = readIndex names >>= commaRest names
+
+  pub head-open : (n : Refusal) (p : ℕ) → r ≡ Refused n p → Moves (headIn nest) s ns ts at r
+  unfolding headIn headOf bracketIn indexRest commaRest
+  head-open n p e = record { matches = stops (λ names. bracket opens nest) indexRest s ns ts at r (record { matches = h .matches }) n p e .matches }
+
+  pub head-index : (a : ℕ) (n : Refusal) (p : ℕ) (q : Move) → r ≡ At a → Moves indexIn s ns ts a q → q ≡ Refused n p → Moves (headIn nest) s ns ts at q
+  unfolding headIn headOf bracketIn indexIn indexRest commaRest
+  head-index a n p q e g f =
+      record {
+        matches = goes (λ names. bracket opens nest) indexRest s ns ts at r (record { matches = h .matches }) a q e
+            (λ _. stops readIndex commaRest s ns ts a q (record { matches = g .matches }) n p f) .matches;
+      }
+
+  pub head-comma : (a b : ℕ) (q z : Move) → r ≡ At a → Moves indexIn s ns ts a q → q ≡ At b → Moves (expectIn comma) s ns ts b z → Moves (headIn nest) s ns ts at z
+  unfolding headIn headOf bracketIn indexIn expectIn indexRest commaRest
+  head-comma a b q z e g f y =
+      record {
+        matches = goes (λ names. bracket opens nest) indexRest s ns ts at r (record { matches = h .matches }) a z e
+            (λ _. goes readIndex commaRest s ns ts a q (record { matches = g .matches }) b z f
+            (λ i. given (λ names. expect comma) (λ names _. i) s ns ts b z (record { matches = y .matches }))) .matches;
+      }
