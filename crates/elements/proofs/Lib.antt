@@ -3,3 +3,4 @@ pub mod Folded
 pub mod Runs
 pub mod Levels
 pub mod Rising
+pub mod Held

@@ -1,2 +1,3 @@
 pub mod Elements
 pub mod Levels
+pub mod Held

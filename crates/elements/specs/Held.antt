@@ -1,0 +1,37 @@
+-- The runs under way as code holds them. Assumes nothing.
+use mathlib.Core.Bool.{cond}
+use mathlib.Core.List.{List, [], _∷_, _++_, map}
+use Prim.Native.Nat.{ℕ}
+use lib.Dec.{ltb}
+use lib.ListN.{length, take}
+use lib.IntN.{ℤ, pos}
+use Rattle.rules.specs.Limits.{indexLimit}
+use Rattle.lexer.specs.Text.{Token}
+use Rattle.language.specs.Scope.{Binding}
+use Rattle.elements.specs.declared.here.Level.{Level as HeldLevel}
+use Rattle.elements.specs.declared.here.Here.{Here as HeldHere}
+use Rattle.elements.specs.Levels.{Level}
+
+unfoldable pub held : HeldHere → List HeldLevel
+held h = take (h .count) (h .first ∷ h .second ∷ h .third ∷ h .fourth ∷ [])
+
+unfoldable pub one-more : List HeldLevel → HeldLevel → List HeldLevel
+one-more ls l = cond (ltb (length ls) indexLimit) (ls ++ (l ∷ [])) ls
+
+abbrev pub no-level : HeldLevel
+no-level = record { name = 0; number = pos 0; upper = pos 0; behind = 0 }
+
+abbrev pub numberOf : HeldLevel → ℤ
+numberOf l = l .number
+
+-- the runs bound one after the other, behind what is bound already
+unfoldable pub bound : List HeldLevel → List Binding → List Binding
+bound [] b = b
+bound (l ∷ ls) b = bound ls (record { name = l .name; at = l .number } ∷ b)
+
+-- a run of the definition: view is the tokens from a position on
+abbrev pub levelAt : (ℕ → List Token) → HeldLevel → Level
+levelAt view l = record { name = l .name; number = l .number; upper = l .upper; rest = view (l .behind) }
+
+unfoldable pub levelsOf : (ℕ → List Token) → HeldHere → List Level
+levelsOf view h = map (levelAt view) (held h)
