@@ -32,6 +32,8 @@ use Rattle.steps.specs.declared.scope.Bound.{Bound}
 use Rattle.steps.specs.declared.scope.Bound.the-variants as bound
 use Rattle.steps.specs.declared.values.Answer.{Answer}
 use Rattle.steps.specs.declared.values.Answer.the-variants as answer
+use Rattle.steps.specs.declared.values.Limits.{Limits}
+use Rattle.steps.specs.declared.values.Bounds.{Bounds}
 use Rattle.steps.specs.Scopes.{bindingsOf, boundOption}
 use Rattle.steps.specs.Values.{fittedAt, signedValue, wholeBy, wholeAnswer, boundBy, boundAnswer, wordAnswer, KnownIs}
 
@@ -86,6 +88,10 @@ module _ (p a i : ℕ) (s : Held) (b : Bound) (h : boundOption b ≡ boundTo i (
 
 pub grown-is : (e r : Element) (v : Value) → mag (v .m) < 2 ^ 63 → listOf r ≡ extended (listOf e) (toZ w64 (ofZ w64 (v .m))) → listOf r ≡ extended (listOf e) (v .m)
 grown-is e r v h g = g ∙ ap (extended (listOf e)) (back h)
+
+pub bounds-are : (i q : ℕ) (v w : Value) (l : Limits) → l ≡ record { lower = v .m; upper = w .m }
+    → _≡_ {A = Bounds} (record { number = i; place = q; limits = l }) (record { number = i; place = q; limits = record { lower = v .m; upper = w .m } })
+bounds-are i q v w l e = rw e refl
 
 -- ---- data
 

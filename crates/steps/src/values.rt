@@ -129,6 +129,18 @@ pub fn limits_of(v: Value, w: Value) -> Limits
     }
 }
 
+// A domain's entry of two whole values.
+pub fn bounds_of(number: usize, place: u64, v: Value, w: Value) -> Bounds
+    ensures { λ r. ⌜ r ≡ record { number = number; place = place; limits = record { lower = v .m; upper = w .m } } ⌝ }
+{
+    let l = limits_of(v, w);
+    Bounds {
+        number,
+        place,
+        limits: l,
+    }
+}
+
 // A whole value behind the others of an element.
 pub fn grown(e: Element, v: Value) -> Element
     ensures { λ r. ⌜ listOf r ≡ extended (listOf e) (v .m) ⌝ }
