@@ -19,7 +19,7 @@ use Rattle.elements.specs.declared.here.Level.{Level}
 use Rattle.elements.specs.declared.here.Here.{Here}
 use Rattle.elements.specs.Held.{held, one-more, no-level, numberOf, bound}
 
-map-take : {A B : Type 0} (f : A → B) (n : ℕ) (l : List A) → map f (take n l) ≡ take n (map f l)
+pub map-take : {A B : Type 0} (f : A → B) (n : ℕ) (l : List A) → map f (take n l) ≡ take n (map f l)
 map-take f zero l = refl
 map-take f (suc n) [] = refl
 map-take f (suc n) (a ∷ l) = ap (λ m. f a ∷ m) (map-take f n l)

@@ -2,9 +2,11 @@
 -- domain is what its tree reaches. Assumes nothing.
 use mathlib.Core.Path.{_≡_, refl, sym, _∙_, ap, subst, fun-ext}
 use mathlib.Core.Bool.{Bool, true, false}
+use mathlib.Core.Logic.{inl, inr}
 use mathlib.Core.List.{List, [], _∷_}
 use Prim.Native.Nat.{ℕ, zero, suc}
 use lib.Dec.{leb}
+use lib.ListN.{length}
 use lib.IntN.{ℤ, pos, _+ℤ_}
 use Rattle.rules.specs.declared.Refusal.{Refusal}
 use Rattle.rules.specs.declared.Refusal.the-variants.{NotWhole}
@@ -96,6 +98,16 @@ next-of names F s ts n x u h = entered (walkEntry names F s ts) h
     entered : (o : Outcome (Read Bounds)) → Behind (walkRun (walkElements names F n) s o) x u → Next (walkElements names F n) s x u
     entered (done b) h = running b (runOf (b .what .limits) (b .what .number) s (b .what .place)) refl h
     entered (refused r p) h = absurd h
+
+-- an element of n entries has n runs
+pub element-length : (names : List Name) (F : Walk) (n : ℕ) (s : Scope) (ts : List Token) (x : List Level) (u : Walked (List Level))
+    → Behind (walkElements names F n s ts) x u → length x ≡ n
+unfolding walkElements
+element-length names F zero s ts x u (inl h) = ap length (sym (h .0))
+element-length names F zero s ts x u (inr h) = absurd h
+element-length names F (suc n) s ts x u h =
+    let r = next-of names F s ts n x u h in
+    ap length (sym (r .is)) ∙ ap suc (element-length names F n (bind (r .level .name) (r .level .number) s) (r .level .rest) (r .inner) (r .rest) (r .behind))
 
 -- ---- trees
 

@@ -4,3 +4,8 @@ pub mod Runs
 pub mod Levels
 pub mod Rising
 pub mod Held
+pub mod Numbers
+pub mod Bound
+pub mod Entering
+pub mod Going
+pub mod Loops

@@ -16,6 +16,7 @@ use Rattle.language.specs.Evaluation.{Limits, limitsOf, runOf, eval}
 use Rattle.language.specs.Demand3.{Rising, Precedes}
 use Rattle.language.proofs.Ordered.{rising-nil, rising-cons, rising-one, rising-append, rising-head, rising-tail, rising-range, not-itself}
 use Rattle.elements.specs.Elements.{Walked, finished, stopped, reaches, reached, followed, chained, overRun, Behind, mapped, Here, inFront, elementsOf}
+use Rattle.elements.proofs.Walks.{behind-first}
 use Rattle.elements.proofs.Levels.{run-is}
 
 -- ---- walks one after another
@@ -82,9 +83,18 @@ module _ {A : Type 0} where
     behind-once (reaches b w) r apart a u v (inr h) (inl i) = absurd (apart a (subst (λ c. R c a) (i .0) (rising-head b (reached w) r a (behind-in w a u h))))
     behind-once (reaches b w) r apart a u v (inr h) (inr i) = behind-once w (rising-tail b (reached w) r) apart a u v h i
 
+    -- what is reached next comes later
+    pub behind-rises : (w : Walked A) → Rising R (reached w) → (a b : A) (u v : Walked A) → Behind w a u → u ≡ reaches b v → R a b
+    unfolding reached
+    behind-rises finished r a b u v h e = absurd h
+    behind-rises (stopped n p) r a b u v h e = absurd h
+    behind-rises (reaches c w) r a b u v (inl h) e =
+        subst (λ z. R z b) (h .0) (rising-head c (reached w) r b (behind-in w b v (behind-first w v b (h .1 ∙ e))))
+    behind-rises (reaches c w) r a b u v (inr h) e = behind-rises w (rising-tail c (reached w) r) a b u v h e
+
 -- ---- elements
 
-abbrev Sooner : Here → Here → Type 0
+abbrev pub Sooner : Here → Here → Type 0
 Sooner g h = Precedes (g .element) (h .element)
 
 -- an element behind its first number

@@ -15,12 +15,12 @@ use Rattle.elements.proofs.Walks.{After, behind-followed}
 
 -- ---- ranges
 
-up-is : (z : ℤ) (p q : ℕ) → up z + q ≡ p + down z → up z ≡ p - q
+pub up-is : (z : ℤ) (p q : ℕ) → up z + q ≡ p + down z → up z ≡ p - q
 up-is (pos n) p q h = omega arith
 up-is (negsuc n) p q h = omega arith
 
 -- how many numbers a range has, by the parts of its limits
-range-size : (a b : ℤ) → up (b +ℤ pos 1 +ℤ negℤ a) ≡ up b + 1 + down a - (down b + up a)
+pub range-size : (a b : ℤ) → up (b +ℤ pos 1 +ℤ negℤ a) ≡ up b + 1 + down a - (down b + up a)
 range-size a b = up-is (b +ℤ pos 1 +ℤ negℤ a) _ _ (omega (arith, add-parts b (pos 1), add-parts (b +ℤ pos 1) (negℤ a), neg-up a, neg-down a))
 
 pub range-none : (a b : ℤ) → (b +ℤ pos 1) ≤ℤ a → range a b ≡ []

@@ -71,6 +71,17 @@ module _ {A B : Type 0} (f : A → B) where
   mapped-chained w [] = refl
   mapped-chained w (k ∷ ks) = mapped-followed (w k) (chained w ks) ∙ ap (followed (mapped f (w k))) (mapped-chained w ks)
 
+  pub mapped-reaches : (w : Walked A) (a : A) (v : Walked A) → w ≡ reaches a v → mapped f w ≡ reaches (f a) (mapped f v)
+  unfolding mapped
+  mapped-reaches w a v e = rw e
+
+  pub mapped-behind : (w : Walked A) (a : A) (v : Walked A) → Behind w a v → Behind (mapped f w) (f a) (mapped f v)
+  unfolding mapped
+  mapped-behind finished a v h = absurd h
+  mapped-behind (stopped n p) a v h = absurd h
+  mapped-behind (reaches b w) a v (inl h) = inl (ap f (h .0), ap (mapped f) (h .1))
+  mapped-behind (reaches b w) a v (inr h) = inr (mapped-behind w a v h)
+
   pub record Image (w : Walked A) (b : B) (u : Walked B) : Type 0 where
     pub of : A
     pub rest : Walked A

@@ -4,7 +4,8 @@ use mathlib.Core.List.{List, [], _∷_, _++_, map}
 use Prim.Native.Nat.{ℕ}
 use lib.Dec.{ltb}
 use lib.ListN.{length, take}
-use lib.IntN.{ℤ, pos}
+use lib.IntN.{ℤ, pos, _+ℤ_}
+use lib.Signed.{ltZ}
 use Rattle.rules.specs.Limits.{indexLimit}
 use Rattle.lexer.specs.Text.{Token}
 use Rattle.language.specs.Scope.{Binding}
@@ -12,6 +13,11 @@ use Rattle.elements.specs.declared.here.Level.{Level as HeldLevel}
 use Rattle.elements.specs.declared.here.Here.{Here as HeldHere}
 use Rattle.elements.specs.Levels.{Level}
 
+-- a run at its next number, if there is one
+unfoldable pub stepped : HeldLevel → HeldLevel
+stepped l = cond (ltZ (l .number) (l .upper)) (record { name = l .name; number = l .number +ℤ pos 1; upper = l .upper; behind = l .behind }) l
+
+-- the runs of an element, the outermost first
 unfoldable pub held : HeldHere → List HeldLevel
 held h = take (h .count) (h .first ∷ h .second ∷ h .third ∷ h .fourth ∷ [])
 

@@ -1,12 +1,14 @@
 // An element of a domain as the runs that are under way at it: at most four, by value.
 use steps::scope::Scope;
+use steps::values::Bounds;
 use store::Element;
 ghost use mathlib.Core.Path.{_≡_};
 ghost use mathlib.Core.List.{[], map};
+ghost use lib.Signed.{leZ, ltZ};
 ghost use lib.ListN.{length, getD, take};
 ghost use Rattle.store.specs.Element.{listOf};
 ghost use Rattle.steps.specs.Scopes.{bindingsOf};
-ghost use Rattle.elements.specs.Held.{held, one-more, no-level, numberOf, bound};
+ghost use Rattle.elements.specs.Held.{stepped, held, one-more, no-level, numberOf, bound};
 
 // A run under way: its index, the number at which it stands, its upper limit, and the position behind its entry.
 pub struct Level {
@@ -26,6 +28,47 @@ pub struct Here {
 }
 
 impl Level {
+    // The run of an entry, at its first number.
+    pub fn of(b: Bounds, behind: usize) -> Self
+        ensures { λ r. ⌜ r ≡ record { name = b .number; number = b .limits .lower; upper = b .limits .upper; behind = behind } ⌝ }
+    {
+        Level {
+            name: b.number,
+            number: b.limits.lower,
+            upper: b.limits.upper,
+            behind,
+        }
+    }
+
+    // Is there a number to stand at?
+    pub fn stands(self) -> bool
+        ensures { λ r. ⌜ r ≡ leZ (self .number) (self .upper) ⌝ }
+    {
+        self.number <= self.upper
+    }
+
+    // Is there a number behind this one?
+    pub fn has_more(self) -> bool
+        ensures { λ r. ⌜ r ≡ ltZ (self .number) (self .upper) ⌝ }
+    {
+        self.number < self.upper
+    }
+
+    // The run at its next number; the same where there is none.
+    pub fn up(self) -> Self
+        ensures { λ r. ⌜ r ≡ stepped self ⌝ }
+    {
+        if !self.has_more() {
+            return self;
+        }
+        Level {
+            name: self.name,
+            number: self.number + 1,
+            upper: self.upper,
+            behind: self.behind,
+        }
+    }
+
     pub fn none() -> Self
         ensures { λ r. ⌜ r ≡ no-level ⌝ }
     {
