@@ -11,9 +11,10 @@ use lib.Dec.{ltb}
 use lib.ListN.{length, take, drop, getD, length-map, List·getD-map}
 use lib.Seq.{take-suc, drop-cons}
 use lib.IntN.{ℤ, pos, _+ℤ_}
-use lib.Signed.{ltZ}
+use lib.Signed.{_≤ℤ_, ltZ}
 use Rattle.rules.specs.Limits.{indexLimit}
 use Rattle.value.specs.declared.Value.{Value}
+use Rattle.value.specs.Integer.{add-parts, le-of-parts}
 use Rattle.lexer.specs.Text.{Token}
 use Rattle.language.specs.Scope.{Scope, Binding, bind}
 use Rattle.steps.specs.declared.scope.Scope.{Scope as HeldScope}
@@ -21,7 +22,7 @@ use Rattle.steps.specs.Scopes.{bindingsOf, scopeOf, AllSmall, Small}
 use Rattle.elements.specs.declared.here.Level.{Level as HeldLevel}
 use Rattle.elements.specs.declared.here.Here.{Here as HeldHere}
 use Rattle.elements.specs.Levels.{Level, hereOf, atNumber}
-use Rattle.elements.specs.Held.{stepped, held, one-more, no-level, bound, levelAt, levelsOf}
+use Rattle.elements.specs.Held.{stepped, StepsUp, held, one-more, no-level, bound, levelAt, levelsOf}
 use Rattle.elements.specs.Steps.{SmallRun, SmallRuns}
 use Rattle.elements.proofs.Numbers.{not-false, next-size}
 use Rattle.elements.proofs.Held.{map-take}
@@ -35,9 +36,18 @@ scope-more s [] l = refl
 scope-more s (q ∷ p) l = scope-more (bind (q .name) (q .number) s) p l
 
 -- one more, where there is room
-more-room : (ls : List HeldLevel) (l : HeldLevel) → length ls < indexLimit → one-more ls l ≡ ls ++ (l ∷ [])
+pub more-room : (ls : List HeldLevel) (l : HeldLevel) → length ls < indexLimit → one-more ls l ≡ ls ++ (l ∷ [])
 unfolding one-more
 more-room ls l h = rw (lt-ltb (length ls) indexLimit h)
+
+bound-length : (ls : List HeldLevel) (b : List Binding) → length (bound ls b) ≡ length ls + length b
+unfolding bound
+bound-length [] b = omega arith
+bound-length (l ∷ ls) b = omega (arith, bound-length ls (record { name = l .name; at = l .number } ∷ b))
+
+-- there is room for one run where there is room for one index
+pub room-held : (h : HeldHere) (sc : HeldScope) → bindingsOf sc ≡ bound (held h) [] → ltb (length (bindingsOf sc)) indexLimit ≡ true → length (held h) < indexLimit
+room-held h sc e r = omega (arith, ltb-true (length (bindingsOf sc)) indexLimit r, ap length e, bound-length (held h) [])
 
 module _ (view : ℕ → List Token) where
   bound-scope : (known : ℕ → List ℤ → Option Value) (ls : List HeldLevel) (b : List Binding)
@@ -51,11 +61,6 @@ module _ (view : ℕ → List Token) where
   bound-small [] b m a = a
   bound-small (l ∷ ls) b m a = bound-small ls _ (m .1) (m .0 .number, a)
 
-  bound-length : (ls : List HeldLevel) (b : List Binding) → length (bound ls b) ≡ length ls + length b
-  unfolding bound
-  bound-length [] b = omega arith
-  bound-length (l ∷ ls) b = omega (arith, bound-length ls (record { name = l .name; at = l .number } ∷ b))
-
   module _ (h : HeldHere) where
     -- the scope of an element
     module _ (sc : HeldScope) (e : bindingsOf sc ≡ bound (held h) []) where
@@ -66,10 +71,6 @@ module _ (view : ℕ → List Token) where
       pub held-small : SmallRuns (levelsOf view h) → Small sc
       unfolding levelsOf
       held-small m = record { small = rw e (bound-small (held h) [] m tt) }
-
-      pub held-room : ltb (length (bindingsOf sc)) indexLimit ≡ true → length (levelsOf view h) < indexLimit
-      unfolding levelsOf
-      held-room r = omega (arith, ltb-true (length (bindingsOf sc)) indexLimit r, ap length e, bound-length (held h) [], length-map (held h) (levelAt view))
 
     -- ---- one more, the outermost, the i-th
 
@@ -120,10 +121,23 @@ small-drop (suc m) (l ∷ p) a = small-drop m p (a .1)
 
 -- ---- the next number of a run
 
-module _ (view : ℕ → List Token) (l q : HeldLevel) (y : Bool) (a : y ≡ ltZ (l .number) (l .upper)) (b : not y ≡ false) (c : q ≡ stepped l) where
-  pub next-run : levelAt view q ≡ atNumber (levelAt view l) (l .number +ℤ pos 1)
+module _ (l q : HeldLevel) (y : Bool) (a : y ≡ ltZ (l .number) (l .upper)) (b : not y ≡ false) (c : StepsUp l q) where
+  next-is : q ≡ record { name = l .name; number = l .number +ℤ pos 1; upper = l .upper; behind = l .behind }
   unfolding stepped
-  next-run = ap (levelAt view) (c ∙ rw (sym a ∙ not-false y b))
+  next-is = c .is ∙ rw (sym a ∙ not-false y b)
 
-  pub next-small : SmallRun (levelAt view l) → SmallRun (levelAt view q)
-  next-small m = rw next-run (record { number = next-size (l .number) (l .upper) (sym a ∙ not-false y b) (m .number) (m .upper); upper = m .upper })
+  pub next-upper : q .upper ≡ l .upper
+  next-upper = ap (λ (z : HeldLevel). z .upper) next-is
+
+  pub next-number : q .number ≡ l .number +ℤ pos 1
+  next-number = ap (λ (z : HeldLevel). z .number) next-is
+
+  pub next-above : l .number ≤ℤ q .number
+  next-above = rw next-number (le-of-parts _ _ (omega (arith, add-parts (l .number) (pos 1))))
+
+  module _ (view : ℕ → List Token) where
+    pub next-run : levelAt view q ≡ atNumber (levelAt view l) (l .number +ℤ pos 1)
+    next-run = ap (levelAt view) next-is
+
+    pub next-small : SmallRun (levelAt view l) → SmallRun (levelAt view q)
+    next-small m = rw next-run (record { number = next-size (l .number) (l .upper) (sym a ∙ not-false y b) (m .number) (m .upper); upper = m .upper })

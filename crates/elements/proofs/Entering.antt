@@ -6,10 +6,10 @@ use Prim.Native.Nat.{ℕ, zero, suc, _-_, _<_}
 use native.Mathlib.Omega.{arith}
 use lib.ListN.{length}
 use lib.IntN.{ℤ, pos, negℤ, _+ℤ_}
-use lib.Signed.{ltZ, leZ}
+use lib.Signed.{_≤ℤ_, ltZ, leZ, ≤ℤ-refl}
 use Rattle.rules.specs.declared.Refusal.{Refusal}
 use Rattle.rules.specs.Limits.{indexLimit, nestingLimit}
-use Rattle.value.specs.Integer.{up, leZ-true}
+use Rattle.value.specs.Integer.{leZ-true, ≤ℤ-trans}
 use Rattle.lexer.specs.Text.{Token}
 use Rattle.language.specs.Scope.{Scope, bind}
 use Rattle.walk.specs.Walk.{walkEntry, inDomainWalk}
@@ -30,12 +30,12 @@ use Rattle.elements.specs.declared.Step.{Step}
 use Rattle.elements.specs.declared.Step.the-variants.{At, Done, Refused}
 use Rattle.elements.specs.Elements.{Walked, finished, stopped, reaches, followed, chained, mapped}
 use Rattle.elements.specs.Levels.{Level, hereOf, deeper, atNumber, turnOf, runFrom}
-use Rattle.elements.specs.Held.{stepped, held, one-more, bound, levelsOf}
-use Rattle.elements.specs.Steps.{SmallRun, SmallRuns, runsOf, runOf, scopeIn, entriesIn, Reached, Shows, FirstIs, InsideIs, TurnsAre}
+use Rattle.elements.specs.Held.{StepsUp, held, one-more, bound, levelsOf}
+use Rattle.elements.specs.Steps.{SmallRun, SmallRuns, runsOf, runOf, scopeIn, entriesIn, Reached, Shows, FirstIs, Grown, GrownBy, Turned, TurnedBy, InsideIs, TurnsAre}
 use Rattle.elements.proofs.Levels.{first-none, first-limit, first-run, first-of}
 use Rattle.elements.proofs.Runs.{range-none, range-here}
 use Rattle.elements.proofs.Numbers.{not-true, above, last}
-use Rattle.elements.proofs.Bound.{scope-more, held-scope, held-small, held-room, runs-none, runs-with, small-append, next-run, next-small}
+use Rattle.elements.proofs.Bound.{scope-more, held-scope, held-small, room-held, more-room, runs-none, runs-length, runs-with, small-append, next-run, next-small, next-upper, next-above}
 
 -- ---- what is shown inside one run more
 
@@ -64,6 +64,11 @@ module _ {ns ts ds : List ℕ} {given : ℕ} (w : World ns ts ds given) (p : Lis
 
 -- ---- entries
 
+turned-grown : (outer : HeldHere) (l : HeldLevel) (count : ℕ) → (count ≡ 0 → ⊥) → (r : Step) → TurnedBy outer l (count - 1) r → GrownBy outer count r
+turned-grown outer l count some (At h) x = record { inner = x .run ∷ x .inner; is = x .is; size = omega (arith, x .size) }
+turned-grown outer l count some Done x = tt
+turned-grown outer l count some (Refused c q) x = tt
+
 module _ (ns ts ds : List ℕ) (given level count at : ℕ) (outer : HeldHere) where
   pub inside-none : count ≡ 0 → InsideIs ns ts ds given level count at outer (At outer)
   inside-none e = record {
@@ -74,6 +79,7 @@ module _ (ns ts ds : List ℕ) (given level count at : ℕ) (outer : HeldHere) w
       runs = sym (append-nil (runsOf w outer));
       small = m;
     };
+    grown = record { inner = []; is = sym (append-nil (held outer)); size = sym e };
   }
 
   -- inside no runs
@@ -98,7 +104,7 @@ module _ (ns ts ds : List ℕ) (given level count at : ℕ) (outer : HeldHere) w
     entries-suc w s us = ap (λ n. entriesIn w level n s us) suc-count
 
     pub inside-limit : (n : Refusal) (q : ℕ) → x ≡ entered.Refused n q → InsideIs ns ts ds given level count at outer (Refused n q)
-    inside-limit n q f = record { is = λ w m. entries-suc w _ _ ∙ first-limit _ _ _ _ (count - 1) n q (entry-at w m ∙ ap (boundsOutcome (w .text) ts) f) }
+    inside-limit n q f = record { is = λ w m. entries-suc w _ _ ∙ first-limit _ _ _ _ (count - 1) n q (entry-at w m ∙ ap (boundsOutcome (w .text) ts) f); grown = tt }
 
     module _ (b : HeldBounds) (a : ℕ) (f : x ≡ entered.Bounds b a) (y : Runs) (j : RunIs (b .limits) (b .number) sc (b .place) y) where
       small-limits : (w : World ns ts ds given) → SmallRuns (runsOf w outer) → SmallLimits (b .limits)
@@ -111,6 +117,7 @@ module _ (ns ts ds : List ℕ) (given level count at : ℕ) (outer : HeldHere) w
       inside-run n q g = record {
         is = λ w m. entries-suc w _ _
             ∙ first-run _ _ _ _ (count - 1) _ n q (entry-at w m ∙ ap (boundsOutcome (w .text) ts) f) (run-at w m ∙ ap (runOutcome (b .limits)) g);
+        grown = tt;
       }
 
       pub inside-turns : (n : ℕ) (l : HeldLevel) (r : Step) → y ≡ runs.Count n → l ≡ record { name = b .number; number = b .limits .lower; upper = b .limits .upper; behind = a }
@@ -121,7 +128,8 @@ module _ (ns ts ds : List ℕ) (given level count at : ℕ) (outer : HeldHere) w
             (entries-suc w _ _
             ∙ first-of _ _ _ _ (count - 1) _ _ (entry-at w m ∙ ap (boundsOutcome (w .text) ts) f) (run-at w m ∙ ap (runOutcome (b .limits)) g)
             ∙ ap (λ l. runFrom (entriesIn w level (count - 1)) (scopeIn w (runsOf w outer)) (runOf w l)) (sym k))
-            (t .is w m (rw k (record { number = small-limits w m .low; upper = small-limits w m .high })) (held-room (tokensAt w) outer sc e (j .room n g)));
+            (t .is w m (rw k (record { number = small-limits w m .low; upper = small-limits w m .high })) (subst (λ z. z < indexLimit) (sym (runs-length (tokensAt w) outer)) (room-held outer sc e (j .room n g))));
+        grown = turned-grown outer l count some r (t .turned (room-held outer sc e (j .room n g)));
       }
 
 -- ---- a run, number by number
@@ -145,14 +153,16 @@ pub record TurnsOn (ns ts ds : List ℕ) (given level count : ℕ) (outer : Held
   pub is : (w : World ns ts ds given) → SmallRuns (runsOf w outer) → SmallRun (runOf w run) → length (runsOf w outer) < indexLimit
       → runFrom (entriesIn w level count) (scopeIn w (runsOf w outer)) (runOf w run) ≡ runFrom (entriesIn w level count) (scopeIn w (runsOf w outer)) (runOf w l)
   pub small : (w : World ns ts ds given) → SmallRun (runOf w run) → SmallRun (runOf w l)
+  pub upper : l .upper ≡ run .upper
+  pub number : run .number ≤ℤ l .number
 
 module _ (ns ts ds : List ℕ) (given level count : ℕ) (outer : HeldHere) (run : HeldLevel) where
   pub turns-start : TurnsOn ns ts ds given level count outer run run
-  turns-start = record { is = λ w m n room. refl; small = λ w m. m }
+  turns-start = record { is = λ w m n room. refl; small = λ w m. m; upper = refl; number = ≤ℤ-refl (run .number) }
 
   module _ (l : HeldLevel) (o : TurnsOn ns ts ds given level count outer run l) (x : Bool) (e : x ≡ leZ (l .number) (l .upper)) where
     pub turns-end : x ≡ false → TurnsAre ns ts ds given level count outer run Done
-    turns-end f = record { is = λ w m n room. o .is w m n room ∙ run-none _ _ (runOf w l) (sym e ∙ f) }
+    turns-end f = record { is = λ w m n room. o .is w m n room ∙ run-none _ _ (runOf w l) (sym e ∙ f); turned = λ room. tt }
 
     module _ (f : x ≡ true) (inner : HeldHere) (g : held inner ≡ one-more (held outer) l) (r : Step) (i : InsideIs ns ts ds given level count (l .behind) inner r) where
       -- what the run still has, from its number on
@@ -171,20 +181,33 @@ module _ (ns ts ds : List ℕ) (given level count : ℕ) (outer : HeldHere) (run
           subst (λ s. Shows w (runsOf w outer ++ (runOf w l ∷ [])) (entriesIn w level count s (tokensAt w (l .behind))) r) (scope-more (nothingBound w) (runsOf w outer) (runOf w l))
           (subst (λ p. Shows w p (entriesIn w level count (scopeIn w p) (tokensAt w (l .behind))) r) same (i .is w (subst SmallRuns (sym same) small)))
 
+      -- the runs at an element that is reached
+      within : (h : HeldHere) → length (held outer) < indexLimit → Grown inner count h → Turned outer run count h
+      within h room x = record {
+        run = l;
+        inner = x .inner;
+        is = x .is ∙ ap (λ p. p ++ x .inner) (g ∙ more-room (held outer) l room) ∙ append-assoc (held outer) (l ∷ []) (x .inner);
+        size = x .size;
+        upper = o .upper;
+        number = o .number;
+      }
+
       pub turns-at : (h : HeldHere) → r ≡ At h → TurnsAre ns ts ds given level count outer run (At h)
-      turns-at h k = record { is = λ w m n room. shows-as w (runsOf w outer) _ _ (At h) (turn w m n room) (deeper-at w (runsOf w outer) _ _ _ h (subst (Shows w _ _) k (shown w m n room))) }
+      turns-at h k = record { is = λ w m n room. shows-as w (runsOf w outer) _ _ (At h) (turn w m n room) (deeper-at w (runsOf w outer) _ _ _ h (subst (Shows w _ _) k (shown w m n room))); turned = λ room. within h room (subst (GrownBy inner count) k (i .grown)) }
 
       pub turns-refused : (c : Refusal) (q : ℕ) → r ≡ Refused c q → TurnsAre ns ts ds given level count outer run (Refused c q)
-      turns-refused c q k = record { is = λ w m n room. turn w m n room ∙ deeper-refused w (runsOf w outer) _ _ _ c q (subst (Shows w _ _) k (shown w m n room)) }
+      turns-refused c q k = record { is = λ w m n room. turn w m n room ∙ deeper-refused w (runsOf w outer) _ _ _ c q (subst (Shows w _ _) k (shown w m n room)); turned = λ room. tt }
 
       module _ (k : r ≡ Done) (y : Bool) (a : y ≡ ltZ (l .number) (l .upper)) where
         pub turns-last : not y ≡ true → TurnsAre ns ts ds given level count outer run Done
-        turns-last b = record { is = λ w m n room. turn w m n room ∙ deeper-done w (runsOf w outer) _ _ _ (subst (Shows w _ _) k (shown w m n room)) ∙ run-last _ _ (runOf w l) (sym a ∙ not-true y b) }
+        turns-last b = record { is = λ w m n room. turn w m n room ∙ deeper-done w (runsOf w outer) _ _ _ (subst (Shows w _ _) k (shown w m n room)) ∙ run-last _ _ (runOf w l) (sym a ∙ not-true y b); turned = λ room. tt }
 
-        pub turns-more : not y ≡ false → (q : HeldLevel) → q ≡ stepped l → TurnsOn ns ts ds given level count outer run q
+        pub turns-more : not y ≡ false → (q : HeldLevel) → StepsUp l q → TurnsOn ns ts ds given level count outer run q
         turns-more b q c = record {
           is = λ w m n room.
               turn w m n room ∙ deeper-done w (runsOf w outer) _ _ _ (subst (Shows w _ _) k (shown w m n room))
-              ∙ ap (runFrom (entriesIn w level count) (scopeIn w (runsOf w outer))) (sym (next-run (tokensAt w) l q y a b c));
-          small = λ w n. next-small (tokensAt w) l q y a b c (o .small w n);
+              ∙ ap (runFrom (entriesIn w level count) (scopeIn w (runsOf w outer))) (sym (next-run l q y a b c (tokensAt w)));
+          small = λ w n. next-small l q y a b c (tokensAt w) (o .small w n);
+          upper = next-upper l q y a b c ∙ o .upper;
+          number = ≤ℤ-trans (o .number) (next-above l q y a b c);
         }

@@ -9,3 +9,4 @@ pub mod Bound
 pub mod Entering
 pub mod Going
 pub mod Loops
+pub mod Ranked

@@ -4,14 +4,14 @@ use mathlib.Core.Bool.{Bool, true, false, not, cond}
 use Prim.Native.Nat.{ℕ, zero, suc, _+_, _-_, _^_, _<_, _≤_}
 use native.Mathlib.Omega.{arith}
 use borrow.Author.Tests.{ltb-true, ltb-false, leb-false}
-use lib.IntN.{ℤ, pos, negsuc, natAbs, negℤ, _+ℤ_}
+use lib.IntN.{ℤ, pos, negsuc, natAbs, negℤ, _+ℤ_, _-ℤ_}
 use lib.Signed.{_≤ℤ_, mag, ltZ, leZ}
 use mir.Syntax.{w64}
 use mir.Val.{SFits, toZ, ofZ}
-use Rattle.value.specs.Integer.{up, down, add-parts, le-of-parts}
+use Rattle.value.specs.Integer.{up, down, add-parts, neg-up, neg-down, le-of-parts}
 use Rattle.value.proofs.Integers.{back, mag-le}
 use Rattle.elements.specs.declared.here.Level.{Level}
-use Rattle.elements.specs.Held.{stepped}
+use Rattle.elements.specs.Held.{stepped, wordBase, StepsUp}
 use Rattle.elements.proofs.Runs.{up-is, range-size}
 
 pub not-true : (x : Bool) → not x ≡ true → x ≡ false
@@ -24,7 +24,7 @@ not-false false e = sym e
 
 -- ---- tests, by the parts of two numbers
 
-less : (a b : ℤ) → ltZ a b ≡ true → up a + down b < up b + down a
+pub less : (a b : ℤ) → ltZ a b ≡ true → up a + down b < up b + down a
 less (pos a) (pos b) e = omega (arith, ltb-true a b e)
 less (pos a) (negsuc b) e = absurd (let z : _≡_ {A = ℕ} 0 1 = cc in omega arith)
 less (negsuc a) (pos b) e = omega arith
@@ -48,6 +48,14 @@ above a b e = le-of-parts _ _ (omega (arith, greater a b e, add-parts b (pos 1))
 
 pub last : (a b : ℤ) → ltZ a b ≡ false → (b +ℤ pos 1) ≤ℤ (a +ℤ pos 1)
 last a b e = le-of-parts _ _ (omega (arith, not-less a b e, add-parts b (pos 1), add-parts a (pos 1)))
+
+-- the difference of two numbers, by their parts
+pub difference : (a b : ℤ) → up (b -ℤ a) ≡ up b + down a - (down b + up a)
+difference a b = up-is (b -ℤ a) _ _ (omega (arith, add-parts b (negℤ a), neg-up a, neg-down a))
+
+mag-parts : (z : ℤ) → (up z ≤ mag z) × (down z ≤ suc (mag z))
+mag-parts (pos n) = omega arith
+mag-parts (negsuc n) = omega arith
 
 -- ---- the next number
 
@@ -77,9 +85,11 @@ left l = up (l .upper +ℤ pos 1 +ℤ negℤ (l .number))
 
 -- the next number of a run, as the machine reads it
 module _ (l : Level) (x : Bool) (e : x ≡ ltZ (l .number) (l .upper)) where
-  pub up-same : not x ≡ true → l ≡ stepped l
+  pub up-same : not x ≡ true → StepsUp l l
   unfolding stepped
-  up-same f = rw (sym e ∙ not-true x f)
+  up-same f =
+      let t = sym e ∙ not-true x f in
+      record { is = rw t; near = λ h. absurd (let z : true ≡ false = sym h ∙ t in let o : _≡_ {A = ℕ} 0 1 = cc in omega arith) }
 
   module _ (f : not x ≡ false) (a : mag (l .number) < 2 ^ 63) (b : mag (l .upper) < 2 ^ 63) where
     next-fits : mag (l .number +ℤ pos 1) < 2 ^ 63
@@ -88,12 +98,15 @@ module _ (l : Level) (x : Bool) (e : x ≡ ltZ (l .number) (l .upper)) where
     pub up-fits : SFits w64 (toZ w64 (ofZ w64 (l .number)) +ℤ pos 1)
     up-fits = rw (back {z = l .number} a) (record { sfits = next-fits })
 
-    pub up-number : record { name = l .name; number = toZ w64 (ofZ w64 (toZ w64 (ofZ w64 (l .number)) +ℤ pos 1)); upper = toZ w64 (ofZ w64 (l .upper)); behind = l .behind } ≡ stepped l
-    unfolding stepped
-    up-number = rw (back {z = l .number} a, back {z = l .number +ℤ pos 1} next-fits, back {z = l .upper} b, sym e ∙ not-false x f)
+    pub up-number : StepsUp l (record { name = l .name; number = toZ w64 (ofZ w64 (toZ w64 (ofZ w64 (l .number)) +ℤ pos 1)); upper = toZ w64 (ofZ w64 (l .upper)); behind = l .behind })
+    unfolding stepped wordBase
+    up-number = record {
+      is = rw (back {z = l .number} a, back {z = l .number +ℤ pos 1} next-fits, back {z = l .upper} b, sym e ∙ not-false x f);
+      near = λ t. omega (arith, difference (l .number) (l .upper), mag-parts (l .number), mag-parts (l .upper));
+    }
 
-  pub up-less : not x ≡ false → (r : Level) → r ≡ stepped l → left r < left l
+  pub up-less : not x ≡ false → (r : Level) → StepsUp l r → left r < left l
   unfolding stepped
   up-less f r g =
       let t = sym e ∙ not-false x f in
-      rw (g, t) (omega (arith, less (l .number) (l .upper) t, range-size (l .number) (l .upper), range-size (l .number +ℤ pos 1) (l .upper), add-parts (l .number) (pos 1)))
+      rw (g .is, t) (omega (arith, less (l .number) (l .upper) t, range-size (l .number) (l .upper), range-size (l .number +ℤ pos 1) (l .upper), add-parts (l .number) (pos 1)))

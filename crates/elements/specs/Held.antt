@@ -1,12 +1,14 @@
 -- The runs under way as code holds them. Assumes nothing.
-use mathlib.Core.Bool.{cond}
+use mathlib.Core.Path.{_≡_}
+use mathlib.Core.Bool.{true, cond}
 use mathlib.Core.List.{List, [], _∷_, _++_, map}
-use Prim.Native.Nat.{ℕ}
+use Prim.Native.Nat.{ℕ, _+_, _*_, _%_, _^_, _<_}
 use lib.Dec.{ltb}
 use lib.ListN.{length, take}
-use lib.IntN.{ℤ, pos, _+ℤ_}
+use lib.IntN.{ℤ, pos, _+ℤ_, _-ℤ_}
 use lib.Signed.{ltZ}
 use Rattle.rules.specs.Limits.{indexLimit}
+use Rattle.value.specs.Integer.{up}
 use Rattle.lexer.specs.Text.{Token}
 use Rattle.language.specs.Scope.{Binding}
 use Rattle.elements.specs.declared.here.Level.{Level as HeldLevel}
@@ -41,3 +43,22 @@ levelAt view l = record { name = l .name; number = l .number; upper = l .upper; 
 
 unfoldable pub levelsOf : (ℕ → List Token) → HeldHere → List Level
 levelsOf view h = map (levelAt view) (held h)
+
+-- ---- how far an element is from the last one
+
+unfoldable pub wordBase : ℕ
+wordBase = 18446744073709551616
+
+-- how many numbers a run has behind its own; two words differ by less than the base
+unfoldable pub ahead : HeldLevel → ℕ
+ahead l = up (l .upper -ℤ l .number) % wordBase
+
+-- a digit for each run, the outermost first
+unfoldable pub rank : List HeldLevel → ℕ
+rank [] = 0
+rank (l ∷ ls) = ahead l * wordBase ^ length ls + rank ls
+
+-- the next number of a run that has one; the limit lies less than the base ahead
+pub record StepsUp (l r : HeldLevel) : Type 0 where
+  pub is : r ≡ stepped l
+  pub near : ltZ (l .number) (l .upper) ≡ true → up (l .upper -ℤ l .number) < wordBase

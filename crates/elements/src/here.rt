@@ -8,7 +8,7 @@ ghost use lib.Signed.{leZ, ltZ};
 ghost use lib.ListN.{length, getD, take};
 ghost use Rattle.store.specs.Element.{listOf};
 ghost use Rattle.steps.specs.Scopes.{bindingsOf};
-ghost use Rattle.elements.specs.Held.{stepped, held, one-more, no-level, numberOf, bound};
+ghost use Rattle.elements.specs.Held.{StepsUp, held, one-more, no-level, numberOf, bound};
 
 // A run under way: its index, the number at which it stands, its upper limit, and the position behind its entry.
 pub struct Level {
@@ -56,7 +56,7 @@ impl Level {
 
     // The run at its next number; the same where there is none.
     pub fn up(self) -> Self
-        ensures { λ r. ⌜ r ≡ stepped self ⌝ }
+        ensures { λ r. ⌜ StepsUp self r ⌝ }
     {
         if !self.has_more() {
             return self;
