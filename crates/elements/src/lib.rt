@@ -1,6 +1,6 @@
 // The elements of a domain, one after the other: the first, and after each the next. A caller does its step between them.
-// `names`, `tokens`, `table`, `given`, `level` are those of the evaluator. The upper limits of the runs under way are kept
-// with an element, so that a limit is evaluated once for each run.
+// Of `cx` only the rows of data and the visible names count: a domain is read from nothing bound. The upper limits of the runs
+// under way are kept with an element, so a limit is evaluated once for each run.
 use evaluator::Context;
 use evaluator::Entered;
 use here::Here;
@@ -23,28 +23,20 @@ pub fn first(
     names: &[u64],
     tokens: &[u64],
     table: &[u64],
-    given: usize,
-    level: usize,
+    cx: Context,
     count: usize,
     at: usize,
 ) -> Step
-    ensures { λ r. ⌜ FirstIs (now (names .entry)) (now (tokens .entry)) (now (table .entry)) given level count at r ⌝ }
+    ensures { λ r. ⌜ FirstIs (now (names .entry)) (now (tokens .entry)) (now (table .entry)) (cx .given) (cx .level) count at r ⌝ }
 {
-    inside(names, tokens, table, given, level, count, at, Here::none())
+    inside(names, tokens, table, cx, count, at, Here::none())
 }
 
 // The element after an element.
-pub fn next(
-    names: &[u64],
-    tokens: &[u64],
-    table: &[u64],
-    given: usize,
-    level: usize,
-    here: Here,
-) -> Step
-    ensures { λ r. ⌜ NextIs (now (names .entry)) (now (tokens .entry)) (now (table .entry)) given level here r ⌝ }
+pub fn next(names: &[u64], tokens: &[u64], table: &[u64], cx: Context, here: Here) -> Step
+    ensures { λ r. ⌜ NextIs (now (names .entry)) (now (tokens .entry)) (now (table .entry)) (cx .given) (cx .level) here r ⌝ }
 {
-    after(names, tokens, table, given, level, 0, here)
+    after(names, tokens, table, cx, 0, here)
 }
 
 // The first element of `count` entries from a position on, inside the runs of `outer`.
@@ -52,35 +44,33 @@ fn inside(
     names: &[u64],
     tokens: &[u64],
     table: &[u64],
-    given: usize,
-    level: usize,
+    cx: Context,
     count: usize,
     at: usize,
     outer: Here,
 ) -> Step
-    ensures { λ r. ⌜ InsideIs (now (names .entry)) (now (tokens .entry)) (now (table .entry)) given level count at outer r ⌝ }
+    ensures { λ r. ⌜ InsideIs (now (names .entry)) (now (tokens .entry)) (now (table .entry)) (cx .given) (cx .level) count at outer r ⌝ }
 {
     if count == 0 {
         return Step::At(outer);
     }
-    let sc = outer.scope();
-    let cx = Context {
-        given,
-        level,
+    let scope = outer.scope();
+    let bound = Context {
+        given: cx.given,
+        level: cx.level,
         nest: rules::NESTING_LIMIT,
-        scope: sc,
+        scope,
     };
-    let entry = evaluator::entry(names, tokens, table, cx, at);
+    let entry = evaluator::entry(names, tokens, table, bound, at);
     match entry {
         Entered::Bounds(b, behind) => {
-            let run = values::run(sc, b.limits, b.number, b.place);
+            let run = values::run(scope, b.limits, b.number, b.place);
             match run {
                 Runs::Count(n) => turns(
                     names,
                     tokens,
                     table,
-                    given,
-                    level,
+                    cx,
                     count - 1,
                     outer,
                     Level::of(b, behind),
@@ -97,18 +87,17 @@ fn turns(
     names: &[u64],
     tokens: &[u64],
     table: &[u64],
-    given: usize,
-    level: usize,
+    cx: Context,
     count: usize,
     outer: Here,
     run: Level,
 ) -> Step
-    ensures { λ r. ⌜ TurnsAre (now (names .entry)) (now (tokens .entry)) (now (table .entry)) given level count outer run r ⌝ }
+    ensures { λ r. ⌜ TurnsAre (now (names .entry)) (now (tokens .entry)) (now (table .entry)) (cx .given) (cx .level) count outer run r ⌝ }
 {
     let mut l = run;
     while l.stands() {
         let inner = outer.with(l);
-        let r = inside(names, tokens, table, given, level, count, l.behind, inner);
+        let r = inside(names, tokens, table, cx, count, l.behind, inner);
         match r {
             Step::At(h) => {
                 return Step::At(h);
@@ -127,22 +116,14 @@ fn turns(
 }
 
 // What comes after an element inside its m outermost runs, which stay at their numbers.
-fn after(
-    names: &[u64],
-    tokens: &[u64],
-    table: &[u64],
-    given: usize,
-    level: usize,
-    m: usize,
-    here: Here,
-) -> Step
-    ensures { λ r. ⌜ AfterIs (now (names .entry)) (now (tokens .entry)) (now (table .entry)) given level m here r ⌝ }
+fn after(names: &[u64], tokens: &[u64], table: &[u64], cx: Context, m: usize, here: Here) -> Step
+    ensures { λ r. ⌜ AfterIs (now (names .entry)) (now (tokens .entry)) (now (table .entry)) (cx .given) (cx .level) m here r ⌝ }
 {
     let n = here.length();
     if n <= m {
         return Step::Done;
     }
-    let r = after(names, tokens, table, given, level, m + 1, here);
+    let r = after(names, tokens, table, cx, m + 1, here);
     match r {
         Step::At(h) => Step::At(h),
         Step::Refused(k, p) => Step::Refused(k, p),
@@ -151,16 +132,7 @@ fn after(
             if !l.has_more() {
                 return Step::Done;
             }
-            turns(
-                names,
-                tokens,
-                table,
-                given,
-                level,
-                n - m - 1,
-                here.cut(m),
-                l.up(),
-            )
+            turns(names, tokens, table, cx, n - m - 1, here.cut(m), l.up())
         }
     }
 }

@@ -20,7 +20,7 @@ use Rattle.elements.proofs.+after.{statement}
 use Rattle.elements.proofs.+after.Tie.{close}
 
 abbrev μ-after : Measures 3 after-kinds.ps ℕ
-μ-after κs a = length (held (a .1 .1 .1 .1 .1 .1 .0)) - a .1 .1 .1 .1 .1 .0
+μ-after κs a = length (held (a .1 .1 .1 .1 .1 .0)) - a .1 .1 .1 .1 .0
 
 abbrev after-where : ℕ → In 3 after-kinds.ps
 after-where t = and 3 after-kinds.ps (is 3 after-kinds.ps μ-after t) after.Pre

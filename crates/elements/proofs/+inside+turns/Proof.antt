@@ -24,10 +24,10 @@ use Rattle.elements.proofs.+inside+turns.{statement}
 use Rattle.elements.proofs.+inside+turns.Tie.{close}
 
 abbrev μ-inside : Measures 3 inside-kinds.ps ℕ
-μ-inside κs a = 2 * a .1 .1 .1 .1 .1 .0
+μ-inside κs a = 2 * a .1 .1 .1 .1 .0
 
 abbrev μ-turns : Measures 3 turns-kinds.ps ℕ
-μ-turns κs a = 2 * a .1 .1 .1 .1 .1 .0 + 1
+μ-turns κs a = 2 * a .1 .1 .1 .1 .0 + 1
 
 abbrev inside-at : ℕ → In 3 inside-kinds.ps
 inside-at t = and 3 inside-kinds.ps (is 3 inside-kinds.ps μ-inside t) inside.Pre
@@ -70,10 +70,10 @@ turns-calls t = (
 )
 
 abbrev Inv : turns-lts.InvT-loop
-Inv names tokens table given level count outer l₀ l = TurnsOn names tokens table given level count outer l₀ l
+Inv names tokens table cx count outer l₀ l = TurnsOn names tokens table (cx .given) (cx .level) count outer l₀ l
 
 abbrev μ : turns-lts.MeasureT-loop
-μ names tokens table given level count outer l₀ l = left l
+μ names tokens table cx count outer l₀ l = left l
 
 pub +inside+turns-spec : {M : Type 1} → statement M
 +inside+turns-spec =
