@@ -1,0 +1,12 @@
+pub mod Walks
+pub mod Folded
+pub mod Runs
+pub mod Levels
+pub mod Rising
+pub mod Held
+pub mod Numbers
+pub mod Bound
+pub mod Entering
+pub mod Going
+pub mod Loops
+pub mod Ranked

@@ -1,0 +1,5 @@
+pub mod Elements
+pub mod Levels
+pub mod Held
+pub mod Steps
+pub mod Loops
