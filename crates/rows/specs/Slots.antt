@@ -1,0 +1,69 @@
+-- The rows of a problem, in slots: those of `<=` and `>=` from the first slot on, those of `=` from the last one back, each in
+-- text order; so a row keeps its slot while others come. A slot has a row of the table (the constraint's number and element as
+-- its key, the right side as its word) and a row of counts. The objective has a row of counts behind the slots, and one row more
+-- is spare. Assumes nothing.
+use mathlib.Core.Path.{_≡_}
+use mathlib.Core.Bool.{Bool, true, false}
+use mathlib.Core.List.{List}
+use Prim.Native.Nat.{ℕ, suc, _+_, _-_, _*_, _≤_}
+use lib.Dec.{ltb}
+use lib.ListN.{length, take, drop}
+use lib.IntN.{ℤ}
+use Rattle.rules.specs.Limits.{rowLimit, variableLimit}
+use Rattle.value.specs.Decimal.{Valid}
+use Rattle.language.specs.Numbering.{Variable, Row, Entry, keep, lessRow, equalRow}
+use Rattle.language.specs.Listed.{At}
+use Rattle.language.specs.Listing.{rightOf, coefficientsOf}
+use Rattle.store.specs.Key.{keyOf}
+use Rattle.store.specs.Table.{keyAt, wordAt}
+use Rattle.store.specs.Packed.{packed}
+use Rattle.store.specs.Entries.{Keyed}
+use Rattle.rows.specs.Counts.{RowOf}
+
+-- ---- rows of counts
+
+-- the first n counts of row k; a row has room for every variable
+unfoldable pub countsAt : List ℤ → ℕ → ℕ → List ℤ
+countsAt m n k = take n (drop (k * variableLimit) m)
+
+unfoldable pub objectiveRow : ℕ
+objectiveRow = rowLimit
+
+unfoldable pub spareRow : ℕ
+spareRow = suc rowLimit
+
+-- the objective's coefficients
+pub record ObjectiveHeld (vs : List Variable) (m : List ℤ) (r : Row) : Type 0 where
+  pub row : RowOf vs (countsAt m (length vs) objectiveRow) r
+
+-- ---- slots
+
+-- what slot k holds
+pub record Slot (vs : List Variable) (t : List ℕ) (m : List ℤ) (k : ℕ) (e : Entry) : Type 0 where
+  pub keyed : Keyed (e .source .ordinal) (e .source .element)
+  pub key : keyAt t k ≡ keyOf (e .source .ordinal) (e .source .element)
+  pub valid : Valid (rightOf (e .fact))
+  pub right : wordAt t k ≡ packed (rightOf (e .fact))
+  pub row : RowOf vs (countsAt m (length vs) k) (coefficientsOf (e .fact))
+
+-- the slot of the i-th row of `<=` and `>=`, and of the i-th of `=`, from 0
+unfoldable pub lessSlot : ℕ → ℕ
+lessSlot i = i
+
+unfoldable pub equalSlot : ℕ → ℕ
+equalSlot i = rowLimit - suc i
+
+-- the slot of the row that comes next; where all are taken, the spare row
+unfoldable pub nextSlot : ℕ → ℕ → Bool → ℕ
+nextSlot less equal b = elim (ltb (less + equal) rowLimit) [
+  | true ↦ elim b [ true ↦ equalSlot equal | false ↦ lessSlot less ]
+  | false ↦ spareRow
+]
+
+-- all rows among the entries
+pub record RowsHeld (vs : List Variable) (t : List ℕ) (m : List ℤ) (less equal : ℕ) (es : List Entry) : Type 0 where
+  pub lessCount : less ≡ length (keep lessRow es)
+  pub equalCount : equal ≡ length (keep equalRow es)
+  pub room : less + equal ≤ rowLimit
+  pub lessRows : (i : ℕ) (e : Entry) → At (keep lessRow es) i e → Slot vs t m (lessSlot i) e
+  pub equalRows : (i : ℕ) (e : Entry) → At (keep equalRow es) i e → Slot vs t m (equalSlot i) e
