@@ -1,3 +1,4 @@
 pub mod Tables
 pub mod Cycle
 pub mod WalkOver
+pub mod Ground
