@@ -1,0 +1,5 @@
+pub mod Stores
+pub mod Layouts
+pub mod Running
+pub mod Taking
+pub mod Carrying
