@@ -182,7 +182,7 @@ module _ (ns ts ds : List ℕ) (given at : ℕ) (h : Worked) (k : ℕ) (e : Entr
       unfolding turn
       each-wrong m y d =
           record {
-            is = λ s x b c st g. rw d (subst (λ u. TakenIs u s ts us′ (taken.Refused m y)) (sym (unrolled s x b c st g)) (go s x (turn x (l .lower +ℤ pos i) (o .on s x b c st g .store) (from s ts a)) (subst (TakenIs _ s ts us′) d (turned s x b c st g))));
+            is = λ s x b c st g. rw d (subst (λ u. TakenIs u s ts us′ (taken.Refused m y)) (sym (unrolled s x b c st g)) (go s x (turn x (l .lower +ℤ pos i) (o .on s x b c st g .store) (from s ts a)) (subst (TakenIs (turn x (l .lower +ℤ pos i) (o .on s x b c st g .store) (from s ts a)) s ts us′) d (turned s x b c st g))));
           }
         where
           go : (s : List ℕ) (x : Portion) (u : Outcome (Read Store)) → TakenIs u s ts us′ (taken.Refused m y)
@@ -193,7 +193,7 @@ module _ (ns ts ds : List ℕ) (given at : ℕ) (h : Worked) (k : ℕ) (e : Entr
       pub each-on : (b c : ℕ) → r ≡ taken.At b c → EachOn b c (i + 1) us′
       each-on b c d =
           record {
-            on = λ s x m t st g. go s x st (turn x (l .lower +ℤ pos i) (o .on s x m t st g .store) (from s ts a)) (unrolled s x m t st g) (subst (TakenIs _ s ts us′) d (turned s x m t st g));
+            on = λ s x m t st g. go s x st (turn x (l .lower +ℤ pos i) (o .on s x m t st g .store) (from s ts a)) (unrolled s x m t st g) (subst (TakenIs (turn x (l .lower +ℤ pos i) (o .on s x m t st g .store) (from s ts a)) s ts us′) d (turned s x m t st g));
           }
         where
           go : (s : List ℕ) (x : Portion) (st : Store) (u : Outcome (Read Store))

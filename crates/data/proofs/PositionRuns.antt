@@ -40,7 +40,7 @@ use Rattle.data.specs.declared.running.Portion.{Portion as Worked}
 use Rattle.data.specs.declared.running.Run.{Run}
 use Rattle.data.specs.declared.running.Run.the-variants as run
 use Rattle.data.specs.Stores.{Stores}
-use Rattle.evaluator.specs.Ground.{Ground}
+use Rattle.evaluator.specs.Ground.{Ground, worldOn}
 use Rattle.data.specs.Layouts.{Laid}
 use Rattle.data.specs.Running.{before, Before, Portrays, Carries, runOutcome, ShortRun, RunsFrom, PositionRuns}
 use Rattle.data.proofs.Rows.{stores-given}
@@ -50,13 +50,7 @@ use Rattle.data.proofs.Positions.{bound-length}
 -- ---- what evaluation reads while data is read
 
 unfoldable pub world : (s ns ts ds : List ℕ) (given : ℕ) (st : Store) → Ground s ns ts → Stores ds given st → World ns ts ds given
-world s ns ts ds given st g h =
-    record {
-      text = s;
-      names = g .names;
-      known = stored st;
-      tables = record { few = g .few; named = g .named; resolved = g .resolved; literals = g .literals; declared = g .declared; stored = stores-given ds given st h };
-    }
+world s ns ts ds given st g h = worldOn g (stores-given ds given st h)
 
 -- ---- the run of an entry
 

@@ -14,15 +14,13 @@ use Rattle.rules.specs.Limits.{dataLimit, mantissaLimit, indexLimit}
 use Rattle.value.specs.declared.Value.{Value}
 use Rattle.value.specs.Decimal.{Valid}
 use Rattle.language.specs.Outcome.{done, refused}
-use Rattle.language.specs.Scope as Scope
+use Rattle.language.specs.Scope.{sameElement}
 use Rattle.language.specs.Evaluation.{isNone}
 use Rattle.language.specs.Store.{Datum, Store, stored, scopeOf}
 use Rattle.language.specs.Valid.{Small, SmallElement, ValidDatum, ValidStore}
 use Rattle.language.proofs.ValidStore.{scope-valid}
-use Rattle.tokens.proofs.Tables.{false-true}
 use Rattle.store.specs.declared.Insertion.{Insertion}
 use Rattle.store.specs.declared.Insertion.the-variants.{Done, Present, NoRoom}
-use Rattle.store.specs.Element as Element
 use Rattle.store.specs.Element.{Subscripts}
 use Rattle.store.specs.Key.{keyNumber, keyOf}
 use Rattle.store.specs.Table.{hasRoom, lookup, Says, Inserted}
@@ -36,24 +34,6 @@ use Rattle.data.specs.declared.entering.Accepted.the-variants as accepte
 use Rattle.data.specs.Stores.{rowOf, Stores, StoreIs, entering, Enters}
 
 -- ---- elements
-
-same-whole : (j k : ℤ) → Scope.sameWhole j k ≡ Element.sameWhole j k
-unfolding Scope.sameWhole Element.sameWhole
-same-whole (pos a) (pos b) = refl
-same-whole (pos a) (negsuc b) = refl
-same-whole (negsuc a) (pos b) = refl
-same-whole (negsuc a) (negsuc b) = refl
-
-same-element : (l m : List ℤ) → Scope.sameElement l m ≡ Element.sameElement l m
-unfolding Scope.sameElement Element.sameElement
-same-element [] [] = refl
-same-element [] (k ∷ m) = refl
-same-element (j ∷ l) [] = refl
-same-element (j ∷ l) (k ∷ m) = go (Scope.sameWhole j k) (Element.sameWhole j k) (same-whole j k) (same-element l m)
-  where
-    go : (a b : Bool) → a ≡ b → Scope.sameElement l m ≡ Element.sameElement l m
-        → _≡_ {A = Bool} (elim a as (λ _. Bool) [ true ↦ Scope.sameElement l m | false ↦ false ]) (elim b as (λ _. Bool) [ true ↦ Element.sameElement l m | false ↦ false ])
-    go a b e f = ap (λ a. elim a as (λ _. Bool) [ true ↦ Scope.sameElement l m | false ↦ false ]) e ∙ ap (λ c. elim b as (λ _. Bool) [ true ↦ c | false ↦ false ]) f
 
 -- numbers that are small at every position
 pub small-element : (l : List ℤ) → ((i : ℕ) → natAbs (getD l i (pos 0)) ≤ mantissaLimit) → SmallElement l
@@ -71,15 +51,13 @@ element-small (k ∷ l) h (suc i) = element-small l (h .1) i
 stored-word : (st : Store) → ValidStore st → (i : ℕ) (l : List ℤ) → stored st i l ≡ valueIn (wordOf (map rowOf st) i l)
 unfolding stored wordOf
 stored-word [] h i l = refl
-stored-word (x ∷ st) h i l = go (eqb (x .name) i && Scope.sameElement (x .element) l) (eqb (x .name) i && Element.sameElement (x .element) l) (ap (λ b. eqb (x .name) i && b) (same-element (x .element) l)) (stored-word st (h .1) i l)
+stored-word (x ∷ st) h i l = go (eqb (x .name) i && sameElement (x .element) l) (stored-word st (h .1) i l)
   where
-    go : (a b : Bool) → a ≡ b → stored st i l ≡ valueIn (wordOf (map rowOf st) i l)
-        → _≡_ {A = Option Value} (elim a as (λ _. Option Value) [ true ↦ some (x .value) | false ↦ stored st i l ])
+    go : (b : Bool) → stored st i l ≡ valueIn (wordOf (map rowOf st) i l)
+        → _≡_ {A = Option Value} (elim b as (λ _. Option Value) [ true ↦ some (x .value) | false ↦ stored st i l ])
         (valueIn (elim b as (λ _. Option ℕ) [ true ↦ some (packed (x .value)) | false ↦ wordOf (map rowOf st) i l ]))
-    go true true e f = ap some (sym (unpacked-packed (x .value) (h .0 .value .small) (h .0 .value .places)))
-    go true false e f = absurd (false-true (sym e))
-    go false true e f = absurd (false-true e)
-    go false false e f = f
+    go true f = ap some (sym (unpacked-packed (x .value) (h .0 .value .small) (h .0 .value .places)))
+    go false f = f
 
 pub stores-none : (ds : List ℕ) → Stores ds 0 []
 stores-none ds = record { holds = holds-none ds; valid = tt }
