@@ -1,11 +1,15 @@
 -- Laws of a portion carried out over plain variables: the positions still to run, and the turns of a run. Assumes nothing.
 use mathlib.Core.Path.{_≡_, refl, sym, _∙_, ap, subst}
 use mathlib.Core.List.{List, [], _∷_}
-use Prim.Native.Nat.{ℕ, zero, suc, _+_, _-_, _<_, _≤_}
+use Prim.Native.Nat.{ℕ, zero, suc, _+_, _-_, _<_, _≤_, _^_}
 use native.Mathlib.Omega.{arith}
 use lib.ListN.{length, getD, drop, drop-of-length-le}
 use lib.Seq.{drop-cons}
 use lib.IntN.{ℤ, pos, _+ℤ_, +ℤ-assoc, +ℤ-idr}
+use lib.Signed.{mag}
+use mir.Syntax.{w64}
+use mir.Val.{toZ, ofZ}
+use Rattle.value.proofs.Integers.{back}
 use Rattle.rules.specs.declared.Refusal.{Refusal}
 use Rattle.rules.specs.Limits.{runLimit, indexLimit}
 use Rattle.lexer.specs.Text.{Token}
@@ -148,8 +152,11 @@ module _ (ns ts ds : List ℕ) (given at : ℕ) (h : Worked) (k : ℕ) (e : Entr
               subst (λ r. TakenIs r s ts us (taken.At a count)) (sym (m .same ∙ ap (λ j. eachRead (turn x) (upFrom (l .lower +ℤ pos i) j) (m .store) (from s ts a)) d)) (refl, m .holds);
         }
 
-    module _ (q : i < n) (j : ℕ) (f : j ≡ getD (numbersOf (h .order)) k 0) (z : ℤ) (v : NumberIs l i z) (e′ : Entries) (w : boundOf (entriesOf e′) ≡ setAt j z (boundOf (entriesOf e))) (r : Taken) (us′ : List ℕ)
+    module _ (q : i < n) (j : ℕ) (f : j ≡ getD (numbersOf (h .order)) k 0) (z : ℤ) (v : NumberIs l i z) (fits : mag z < 2 ^ 63) (e′ : Entries) (held : boundOf (entriesOf e′) ≡ setAt j (toZ w64 (ofZ w64 z)) (boundOf (entriesOf e))) (r : Taken) (us′ : List ℕ)
         (p : RunsTo ns ts us count a h (k + 1) e′ r us′) where
+      w : boundOf (entriesOf e′) ≡ setAt j z (boundOf (entriesOf e))
+      w = held ∙ ap (λ z. setAt j z (boundOf (entriesOf e))) (back {z = z} fits)
+
       number-is : Counts l n → z ≡ l .lower +ℤ pos i
       unfolding runLimit
       number-is c = v .is (c .small .low) (omega (arith, c .short))
