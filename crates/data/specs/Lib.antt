@@ -3,3 +3,5 @@ pub mod Layouts
 pub mod Running
 pub mod Taking
 pub mod Carrying
+pub mod Portions
+pub mod Sections
