@@ -5,3 +5,5 @@ pub mod Smalls
 pub mod PositionRuns
 pub mod Accepting
 pub mod Carried
+pub mod Portions
+pub mod Filling

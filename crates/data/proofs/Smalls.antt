@@ -5,7 +5,7 @@ use mathlib.Core.Option.{Option, none, some}
 use mathlib.Core.List.{List, [], _∷_, _++_}
 use Prim.Native.Nat.{ℕ, zero, suc, _+_}
 use lib.Dec.{eqb}
-use lib.ListN.{drop}
+use lib.ListN.{length, drop}
 use lib.Seq.{drop-drop}
 use lib.IntN.{ℤ}
 use Rattle.rules.specs.declared.Refusal.the-variants.{Misplaced}
@@ -24,13 +24,13 @@ use Rattle.language.specs.Valid.{Small}
 use Rattle.language.specs.Data.{Entry, fixed, marked, digitsOf, withMinus, signedEntry, entryBy, readEntry, entriesOf, boundOf, valueOf, signedValue}
 use Rattle.language.specs.Phrases.{Reads}
 use Rattle.language.proofs.Taken.{gives, refuses, weaken, then, then-next, then-demand, then-require, then-expect, then-known}
-use Rattle.tokens.specs.Stored.{kindPart, placePart, payloadPart, kindOf, token, view, from}
+use Rattle.tokens.specs.Stored.{kindPart, placePart, payloadPart, kindOf, token, view, from, size}
 use Rattle.portions.specs.Readers.{Number, literalIn, numberIn}
 use Rattle.data.specs.Running.{SmallIf}
 
 -- ---- tokens whose literals are values
 
-abbrev FittingKind : Kind → Type 0
+abbrev pub FittingKind : Kind → Type 0
 FittingKind (Text.mark c) = Unit {0}
 FittingKind (Text.name l) = Unit {0}
 FittingKind (Text.literal w v) = Valid v
@@ -68,7 +68,7 @@ made Q m g ts r h e = let x = g .reads ts r e in x .writes (all-left Fitting (x 
 
 -- ---- a portion's entries
 
-abbrev SmallEntry : Entry → Type 0
+abbrev pub SmallEntry : Entry → Type 0
 SmallEntry (fixed k) = Small k
 SmallEntry (marked i) = Unit {0}
 
@@ -116,13 +116,16 @@ module _ (names : List Name) where
   unfolding readEntry
   entry-small = then-next (λ t. by-small t (t .kind) refl)
 
-  pub entries-small : (d : Spans) → Reads (entriesOf names d) (λ es l. All Fitting l → All SmallEntry es)
-  unfolding entriesOf
-  entries-small point = gives (λ h. tt)
-  entries-small (span i f g p point) = then entry-small (λ e l w. then-expect _ (λ q. gives (λ h. (w (all-left Fitting l _ h), tt))))
+  -- as many as the domain has indices
+  pub entries-small : (d : Spans) → Reads (entriesOf names d) (λ es l. All Fitting l → (length es ≡ size d) × All SmallEntry es)
+  unfolding entriesOf size
+  entries-small point = gives (λ h. (refl, tt))
+  entries-small (span i f g p point) = then entry-small (λ e l w. then-expect _ (λ q. gives (λ h. (refl, (w (all-left Fitting l _ h), tt)))))
   entries-small (span i f g p (span j f′ g′ q d)) =
       then entry-small (λ e l w. then-expect _ (λ r. then (entries-small (span j f′ g′ q d)) (λ es k v. gives (λ h.
-      let after = all-right Fitting l _ h in (w (all-left Fitting l _ h), v (all-left Fitting k [] (after .1)))))))
+      let after = all-right Fitting l _ h in
+      let (long, small) = v (all-left Fitting k [] (after .1)) in
+      (ap suc long, (w (all-left Fitting l _ h), small))))))
 
 pub positions-small : (es : List Entry) → All SmallEntry es → All SmallIf (boundOf es)
 unfolding boundOf

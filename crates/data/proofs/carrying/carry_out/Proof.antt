@@ -1,3 +1,4 @@
+use Rattle.data.proofs.Portions.{carry-runs, carry-refused}
 use borrow.Author.Needs.{needs}
 use Rattle.data.proofs.carrying.carry_out.Statement.{statement}
 use Rattle.data.proofs.carrying.carry_out.Tie as tie
@@ -34,11 +35,11 @@ enum-known-head-2 c = search needs
 
 -- src/carrying.rt:48:1
 returns : tie.Need-returns
-returns c = ?
+returns c = search carry-runs depth 8
 
 -- src/carrying.rt:48:1
 returns-2 : tie.Need-returns-2
-returns-2 c = ?
+returns-2 c = search carry-refused depth 6
 
 pub carry-out-spec : {M : Type 1} → statement M
 carry-out-spec =

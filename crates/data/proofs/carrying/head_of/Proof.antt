@@ -1,3 +1,4 @@
+use Rattle.data.proofs.Portions.{head-none, head-some}
 use borrow.Author.Needs.{needs}
 use Rattle.data.proofs.carrying.head_of.Statement.{statement}
 use Rattle.data.proofs.carrying.head_of.Tie as tie
@@ -17,7 +18,7 @@ none-requires-2 c κs = search needs
 
 -- src/carrying.rt:42:9
 returns : tie.Need-returns
-returns c = ?
+returns c = search head-none depth 6
 
 -- src/carrying.rt:44:5
 head-requires : tie.Need-head-requires
@@ -25,7 +26,7 @@ head-requires c κs = search needs
 
 -- src/carrying.rt:31:1
 returns-2 : tie.Need-returns-2
-returns-2 c = ?
+returns-2 c = search head-some depth 5
 
 pub head-of-spec : {M : Type 1} → statement M
 head-of-spec = tie.close (tie.spec none-requires none-requires-2 returns head-requires returns-2)

@@ -1,3 +1,4 @@
+use Rattle.data.proofs.Portions.{name-other, name-carries}
 use borrow.Author.Needs.{needs}
 use Rattle.data.proofs.carrying.of_name.Statement.{statement}
 use Rattle.data.proofs.carrying.of_name.Tie as tie
@@ -11,11 +12,11 @@ carry-out-requires c κs = search needs
 
 -- src/carrying.rt:98:9
 returns : tie.Need-returns
-returns c = ?
+returns c = search name-carries depth 6
 
 -- src/carrying.rt:82:1
 returns-2 : tie.Need-returns-2
-returns-2 c = ?
+returns-2 c = search name-other depth 5
 
 pub of-name-spec : {M : Type 1} → statement M
 of-name-spec = tie.close (tie.spec carry-out-requires returns returns-2)

@@ -1,3 +1,4 @@
+use Rattle.data.proofs.Portions.{portion-named, portion-unknown}
 use borrow.Author.Needs.{needs}
 use Rattle.data.proofs.carrying.portion.Statement.{statement}
 use Rattle.data.proofs.carrying.portion.Tie as tie
@@ -24,11 +25,11 @@ enum-known-name-2 c = search needs
 
 -- src/carrying.rt:115:1
 returns : tie.Need-returns
-returns c = ?
+returns c = search portion-named depth 6
 
 -- src/carrying.rt:115:1
 returns-2 : tie.Need-returns-2
-returns-2 c = ?
+returns-2 c = search portion-unknown depth 5
 
 pub portion-spec : {M : Type 1} → statement M
 portion-spec =

@@ -1,3 +1,4 @@
+use Rattle.steps.proofs.Numbers.{row-here, row-past, row-beyond}
 use borrow.Author.Needs.{needs}
 use Rattle.data.proofs.carrying.start_of.Statement.{statement}
 use Rattle.data.proofs.carrying.start_of.Tie as tie
@@ -22,15 +23,15 @@ shared-slice-read-result c = search needs
 
 -- src/carrying.rt:24:13
 returns : tie.Need-returns
-returns c = ?
+returns c = search row-here
 
 -- src/carrying.rt:18:1
 returns-2 : tie.Need-returns-2
-returns-2 c = ?
+returns-2 c = search row-past
 
 -- src/carrying.rt:18:1
 returns-3 : tie.Need-returns-3
-returns-3 c = ?
+returns-3 c = search row-beyond
 
 pub start-of-spec : {M : Type 1} → statement M
 start-of-spec =
