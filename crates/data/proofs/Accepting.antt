@@ -1,10 +1,10 @@
 -- Laws of one number over plain variables: its tests, and its row in the store. Assumes nothing.
 use mathlib.Core.Path.{_≡_, refl, sym, _∙_, ap, subst}
-use mathlib.Core.Bool.{Bool, true, false, not}
-use mathlib.Core.List.{List, []}
+use mathlib.Core.Bool.{Bool, true, false}
+use mathlib.Core.List.{List}
 use Prim.Native.Nat.{ℕ, suc}
 use native.Mathlib.Omega.{arith}
-use lib.ListN.{length, take}
+use lib.ListN.{take}
 use lib.IntN.{ℤ}
 use Rattle.rules.specs.declared.Refusal.{Refusal}
 use Rattle.rules.specs.declared.Refusal.the-variants.{NotWhole}
@@ -16,18 +16,16 @@ use Rattle.value.specs.Decimal.{Valid, wholeOf}
 use Rattle.lexer.specs.Text.{Token}
 use Rattle.language.specs.Outcome.{Outcome, done, refused, _>>=_}
 use Rattle.language.specs.Syntax.{Spans, point, span}
-use Rattle.language.specs.Reader.{Read, follow, asRead, lift}
+use Rattle.language.specs.Reader.{follow, asRead, lift}
 use Rattle.language.specs.Evaluation.{wholeAt, within}
 use Rattle.language.specs.Store.{Store, Portion, scopeOf, wholeIf, accept}
 use Rattle.language.specs.Data.{readNumber}
 use Rattle.tokens.specs.Stored.{from, size}
-use Rattle.walk.specs.Walk.{walkWithin, inDomainWalk}
 use Rattle.walk.specs.Entries.{indexCount}
 use Rattle.walk.proofs.WalkedDomain.{within-walk}
 use Rattle.store.specs.declared.Element.{Element}
-use Rattle.store.specs.Element.{listOf, Subscripts}
+use Rattle.store.specs.Element.{listOf}
 use Rattle.store.specs.Key.{nameBound}
-use Rattle.store.specs.Entries.{Keyed}
 use Rattle.evaluator.specs.declared.Passed.{Passed}
 use Rattle.evaluator.specs.declared.Passed.the-variants as passed
 use Rattle.evaluator.specs.Cycle.{passedOutcome, onlyOutcome, WithinIs}
@@ -41,11 +39,9 @@ use Rattle.data.specs.declared.entering.Taken.{Taken}
 use Rattle.data.specs.declared.entering.Taken.the-variants as taken
 use Rattle.data.specs.declared.running.Portion.{Portion as Worked}
 use Rattle.data.specs.Stores.{Stores, StoreIs, entering, Enters}
-use Rattle.evaluator.specs.Ground.{Ground}
-use Rattle.data.specs.Running.{Portrays}
 use Rattle.data.specs.Taking.{Suits, Aims, Accepts, TakenIs, Takes}
 use Rattle.data.proofs.PositionRuns.{world}
-use Rattle.data.proofs.Smalls.{Fitting, fitting-from, made, number-valid}
+use Rattle.data.proofs.Smalls.{fitting-from, made, number-valid}
 
 -- ---- whole for an integer
 

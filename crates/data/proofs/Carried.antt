@@ -3,7 +3,7 @@ use mathlib.Core.Path.{_≡_, refl, sym, _∙_, ap, subst}
 use mathlib.Core.List.{List, [], _∷_}
 use Prim.Native.Nat.{ℕ, zero, suc, _+_, _-_, _<_, _≤_, _^_}
 use native.Mathlib.Omega.{arith}
-use lib.ListN.{length, getD, drop, drop-of-length-le}
+use lib.ListN.{length, getD, drop-of-length-le}
 use lib.Seq.{drop-cons}
 use lib.IntN.{ℤ, pos, _+ℤ_, +ℤ-assoc, +ℤ-idr}
 use lib.Signed.{mag}
@@ -14,22 +14,21 @@ use Rattle.rules.specs.declared.Refusal.{Refusal}
 use Rattle.rules.specs.Limits.{runLimit, indexLimit}
 use Rattle.lexer.specs.Text.{Token}
 use Rattle.language.specs.Outcome.{Outcome, done, refused}
-use Rattle.language.specs.Reader.{Reader, Read, follow, asRead, lift, give, look}
+use Rattle.language.specs.Reader.{Reader, Read, follow, asRead, look}
 use Rattle.language.specs.Ranges.{upFrom}
-use Rattle.language.specs.Evaluation.{lengthOf}
 use Rattle.language.specs.Store.{Store, Portion, Bound, setAt, elementOf, positionRun}
 use Rattle.language.specs.Store as Store
-use Rattle.language.specs.Data.{boundOf, readNumber, eachRead, runs}
+use Rattle.language.specs.Data.{boundOf, eachRead, runs}
 use Rattle.language.proofs.ValidStore.{setAt-small, elementOf-small}
 use Rattle.tokens.specs.declared.Seen.{Seen}
 use Rattle.tokens.specs.declared.Seen.the-variants as seen
-use Rattle.tokens.specs.Stored.{token, from, size, Sees, Looks}
+use Rattle.tokens.specs.Stored.{from, Sees, Looks}
 use Rattle.tokens.proofs.Moved.{look-is}
 use Rattle.store.specs.declared.Element.{Element}
-use Rattle.store.specs.Element.{listOf, Subscripts}
+use Rattle.store.specs.Element.{listOf}
 use Rattle.store.proofs.Elements as Elements
 use Rattle.steps.specs.declared.values.Limits.{Limits}
-use Rattle.steps.specs.Values.{limitsIn, SmallLimits, NumberIs}
+use Rattle.steps.specs.Values.{NumberIs}
 use Rattle.evaluator.proofs.Turns.{nth-small}
 use Rattle.portions.specs.declared.entries.Entries.{Entries}
 use Rattle.portions.specs.Few.{numbersOf}
@@ -42,7 +41,7 @@ use Rattle.data.specs.declared.running.Run.{Run}
 use Rattle.data.specs.declared.running.Run.the-variants as run
 use Rattle.data.specs.Stores.{Stores}
 use Rattle.data.specs.Running.{Carries, runOutcome, ShortRun, PositionRuns}
-use Rattle.data.specs.Taking.{Aims, TakenIs, Takes}
+use Rattle.data.specs.Taking.{TakenIs, Takes}
 use Rattle.data.specs.Carrying.{left, RunsTo, Counts, EachTo}
 use Rattle.data.proofs.Rows.{element-small}
 use Rattle.data.proofs.Positions.{bound-length, element-length}

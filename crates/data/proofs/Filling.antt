@@ -1,8 +1,8 @@
 -- Laws of the data section over plain variables: its portions, its ends. Assumes nothing.
 use mathlib.Core.Path.{_≡_, refl, sym, _∙_, ap, subst}
 use mathlib.Core.Bool.{Bool, true, false}
-use mathlib.Core.List.{List, [], _∷_}
-use Prim.Native.Nat.{ℕ, zero, suc, _+_, _-_, _<_, _≤_}
+use mathlib.Core.List.{List, []}
+use Prim.Native.Nat.{ℕ, suc, _+_, _-_, _<_, _≤_}
 use native.Mathlib.Omega.{arith}
 use borrow.Author.Tests.{eq-eqb, ne-eqb}
 use lib.Dec.{eqb}
@@ -13,7 +13,7 @@ use Rattle.lexer.specs.Marks.{initWord, closeWord}
 use Rattle.lexer.specs.Text.{Token}
 use Rattle.language.specs.Outcome.{Outcome, done, refused}
 use Rattle.language.specs.Syntax.{Name}
-use Rattle.language.specs.Reader.{Reader, Read, Titled, follow, _>>=_, give, next, look, isMark, isName, isSome, nameOf, require, readString}
+use Rattle.language.specs.Reader.{Reader, Read, follow, _>>=_, give, next, look, isMark, isName, isSome, nameOf, require, readString}
 use Rattle.language.specs.Store.{Store}
 use Rattle.language.specs.Data.{Given, portionOf, portionsOf, readClose, dataOf, readEnd, readData}
 use Rattle.tokens.specs.declared.Seen.{Seen}

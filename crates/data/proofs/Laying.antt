@@ -3,15 +3,15 @@ use mathlib.Core.Path.{_≡_, refl, sym, _∙_, ap, subst}
 use mathlib.Core.List.{List, [], _∷_, _++_}
 use Prim.Native.Nat.{ℕ, zero, suc, _+_, _-_, _*_, _/_, _<_, _≤_}
 use native.Mathlib.Omega.{arith}
-use lib.ListN.{length, take, getD, length-append}
+use lib.ListN.{length, take, getD}
 use Rattle.rules.specs.declared.Refusal.{Refusal}
 use Rattle.rules.specs.Limits.{nestingLimit}
 use Rattle.lexer.specs.Marks.{atMost}
 use Rattle.lexer.specs.Text.{Token}
-use Rattle.language.specs.Outcome.{Outcome, done, refused, done-injective, refused-done}
+use Rattle.language.specs.Outcome.{refused-done}
 use Rattle.language.specs.Syntax.{Name, Formula, Spans, point, span}
-use Rattle.language.specs.Reader.{Read, next, expect}
-use Rattle.language.specs.Formulas.{partOf, inDomain}
+use Rattle.language.specs.Reader.{next}
+use Rattle.language.specs.Formulas.{inDomain}
 use Rattle.tokens.specs.declared.Move.{Move}
 use Rattle.tokens.specs.declared.Move.the-variants as move
 use Rattle.tokens.specs.declared.Seen.{Seen}
@@ -26,11 +26,10 @@ use Rattle.steps.specs.Passing.{Skips}
 use Rattle.steps.specs.Names.{indexNumber}
 use Rattle.steps.proofs.Numbers.{index-of}
 use Rattle.portions.specs.declared.few.Few.{Few}
-use Rattle.portions.specs.Few.{numbersOf, Keeps, Adds}
+use Rattle.portions.specs.Few.{Keeps, Adds}
 use Rattle.data.specs.declared.layouts.Span.{Span}
 use Rattle.data.specs.declared.layouts.Span.the-variants as passed
 use Rattle.data.specs.declared.layouts.Layout.{Layout}
-use Rattle.evaluator.specs.Ground.{Ground}
 use Rattle.data.specs.Layouts.{Laid, LaidBy, Sight, SpanIs, Passes, LaysOut, Lays}
 
 -- ---- one entry

@@ -1,9 +1,9 @@
 -- Laws of a portion from its name on over plain variables. Assumes nothing.
 use mathlib.Core.Path.{_≡_, refl, sym, _∙_, ap, subst}
 use mathlib.Core.Bool.{Bool, true, false, _||_}
-use mathlib.Core.Option.{Option, none, some}
-use mathlib.Core.List.{List, [], _∷_}
-use Prim.Native.Nat.{ℕ, zero, suc, _+_, _<_, _≤_}
+use mathlib.Core.Option.{some}
+use mathlib.Core.List.{List, []}
+use Prim.Native.Nat.{ℕ, zero, suc}
 use native.Mathlib.Omega.{arith}
 use lib.Dec.{eqb}
 use lib.ListN.{length, take, getElem?}
@@ -21,7 +21,6 @@ use Rattle.language.specs.Store.{Store, Portion, portionBy}
 use Rattle.language.specs.Data.{Entry, boundOf, isPoint, marksOf, noRepeats, readOrder, runs, subscriptedPortion, portionOf}
 use Rattle.language.specs.Data as Data
 use Rattle.language.proofs.Taken.{after-read, expect-read, name-read}
-use Rattle.language.specs.Phrases.{Reads}
 use Rattle.tokens.specs.declared.Known.{Known}
 use Rattle.tokens.specs.declared.Known.the-variants as known
 use Rattle.tokens.specs.Stored.{from, size, Shaped, Knowing, Knows}
@@ -35,7 +34,7 @@ use Rattle.portions.specs.declared.few.Few.{Few}
 use Rattle.portions.specs.declared.entries.Entries.{Entries}
 use Rattle.portions.specs.declared.heads.Plan.{Plan}
 use Rattle.portions.specs.declared.heads.Plan.the-variants as plan
-use Rattle.portions.specs.Few.{numbersOf, Keeps}
+use Rattle.portions.specs.Few.{Keeps}
 use Rattle.portions.specs.Entries.{entriesOf}
 use Rattle.portions.specs.Lists.{listIn, Head, orderIn, restIn, headIn, planned, Heads}
 use Rattle.portions.proofs.Joined.{entries-joined, portion-joined}

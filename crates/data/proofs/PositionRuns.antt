@@ -1,20 +1,18 @@
 -- Laws of the run of a position over plain variables. Assumes nothing.
 use mathlib.Core.Path.{_≡_, refl, sym, _∙_, ap, subst}
-use mathlib.Core.Option.{Option, none, some}
 use mathlib.Core.List.{List, [], _∷_}
 use Prim.Native.Nat.{ℕ, zero, suc, _<_, _≤_}
 use native.Mathlib.Omega.{arith}
 use lib.ListN.{length, take, getD}
-use lib.IntN.{ℤ, pos}
+use lib.IntN.{pos}
 use Rattle.rules.specs.declared.Refusal.{Refusal}
-use Rattle.rules.specs.Limits.{nestingLimit, runLimit, mantissaLimit}
-use Rattle.value.specs.declared.Value.{Value}
+use Rattle.rules.specs.Limits.{nestingLimit, mantissaLimit}
 use Rattle.lexer.specs.Text.{Token}
 use Rattle.language.specs.Outcome.{Outcome, done, refused, _>>=_, done-injective, refused-done}
 use Rattle.language.specs.Syntax.{Name, Formula, Spans, point, span}
 use Rattle.language.specs.Reader.{Read, asRead}
-use Rattle.language.specs.Scope.{Scope, bind}
-use Rattle.language.specs.Evaluation.{Limits, limitsOf, lengthOf, runOf, eval}
+use Rattle.language.specs.Scope.{Scope}
+use Rattle.language.specs.Evaluation.{Limits, limitsOf, runOf, eval}
 use Rattle.language.specs.Store.{Store, stored, Portion, Bound, bindIf, positionRun}
 use Rattle.language.specs.Store as Store
 use Rattle.language.specs.Data.{boundOf}
@@ -26,10 +24,10 @@ use Rattle.steps.specs.declared.scope.Scope.{Scope as Held}
 use Rattle.steps.specs.declared.values.Bounds.{Bounds}
 use Rattle.steps.specs.declared.values.Runs.{Runs}
 use Rattle.steps.specs.declared.values.Runs.the-variants as runs
-use Rattle.steps.specs.Scopes.{scopeOf, Small}
+use Rattle.steps.specs.Scopes.{scopeOf}
 use Rattle.steps.specs.Values.{limitsIn, SmallLimits, RunIs}
 use Rattle.steps.specs.Values as Values
-use Rattle.evaluator.specs.Tables.{Given, Tables, World}
+use Rattle.evaluator.specs.Tables.{World}
 use Rattle.evaluator.specs.Cycle.{entryIn, boundsOutcome, SmallEntered, EntryIs}
 use Rattle.evaluator.specs.declared.Entered.{Entered}
 use Rattle.evaluator.specs.declared.Entered.the-variants as entered
@@ -42,7 +40,7 @@ use Rattle.data.specs.declared.running.Run.the-variants as run
 use Rattle.data.specs.Stores.{Stores}
 use Rattle.evaluator.specs.Ground.{Ground, worldOn}
 use Rattle.data.specs.Layouts.{Laid}
-use Rattle.data.specs.Running.{before, Before, Portrays, Carries, runOutcome, ShortRun, RunsFrom, PositionRuns}
+use Rattle.data.specs.Running.{before, Before, Carries, runOutcome, RunsFrom, PositionRuns}
 use Rattle.data.proofs.Rows.{stores-given}
 use Rattle.data.proofs.Laying.{laid-places, laid-numbers}
 use Rattle.data.proofs.Positions.{bound-length}

@@ -7,17 +7,17 @@ use Prim.Native.Nat.{ℕ, zero, suc, _+_, _-_, _<_, _≤_, _^_}
 use native.Mathlib.Omega.{arith}
 use borrow.Author.Tests.{lt-ltb, ltb-true, ltb-false}
 use lib.Dec.{ltb}
-use lib.ListN.{length, getD, drop, length-append, drop-of-length-le, List·getD-eq-default}
+use lib.ListN.{length, getD, drop, length-append, drop-of-length-le}
 use lib.Seq.{drop-cons}
 use lib.IntN.{ℤ, pos}
 use lib.Signed.{mag}
 use mir.Syntax.{w64}
 use mir.Val.{toZ, ofZ}
-use Rattle.rules.specs.Limits.{indexLimit, mantissaLimit}
+use Rattle.rules.specs.Limits.{indexLimit}
 use Rattle.value.specs.declared.Value.{Value}
 use Rattle.value.proofs.Integers.{back}
 use Rattle.language.specs.All.{All}
-use Rattle.language.specs.Scope.{Scope, bind}
+use Rattle.language.specs.Scope.{Scope}
 use Rattle.language.specs.Store.{Bound, bindIf, elementOf}
 use Rattle.language.specs.Data.{Entry, fixed, marked, boundOf}
 use Rattle.store.specs.declared.Element.{Element}

@@ -5,33 +5,30 @@ use mathlib.Core.Option.{Option, none, some}
 use mathlib.Core.List.{List, [], _∷_, map}
 use Prim.Native.Nat.{ℕ, zero, suc, _+_, _<_, _≤_}
 use native.Mathlib.Omega.{arith}
-use borrow.Author.Tests.{ltb-true, lt-ltb, le-ltb}
+use borrow.Author.Tests.{lt-ltb, le-ltb}
 use lib.Dec.{eqb, ltb}
 use lib.ListN.{length, getD}
-use lib.IntN.{ℤ, pos, negsuc, natAbs}
+use lib.IntN.{ℤ, pos, natAbs}
 use Rattle.rules.specs.declared.Refusal.the-variants.{Missing, Full}
-use Rattle.rules.specs.Limits.{dataLimit, mantissaLimit, indexLimit}
+use Rattle.rules.specs.Limits.{dataLimit, mantissaLimit}
 use Rattle.value.specs.declared.Value.{Value}
-use Rattle.value.specs.Decimal.{Valid}
-use Rattle.language.specs.Outcome.{done, refused}
 use Rattle.language.specs.Scope.{sameElement}
 use Rattle.language.specs.Evaluation.{isNone}
-use Rattle.language.specs.Store.{Datum, Store, stored, scopeOf}
-use Rattle.language.specs.Valid.{Small, SmallElement, ValidDatum, ValidStore}
+use Rattle.language.specs.Store.{Store, stored, scopeOf}
+use Rattle.language.specs.Valid.{SmallElement, ValidStore}
 use Rattle.language.proofs.ValidStore.{scope-valid}
 use Rattle.store.specs.declared.Insertion.{Insertion}
 use Rattle.store.specs.declared.Insertion.the-variants.{Done, Present, NoRoom}
-use Rattle.store.specs.Element.{Subscripts}
-use Rattle.store.specs.Key.{keyNumber, keyOf}
-use Rattle.store.specs.Table.{hasRoom, lookup, Says, Inserted}
-use Rattle.store.specs.Packed.{packed, unpacked}
+use Rattle.store.specs.Key.{keyOf}
+use Rattle.store.specs.Table.{hasRoom, Says, Inserted}
+use Rattle.store.specs.Packed.{packed}
 use Rattle.store.specs.Entries.{Keyed, wordOf, Holds}
 use Rattle.store.proofs.Words.{unpacked-packed}
 use Rattle.store.proofs.Rows.{room-rows}
 use Rattle.store.proofs.Held.{holds-none, holds-answer, holds-insert}
 use Rattle.evaluator.specs.Tables.{valueIn, Given}
 use Rattle.data.specs.declared.entering.Accepted.the-variants as accepted
-use Rattle.data.specs.Stores.{rowOf, Stores, StoreIs, entering, Enters}
+use Rattle.data.specs.Stores.{rowOf, Stores, entering, Enters}
 
 -- ---- elements
 

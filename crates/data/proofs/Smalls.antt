@@ -1,9 +1,9 @@
 -- Where the literals of the tokens are values, a portion's fixed entries are small and its numbers are values. Assumes nothing.
 use mathlib.Core.Path.{_≡_, refl, sym, _∙_, ap, subst}
 use mathlib.Core.Bool.{Bool, true, false, cond}
-use mathlib.Core.Option.{Option, none, some}
-use mathlib.Core.List.{List, [], _∷_, _++_}
-use Prim.Native.Nat.{ℕ, zero, suc, _+_}
+use mathlib.Core.Option.{some}
+use mathlib.Core.List.{List, [], _∷_}
+use Prim.Native.Nat.{ℕ, suc, _+_}
 use lib.Dec.{eqb}
 use lib.ListN.{length, drop}
 use lib.Seq.{drop-drop}
@@ -13,7 +13,7 @@ use Rattle.value.specs.declared.Value.{Value}
 use Rattle.value.specs.Decimal.{Valid}
 use Rattle.value.proofs.Integers.{natAbs-neg}
 use Rattle.value.proofs.Operations.{negate-valid}
-use Rattle.lexer.specs.Marks.{plusSign, minusSign, comma, closesList}
+use Rattle.lexer.specs.Marks.{plusSign, minusSign}
 use Rattle.lexer.specs.Text.{Token, Kind}
 use Rattle.lexer.specs.Text
 use Rattle.language.specs.All.{All, all-left, all-right}
@@ -25,7 +25,7 @@ use Rattle.language.specs.Data.{Entry, fixed, marked, digitsOf, withMinus, sign
 use Rattle.language.specs.Phrases.{Reads}
 use Rattle.language.proofs.Taken.{gives, refuses, weaken, then, then-next, then-demand, then-require, then-expect, then-known}
 use Rattle.tokens.specs.Stored.{kindPart, placePart, payloadPart, kindOf, token, view, from, size}
-use Rattle.portions.specs.Readers.{Number, literalIn, numberIn}
+use Rattle.portions.specs.Readers.{literalIn, numberIn}
 use Rattle.data.specs.Running.{SmallIf}
 
 -- ---- tokens whose literals are values

@@ -1,24 +1,17 @@
 -- A declared domain laid out. Assumes nothing.
 use mathlib.Core.Path.{_≡_}
-use mathlib.Core.Bool.{Bool}
-use mathlib.Core.Option.{some}
 use mathlib.Core.List.{List, [], _∷_}
 use Prim.Native.Nat.{ℕ, _<_, _≤_}
-use lib.ListN.{length, take, getD, getElem?}
-use Rattle.rules.specs.Limits.{nameLimit}
-use Rattle.value.specs.declared.Value.{Value}
-use Rattle.value.specs.Decimal.{Valid}
+use lib.ListN.{length, take, getD}
 use Rattle.lexer.specs.Text.{Token}
-use Rattle.lexer.specs.Text
 use Rattle.language.specs.Syntax.{Name, Formula, Spans, point}
 use Rattle.language.specs.Syntax
 use Rattle.tokens.specs.declared.Seen.the-variants as seen
 use Rattle.tokens.specs.Stored.{token, from, size, Sees, Named}
 use Rattle.walk.specs.Walk.{nameNumber}
 use Rattle.walk.specs.Entries.{ReadsEntry, ReadsSpans}
-use Rattle.steps.specs.Names.{Resolved, rowWord, indexNumber}
+use Rattle.steps.specs.Names.{indexNumber}
 use Rattle.evaluator.specs.Ground.{Ground}
-use Rattle.portions.specs.declared.few.Few.{Few}
 use Rattle.portions.specs.Few.{numbersOf}
 use Rattle.data.specs.declared.layouts.Span.{Span}
 use Rattle.data.specs.declared.layouts.Span.the-variants as passed

@@ -1,6 +1,6 @@
 -- The data section and the text's end. Assumes nothing.
 use mathlib.Core.Path.{_≡_}
-use mathlib.Core.Bool.{Bool, true, false}
+use mathlib.Core.Bool.{true, false}
 use mathlib.Core.List.{List, []}
 use Prim.Native.Nat.{ℕ, _+_}
 use Rattle.rules.specs.declared.Refusal.the-variants.{Misplaced}

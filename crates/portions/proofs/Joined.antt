@@ -1,24 +1,20 @@
 -- The definition's readers of a portion by the parts that code reads. Assumes nothing.
 use mathlib.Core.Path.{_≡_, refl, sym, _∙_, ap}
-use mathlib.Core.Bool.{Bool, true, false}
-use mathlib.Core.Option.{Option, none, some}
-use mathlib.Core.List.{List, [], _∷_}
-use Prim.Native.Nat.{ℕ, zero, suc}
+use mathlib.Core.List.{List}
 use lib.IntN.{ℤ}
 use Rattle.rules.specs.declared.Refusal.the-variants.{Missing, BadIndex}
 use Rattle.rules.specs.Limits.{nestingLimit}
-use Rattle.value.specs.declared.Value.{Value}
-use Rattle.lexer.specs.Marks.{comma, opensList, closesList, minusSign}
+use Rattle.lexer.specs.Marks.{comma, opensList, closesList}
 use Rattle.lexer.specs.Text.{Token}
 use Rattle.language.specs.Outcome.{Outcome, done, refused}
 use Rattle.language.specs.Syntax.{Name, Spans, point, span}
-use Rattle.language.specs.Reader.{Reader, Read, follow, give, lift, next, isMark, demand, require, expect, bracket}
+use Rattle.language.specs.Reader.{Reader, Read, follow, lift, next, demand, require, expect, bracket}
 use Rattle.language.specs.Formulas.{isSum}
 use Rattle.language.specs.Store.{Store, Portion, accept}
-use Rattle.language.specs.Data.{Entry, readEntry, entriesOf, marksOf, noRepeats, positionsOf, readOrder, boundOf, valueOf, signedValue, readNumber, runs, subscriptedPortion}
+use Rattle.language.specs.Data.{readEntry, entriesOf, marksOf, noRepeats, readOrder, boundOf, valueOf, readNumber, runs, subscriptedPortion}
 use Rattle.tokens.specs.Stored.{size}
-use Rattle.portions.specs.Readers.{Number, literalIn, numberIn}
-use Rattle.portions.specs.Lists.{itemIn, separatorOf, listIn, Head, orderIn, restIn, headIn}
+use Rattle.portions.specs.Readers.{literalIn, numberIn}
+use Rattle.portions.specs.Lists.{itemIn, separatorOf, listIn, orderIn, restIn, headIn}
 
 -- ---- one reader after the other
 

@@ -14,7 +14,7 @@ use Rattle.lexer.specs.Marks.{comma, opens, opensList, closes, closesList}
 use Rattle.lexer.specs.Text.{Token}
 use Rattle.language.specs.Outcome.{Outcome, done, refused}
 use Rattle.language.specs.Syntax.{Name}
-use Rattle.language.specs.Reader.{Reader, Read, follow, give, next, look, markOf, isMark, require, expect, bracket, Used, readIndex}
+use Rattle.language.specs.Reader.{Reader, Read, follow, give, next, look, isMark, require, expect, bracket, Used, readIndex}
 use Rattle.language.specs.Data.{Entry, fixed, marked, readEntry, marksOf, noRepeats, allIn, rearranges, positionsOf, orderFrom, readOrder}
 use Rattle.tokens.specs.declared.Move.{Move}
 use Rattle.tokens.specs.declared.Move.the-variants as move
@@ -42,7 +42,7 @@ use Rattle.portions.specs.declared.heads.Plan.the-variants as plan
 use Rattle.portions.specs.Few.{numbersOf, Keeps, Adds, Rearranges}
 use Rattle.portions.specs.Entries.{entryOf, entriesOf, Grows}
 use Rattle.portions.specs.Readers.{Answers, Says, leaves, indexed, indexIn, entered}
-use Rattle.portions.specs.Lists.{itemIn, separatorOf, listIn, listed, Lists, OrderItem, behindBy, behindIn, turnIn, turned, OrderIs, Ordered, ordered, bracketedIn, optionalIn, Orders, orderIn, restIn, headIn, planned, Heads}
+use Rattle.portions.specs.Lists.{itemIn, separatorOf, listIn, Lists, OrderItem, behindBy, behindIn, turnIn, turned, OrderIs, Ordered, ordered, bracketedIn, optionalIn, Orders, orderIn, restIn, headIn, planned, Heads}
 use Rattle.portions.proofs.Lists.{length-few}
 use Rattle.portions.proofs.Marks.{entries-few}
 

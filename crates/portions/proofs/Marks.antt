@@ -1,7 +1,7 @@
 -- Laws of a portion's entries over plain variables. Assumes nothing.
 use mathlib.Core.Path.{_≡_, refl, sym, _∙_, ap}
 use mathlib.Core.Bool.{Bool, true, false}
-use mathlib.Core.Option.{Option, none, some}
+use mathlib.Core.Option.{none, some}
 use mathlib.Core.List.{List, [], _∷_, _++_, append-assoc, append-nil}
 use Prim.Native.Nat.{ℕ, zero, suc, _+_, _<_, _≤_}
 use native.Mathlib.Omega.{arith}
@@ -18,7 +18,7 @@ use Rattle.portions.specs.declared.few.Few.{Few}
 use Rattle.portions.specs.declared.entries.Entry.{Entry as Held}
 use Rattle.portions.specs.declared.entries.Entry.the-variants.{Fixed, Marked}
 use Rattle.portions.specs.declared.entries.Entries.{Entries}
-use Rattle.portions.specs.Few.{numbersOf, Keeps, Adds}
+use Rattle.portions.specs.Few.{Keeps, Adds}
 use Rattle.portions.specs.Entries.{entryOf, entriesOf, marksIndex, Grows}
 
 pub none-held : (a b c d : Held) → entriesOf (record { count = 0; a = a; b = b; c = c; d = d }) ≡ []

@@ -1,27 +1,26 @@
 -- Laws of the readers of one token over plain variables: an index, an entry, a number, the data section's ends. Assumes nothing.
 use mathlib.Core.Path.{_≡_, refl, sym, _∙_, ap, subst}
-use mathlib.Core.Bool.{Bool, true, false, cond, _||_, not}
+use mathlib.Core.Bool.{Bool, true, false, _||_}
 use mathlib.Core.Option.{Option, none, some}
 use mathlib.Core.List.{List, [], _∷_}
 use Prim.Native.Nat.{ℕ, zero, suc, _+_, _/_, _%_, _^_, _<_}
 use native.Mathlib.Omega.{arith}
 use borrow.Author.Tests.{eq-eqb, ne-eqb}
 use lib.Dec.{eqb}
-use lib.IntN.{ℤ, pos, negsuc, negℤ, natAbs, _-ℤ_, +ℤ-idl}
+use lib.IntN.{ℤ, pos, negℤ, _-ℤ_, +ℤ-idl}
 use lib.Signed.{mag}
 use mir.Syntax.{w64}
 use mir.Val.{SFits, toZ, ofZ}
 use mir.Facts.{toZ-ofZ, toZ-pos}
 use Rattle.rules.specs.declared.Refusal.{Refusal}
 use Rattle.rules.specs.declared.Refusal.the-variants.{Misplaced, Missing}
-use Rattle.value.specs.declared.Value.{Value}
 use Rattle.value.specs.Decimal.{negate}
 use Rattle.value.proofs.Integers.{sfits, back, natAbs-neg}
 use Rattle.lexer.specs.Text.{Token, sameBytes}
 use Rattle.language.specs.Outcome.{Outcome, done, refused, some-injective, none-some}
 use Rattle.language.specs.Syntax.{Name, Sort}
-use Rattle.language.specs.Reader.{Reader, Read, follow, give, next, markOf, nameOf, stringOf, demand, require, readString, Used, find, found, known, readKnown, isIndex, readIndex}
-use Rattle.language.specs.Data.{Entry, fixed, marked, digitsOf, withMinus, signedEntry, entryBy, readEntry, valueOf, signedValue, readClose, isEnd, readEnd}
+use Rattle.language.specs.Reader.{Reader, Read, follow, give, next, nameOf, stringOf, demand, require, readString, Used, find, found, known, readKnown, isIndex, readIndex}
+use Rattle.language.specs.Data.{fixed, marked, digitsOf, withMinus, signedEntry, entryBy, readEntry, valueOf, signedValue, readClose, isEnd, readEnd}
 use Rattle.tokens.specs.declared.Move.the-variants as move
 use Rattle.tokens.specs.declared.Seen.{Seen}
 use Rattle.tokens.specs.declared.Seen.the-variants as seen

@@ -1,5 +1,4 @@
-use mathlib.Core.Path.{_≡_}
-use lib.ListN.{length}
+-- `entering::enter` meets its contract. Assumes nothing.
 use Rattle.data.proofs.Rows.{enter-present, enter-full, enter-done}
 use borrow.Author.Needs.{needs}
 use Rattle.data.proofs.entering.enter.Statement.{statement}

@@ -1,3 +1,4 @@
+-- `entering::take` meets its contract. Assumes nothing.
 use Rattle.data.proofs.Accepting.{take-wrong, take-refused, take-done}
 use borrow.Author.Needs.{needs}
 use Rattle.data.proofs.entering.take.Statement.{statement}

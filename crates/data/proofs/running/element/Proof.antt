@@ -1,3 +1,4 @@
+-- `running::element` meets its contract. Assumes nothing.
 use Prim.Native.Nat.{_-_}
 use Rattle.portions.specs.Entries.{entriesOf}
 use Rattle.portions.proofs.Marks.{entries-few}

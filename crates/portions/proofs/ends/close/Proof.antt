@@ -1,3 +1,4 @@
+-- `ends::close` meets its contract. Assumes nothing.
 use Rattle.portions.proofs.Steps.{close-wrong, close-sign, close-yes, close-no}
 use borrow.Author.Needs.{needs}
 use Rattle.portions.proofs.ends.close.Statement.{statement}

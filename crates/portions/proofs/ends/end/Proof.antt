@@ -1,3 +1,4 @@
+-- `ends::end` meets its contract. Assumes nothing.
 use Rattle.portions.proofs.Steps.{end-wrong, end-yes, end-no}
 use borrow.Author.Needs.{needs}
 use Rattle.portions.proofs.ends.end.Statement.{statement}

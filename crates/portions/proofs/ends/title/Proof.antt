@@ -1,3 +1,4 @@
+-- `ends::title` meets its contract. Assumes nothing.
 use Rattle.portions.proofs.Steps.{title-wrong, title-yes, title-no}
 use borrow.Author.Needs.{needs}
 use Rattle.portions.proofs.ends.title.Statement.{statement}

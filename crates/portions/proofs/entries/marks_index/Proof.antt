@@ -1,4 +1,5 @@
-use Rattle.portions.proofs.Marks.{marks-other, marks-same}
+-- `entries::marks_index` meets its contract. Assumes nothing.
+use Rattle.portions.proofs.Marks.{marks-same}
 use borrow.Author.Needs.{needs}
 use Rattle.portions.proofs.entries.marks_index.Statement.{statement}
 use Rattle.portions.proofs.entries.marks_index.Tie as tie

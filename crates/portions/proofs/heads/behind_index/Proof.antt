@@ -1,3 +1,4 @@
+-- `heads::behind_index` meets its contract. Assumes nothing.
 use Rattle.portions.proofs.Listings.{behind-wrong, behind-more-item, behind-last-item, behind-no}
 use borrow.Author.Needs.{needs}
 use Rattle.portions.proofs.heads.behind_index.Statement.{statement}

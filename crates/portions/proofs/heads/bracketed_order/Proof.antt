@@ -1,3 +1,4 @@
+-- `heads::bracketed_order` meets its contract. Assumes nothing.
 use Rattle.portions.proofs.Listings.{bracketed-wrong, bracketed-yes, bracketed-no}
 use borrow.Author.Needs.{needs}
 use Rattle.portions.proofs.heads.bracketed_order.Statement.{statement}

@@ -1,3 +1,4 @@
+-- `heads::entries_head` meets its contract. Assumes nothing.
 use Rattle.portions.proofs.Listings.{rest-wrong, rest-on}
 use borrow.Author.Needs.{needs}
 use Rattle.portions.proofs.heads.entries_head.Statement.{statement}

@@ -1,3 +1,4 @@
+-- `heads::entry` meets its contract. Assumes nothing.
 use Rattle.portions.proofs.Steps.{entry-wrong, entry-mark, entry-whole, entry-plus, entry-minus, entry-other}
 use borrow.Author.Needs.{needs}
 use Rattle.portions.proofs.heads.entry.Statement.{statement}

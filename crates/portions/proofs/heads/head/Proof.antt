@@ -1,3 +1,4 @@
+-- `heads::head` meets its contract. Assumes nothing.
 use Rattle.portions.proofs.Listings.{head-wrong, head-on}
 use borrow.Author.Needs.{needs}
 use Rattle.portions.proofs.heads.head.Statement.{statement}

@@ -1,3 +1,4 @@
+-- `heads::index` meets its contract. Assumes nothing.
 use Rattle.portions.proofs.Steps.{index-wrong, index-yes, index-other}
 use borrow.Author.Needs.{needs}
 use Rattle.portions.proofs.heads.index.Statement.{statement}

@@ -1,3 +1,4 @@
+-- `heads::item` meets its contract. Assumes nothing.
 use Rattle.portions.proofs.Listings.{item-wrong, item-yes, item-no}
 use borrow.Author.Needs.{needs}
 use Rattle.portions.proofs.heads.item.Statement.{statement}

@@ -1,3 +1,4 @@
+-- `heads::list` meets its contract. Assumes nothing.
 use Rattle.portions.proofs.Listings.{Listing, listing-start, listing-wrong, listing-on, listing-end}
 use borrow.Author.Needs.{needs}
 use Rattle.portions.proofs.heads.list.Statement.{statement}

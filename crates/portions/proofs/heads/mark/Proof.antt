@@ -1,3 +1,4 @@
+-- `heads::mark` meets its contract. Assumes nothing.
 use Rattle.portions.proofs.Steps.{mark-wrong, mark-yes}
 use borrow.Author.Needs.{needs}
 use Rattle.portions.proofs.heads.mark.Statement.{statement}

@@ -1,3 +1,4 @@
+-- `heads::optional_order` meets its contract. Assumes nothing.
 use Rattle.portions.proofs.Listings.{optional-wrong, optional-some, optional-none}
 use borrow.Author.Needs.{needs}
 use Rattle.portions.proofs.heads.optional_order.Statement.{statement}

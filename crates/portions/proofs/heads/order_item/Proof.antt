@@ -1,3 +1,4 @@
+-- `heads::order_item` meets its contract. Assumes nothing.
 use Rattle.portions.proofs.Listings.{turn-wrong, turn-on}
 use borrow.Author.Needs.{needs}
 use Rattle.portions.proofs.heads.order_item.Statement.{statement}

@@ -1,3 +1,4 @@
+-- `heads::order_list` meets its contract. Assumes nothing.
 use Rattle.portions.proofs.Listings.{OrderOn, order-start, order-more, order-last, order-wrong, order-out}
 use borrow.Author.Needs.{needs}
 use Rattle.portions.proofs.heads.order_list.Statement.{statement}

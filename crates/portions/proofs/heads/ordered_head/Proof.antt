@@ -1,3 +1,4 @@
+-- `heads::ordered_head` meets its contract. Assumes nothing.
 use Rattle.portions.proofs.Listings.{head-repeats, head-order, head-runs}
 use borrow.Author.Tests.{not-true, not-false}
 use borrow.Author.Needs.{needs}

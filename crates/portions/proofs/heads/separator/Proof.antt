@@ -1,3 +1,4 @@
+-- `heads::separator` meets its contract. Assumes nothing.
 use Rattle.portions.proofs.Listings.{separator-last, separator-more}
 use Rattle.portions.proofs.heads.separator.Statement.{statement}
 use Rattle.portions.proofs.heads.separator.Tie as tie

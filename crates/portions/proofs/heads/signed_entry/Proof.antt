@@ -1,3 +1,4 @@
+-- `heads::signed_entry` meets its contract. Assumes nothing.
 use Rattle.portions.proofs.Steps.{fixed-wrong, fixed-yes, fixed-no}
 use borrow.Author.Needs.{needs}
 use Rattle.portions.proofs.heads.signed_entry.Statement.{statement}

@@ -1,3 +1,4 @@
+-- `numbers::literal` meets its contract. Assumes nothing.
 use Rattle.portions.proofs.Steps.{literal-wrong, literal-yes, literal-no}
 use borrow.Author.Needs.{needs}
 use Rattle.portions.proofs.numbers.literal.Statement.{statement}

@@ -1,3 +1,4 @@
+-- `numbers::number` meets its contract. Assumes nothing.
 use Rattle.portions.proofs.Steps.{number-wrong, number-yes, number-no}
 use borrow.Author.Needs.{needs}
 use Rattle.portions.proofs.numbers.number.Statement.{statement}

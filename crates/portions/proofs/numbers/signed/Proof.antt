@@ -1,3 +1,4 @@
+-- `numbers::signed` meets its contract. Assumes nothing.
 use Rattle.portions.proofs.Steps.{opposite-fits, signed-minus, signed-plus}
 use borrow.Author.Needs.{needs}
 use Rattle.portions.proofs.numbers.signed.Statement.{statement}

@@ -1,3 +1,4 @@
+-- `entries::Entries::at` meets its contract. Assumes nothing.
 use Rattle.portions.proofs.Marks.{entry-past, entry-first, entry-second, entry-third, entry-fourth, entry-beyond}
 use native.Mathlib.Omega.{arith}
 use Rattle.portions.proofs.entries.Entries.at.Statement.{statement}

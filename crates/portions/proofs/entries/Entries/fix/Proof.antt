@@ -1,3 +1,4 @@
+-- `entries::Entries::fix` meets its contract. Assumes nothing.
 use Rattle.portions.proofs.Marks.{fix-bound}
 use borrow.Author.Needs.{needs}
 use Rattle.portions.proofs.entries.Entries.fix.Statement.{statement}

@@ -1,3 +1,4 @@
+-- `entries::Entries::length` meets its contract. Assumes nothing.
 use Rattle.portions.proofs.Marks.{entries-count, entries-four}
 use Rattle.portions.proofs.entries.Entries.length.Statement.{statement}
 use Rattle.portions.proofs.entries.Entries.length.Tie as tie

@@ -1,3 +1,4 @@
+-- `entries::Entries::marks` meets its contract. Assumes nothing.
 use Prim.Native.Nat.{_-_}
 use Rattle.portions.specs.Entries.{entriesOf}
 use Rattle.portions.proofs.Marks.{Marking, marking-start, marking-fixed, marking-marked, marking-end}

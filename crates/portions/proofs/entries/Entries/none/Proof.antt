@@ -1,3 +1,4 @@
+-- `entries::Entries::none` meets its contract. Assumes nothing.
 use Rattle.portions.proofs.Marks.{none-held}
 use Rattle.portions.proofs.entries.Entries.none.Statement.{statement}
 use Rattle.portions.proofs.entries.Entries.none.Tie as tie

@@ -1,3 +1,4 @@
+-- `entries::Entries::position` meets its contract. Assumes nothing.
 use Prim.Native.Nat.{_-_}
 use Rattle.portions.specs.Entries.{entriesOf}
 use Rattle.portions.proofs.Marks.{Placing, placing-start, placing-found, placing-on, placing-end}

@@ -1,3 +1,4 @@
+-- `entries::Entries::positions` meets its contract. Assumes nothing.
 use Prim.Native.Nat.{_-_}
 use Rattle.portions.specs.Few.{numbersOf}
 use Rattle.portions.specs.Entries.{entriesOf}

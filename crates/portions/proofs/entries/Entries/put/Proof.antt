@@ -1,3 +1,4 @@
+-- `entries::Entries::put` meets its contract. Assumes nothing.
 use Rattle.portions.proofs.Marks.{put-first, put-second, put-third, put-fourth, put-none}
 use native.Mathlib.Omega.{arith}
 use Rattle.portions.proofs.entries.Entries.put.Statement.{statement}

@@ -1,3 +1,4 @@
+-- `entries::Entries::with` meets its contract. Assumes nothing.
 use Rattle.portions.proofs.Marks.{grows-none, grows-put}
 use borrow.Author.Needs.{needs}
 use Rattle.portions.proofs.entries.Entries.with.Statement.{statement}

@@ -1,3 +1,4 @@
+-- `few::Few::all_in` meets its contract. Assumes nothing.
 use Prim.Native.Nat.{_-_}
 use Rattle.portions.specs.Few.{numbersOf}
 use Rattle.portions.proofs.Lists.{Among, among-start, among-not, among-on, among-end}

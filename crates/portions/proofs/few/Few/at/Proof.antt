@@ -1,3 +1,4 @@
+-- `few::Few::at` meets its contract. Assumes nothing.
 use Rattle.portions.proofs.Lists.{at-past, at-first, at-second, at-third, at-fourth, at-beyond}
 use native.Mathlib.Omega.{arith}
 use Rattle.portions.proofs.few.Few.at.Statement.{statement}

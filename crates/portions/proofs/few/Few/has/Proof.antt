@@ -1,4 +1,5 @@
-use Prim.Native.Nat.{_-_, _≤_}
+-- `few::Few::has` meets its contract. Assumes nothing.
+use Prim.Native.Nat.{_-_}
 use Rattle.portions.specs.Few.{numbersOf}
 use Rattle.portions.proofs.Lists.{Seeks, seeks-start, seeks-found, seeks-on, seeks-none}
 use borrow.Author.Needs.{needs}

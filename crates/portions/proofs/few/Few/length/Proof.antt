@@ -1,3 +1,4 @@
+-- `few::Few::length` meets its contract. Assumes nothing.
 use Rattle.portions.proofs.Lists.{length-count, length-four}
 use Rattle.portions.proofs.few.Few.length.Statement.{statement}
 use Rattle.portions.proofs.few.Few.length.Tie as tie

@@ -1,3 +1,4 @@
+-- `few::Few::no_repeats` meets its contract. Assumes nothing.
 use Prim.Native.Nat.{_-_}
 use Rattle.portions.specs.Few.{numbersOf}
 use Rattle.portions.proofs.Lists.{Single, single-start, single-not, single-on, single-end}

@@ -1,3 +1,4 @@
+-- `few::Few::none` meets its contract. Assumes nothing.
 use Rattle.portions.proofs.Lists.{keeps-none}
 use Rattle.portions.proofs.few.Few.none.Statement.{statement}
 use Rattle.portions.proofs.few.Few.none.Tie as tie

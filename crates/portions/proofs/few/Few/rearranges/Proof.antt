@@ -1,3 +1,4 @@
+-- `few::Few::rearranges` meets its contract. Assumes nothing.
 use Rattle.portions.proofs.Lists.{rearranges-count, rearranges-not, rearranges-last}
 use borrow.Author.Tests.{not-true, not-false}
 use borrow.Author.Needs.{needs}

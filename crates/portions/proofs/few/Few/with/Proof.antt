@@ -1,3 +1,4 @@
+-- `few::Few::with` meets its contract. Assumes nothing.
 use Rattle.portions.proofs.Lists.{with-first, with-second, with-third, with-fourth, with-more}
 use native.Mathlib.Omega.{arith}
 use Rattle.portions.proofs.few.Few.with.Statement.{statement}
