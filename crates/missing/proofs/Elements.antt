@@ -1,5 +1,5 @@
 -- Laws for one name: a value at an element, and the loop over the elements of a declared domain. Assumes nothing.
-use mathlib.Core.Path.{_≡_, refl, sym, _∙_, ap}
+use mathlib.Core.Path.{_≡_, refl, sym, _∙_, ap, subst}
 use mathlib.Core.Bool.{Bool, true, false, not}
 use mathlib.Core.Option.{Option, none, some}
 use mathlib.Core.List.{List, map}
@@ -32,7 +32,7 @@ use Rattle.elements.specs.declared.here.Here.{Here}
 use Rattle.elements.specs.declared.Step.{Step}
 use Rattle.elements.specs.declared.Step.the-variants.{At, Done, Refused}
 use Rattle.elements.specs.Held.{held, numberOf, scopeAt}
-use Rattle.elements.specs.Steps.{FirstIs, NextIs}
+use Rattle.elements.specs.Steps.{turnsLeft, FirstIs, NextIs}
 use Rattle.elements.specs.Loops.{Remains}
 use Rattle.elements.proofs.Numbers.{not-true, not-false}
 use Rattle.elements.proofs.Held.{scope-held}
@@ -72,23 +72,35 @@ module _ (ns ts ds : List ℕ) (given i : ℕ) where
   pub asking-first : (count at : ℕ) (x : Step) → count ≡ rowWord ns i 3 → at ≡ rowWord ns i 4 → FirstIs ns ts ds given i count at x → Asking ns ts ds given i x
   asking-first count at x p q f = record { left = λ w d D. loop-start w i _ _ _ d (D .domain) (D .count) x (rw (p, q) at f) tt }
 
-  pub asked-all : Asking ns ts ds given i Done → DomainGiven ns ts ds given i passed.Inside
-  asked-all a = record { is = λ w d D. loop-done w i _ _ _ tt _ (a .left w d D) }
+  module _ (x : Step) (a : Asking ns ts ds given i x) where
+    pub asked-all : x ≡ Done → DomainGiven ns ts ds given i passed.Inside
+    asked-all y = let b = subst (Asking ns ts ds given i) y a in record { is = λ w d D. loop-done w i _ _ _ tt _ (b .left w d D) }
 
-  pub asked-stopped : (c : Refusal) (q : ℕ) → Asking ns ts ds given i (Refused c q) → DomainGiven ns ts ds given i (passed.Refused c q)
-  asked-stopped c q a = record { is = λ w d D. loop-stopped w i _ _ _ c q tt _ (a .left w d D) }
+    pub asked-stopped : (c : Refusal) (q : ℕ) → x ≡ Refused c q → DomainGiven ns ts ds given i (passed.Refused c q)
+    asked-stopped c q y = let b = subst (Asking ns ts ds given i) y a in record { is = λ w d D. loop-stopped w i _ _ _ c q tt _ (b .left w d D) }
 
-  module _ (h : Here) (a : Asking ns ts ds given i (At h)) (e : Element) (q : listOf e ≡ map numberOf (held h)) (b : Bool) (g : IsGiven ds given i (listOf e) b) where
-    step-at : (w : World ns ts ds given) (d : Spans) → Declares w i d → isGiven i (rowWord ns i 0) (under w (scopeAt h)) (listOf e) tt ≡ check Missing (rowWord ns i 0) b
-    step-at w d D = given-step w i (D .named) (rowWord ns i 0) (scopeAt h) (listOf e) b (loop-subscripts w i _ _ _ h tt _ (a .left w d D) (scopeAt h) (scope-held h) e q) g
+    -- at an element
+    module _ (h : Here) (y : x ≡ At h) (e : Element) (q : listOf e ≡ map numberOf (held h)) (b : Bool) (g : IsGiven ds given i (listOf e) b) where
+      asking : Asking ns ts ds given i (At h)
+      asking = subst (Asking ns ts ds given i) y a
 
-    pub asking-next : (x : Step) → not b ≡ false → NextIs ns ts ds given i h x → Asking ns ts ds given i x
-    asking-next x n f = record {
-      left = λ w d D. loop-more w i _ _ _ h tt _ (a .left w d D) (scopeAt h) (scope-held h) e q tt x (step-at w d D ∙ ap (check Missing (rowWord ns i 0)) (not-false b n)) f;
-    }
+      step-at : (w : World ns ts ds given) (d : Spans) → Declares w i d → isGiven i (rowWord ns i 0) (under w (scopeAt h)) (listOf e) tt ≡ check Missing (rowWord ns i 0) b
+      step-at w d D =
+          given-step w i (D .named) (rowWord ns i 0) (scopeAt h) (listOf e) b (loop-subscripts w i _ _ _ h tt _ (asking .left w d D) (scopeAt h) (scope-held h) e q) g
 
-    pub asked-missing : (p : ℕ) → p ≡ rowWord ns i 0 → not b ≡ true → DomainGiven ns ts ds given i (passed.Refused Missing p)
-    asked-missing p o n = record {
-      is = λ w d D.
-          loop-refused w i _ _ _ h tt _ (a .left w d D) (scopeAt h) (scope-held h) e q Missing p (step-at w d D ∙ ap (check Missing (rowWord ns i 0)) (not-true b n) ∙ ap (refused Missing) (sym o));
-    }
+      pub asking-next : not b ≡ false → (z : Step) → NextIs ns ts ds given i h z → Asking ns ts ds given i z
+      asking-next n z f = record {
+        left = λ w d D.
+            loop-more w i _ _ _ h tt _ (asking .left w d D) (scopeAt h) (scope-held h) e q tt z (step-at w d D ∙ ap (check Missing (rowWord ns i 0)) (not-false b n)) f;
+      }
+
+      pub asked-missing : not b ≡ true → (p : ℕ) → p ≡ rowWord ns i 0 → DomainGiven ns ts ds given i (passed.Refused Missing p)
+      asked-missing n p o = record {
+        is = λ w d D.
+            loop-refused w i _ _ _ h tt _ (asking .left w d D) (scopeAt h) (scope-held h) e q Missing p
+            (step-at w d D ∙ ap (check Missing (rowWord ns i 0)) (not-true b n) ∙ ap (refused Missing) (sym o));
+      }
+
+-- each next element is nearer to the end
+pub turns-fall : {ns ts ds : List ℕ} {given level : ℕ} (x z : Step) (h : Here) → x ≡ At h → NextIs ns ts ds given level h z → turnsLeft z < turnsLeft x
+turns-fall x z h y f = rw y (f .falls)

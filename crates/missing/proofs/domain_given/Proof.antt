@@ -1,87 +1,67 @@
+-- `missing::domain_given` meets its contract: the elements from the step on are still to be asked. Assumes nothing.
+use borrow.Author.Needs.{needs}
+use Rattle.elements.specs.Steps.{turnsLeft}
+use Rattle.missing.specs.Given.{Asking}
+use Rattle.missing.proofs.Elements.{asking-first, asking-next, asked-all, asked-stopped, asked-missing, turns-fall}
 use Rattle.missing.proofs.domain_given.Statement.{statement}
 use Rattle.missing.proofs.domain_given.Tie as tie
-use Rattle.missing.proofs.domain_given.Reads as reads
-use Rattle.missing.proofs.domain_given.Lts as lts
-use Rattle.elements.proofs.first.Reads as first-reads
-use Rattle.elements.proofs.here.Here.element.Reads as element-reads
-use Rattle.elements.proofs.next.Reads as next-reads
-use Rattle.missing.proofs.is_given.Reads as is-given-reads
-use Rattle.steps.proofs.names.word_of.Reads as word-of-reads
-use Rattle.steps.proofs.scope.Scope.none.Reads as none-reads
 
 abbrev Inv-loop : tie.InvT-loop
-Inv-loop names tokens table given i place count at cx step₀ step = ?
+Inv-loop names tokens table given i place count at cx step₀ step = Asking names tokens table given i step
 
 abbrev μ-loop : tie.MeasureT-loop
-μ-loop names tokens table given i place count at cx step₀ step = ?
+μ-loop names tokens table given i place count at cx step₀ step = turnsLeft step
 
--- src/lib.rt:28:9
 word-of-requires : tie.Need-word-of-requires Inv-loop μ-loop
-word-of-requires c κs = ?
+word-of-requires c κs = search needs
 
--- src/lib.rt:29:17
 word-of-requires-2 : tie.Need-word-of-requires-2 Inv-loop μ-loop
-word-of-requires-2 c κs = ?
+word-of-requires-2 c κs = search needs
 
--- src/lib.rt:30:14
 word-of-requires-3 : tie.Need-word-of-requires-3 Inv-loop μ-loop
-word-of-requires-3 c κs = ?
+word-of-requires-3 c κs = search needs
 
--- src/lib.rt:31:9
 none-requires : tie.Need-none-requires Inv-loop μ-loop
-none-requires c κs = ?
+none-requires c κs = search needs
 
--- src/lib.rt:38:9
 first-requires : tie.Need-first-requires Inv-loop μ-loop
-first-requires c κs = ?
+first-requires c κs = search needs
 
--- src/lib.rt:39:5
 loop-holds : tie.Need-loop-holds Inv-loop μ-loop
-loop-holds c = ?
+loop-holds c = asking-first _ _ _ _ _ _ _ _ (c .before .before .before .word-of2 .ensures) (c .before .before .word-of3 .ensures) (c .first .ensures)
 
--- src/lib.rt:41:22
 enum-known-step : tie.Need-enum-known-step Inv-loop μ-loop
-enum-known-step c = ?
+enum-known-step c = search needs
 
--- src/lib.rt:42:47
 element-requires : tie.Need-element-requires Inv-loop μ-loop
-element-requires c κs = ?
+element-requires c κs = search needs
 
--- src/lib.rt:42:21
 is-given-requires : tie.Need-is-given-requires Inv-loop μ-loop
-is-given-requires c κs = ?
+is-given-requires c κs = search needs
 
--- src/lib.rt:43:21
 returns : tie.Need-returns Inv-loop μ-loop
-returns c = ?
+returns c = asked-missing _ _ _ _ _ _ (c .before .before .before .before .before .before .loop .inv) _ (c .before .before .before .before .step .given .1) _ (c .before .before .element .ensures) _ (c .before .is-given .ensures) (c .if1 .taken) _ (c .before .before .before .before .before .before .before .before .before .before .before .word-of .ensures)
 
--- src/lib.rt:45:17
 next-requires : tie.Need-next-requires Inv-loop μ-loop
-next-requires c κs = ?
+next-requires c κs = search needs
 
--- src/lib.rt:39:5
 loop-less : tie.Need-loop-less Inv-loop μ-loop
-loop-less c = ?
+loop-less c = turns-fall _ _ _ (c .before .before .before .before .before .step .given .1) (c .next .ensures)
 
--- src/lib.rt:39:5
 loop-again : tie.Need-loop-again Inv-loop μ-loop
-loop-again c = ?
+loop-again c = asking-next _ _ _ _ _ _ (c .before .before .before .before .before .before .before .loop .inv) _ (c .before .before .before .before .before .step .given .1) _ (c .before .before .before .element .ensures) _ (c .before .before .is-given .ensures) (c .before .if1 .left) _ (c .next .ensures)
 
--- src/lib.rt:48:17
 enum-told : tie.Need-enum-told Inv-loop μ-loop
-enum-told c = ?
+enum-told c = search needs
 
--- src/lib.rt:48:17
 returns-2 : tie.Need-returns-2 Inv-loop μ-loop
-returns-2 c = ?
+returns-2 c = asked-all _ _ _ _ _ _ (c .before .before .loop .inv) (c .enum-told .given .1)
 
--- src/lib.rt:50:27
 enum-known-step-2 : tie.Need-enum-known-step-2 Inv-loop μ-loop
-enum-known-step-2 c = ?
+enum-known-step-2 c = search needs
 
--- src/lib.rt:51:17
 returns-3 : tie.Need-returns-3 Inv-loop μ-loop
-returns-3 c = ?
+returns-3 c = asked-stopped _ _ _ _ _ _ (c .before .before .before .loop .inv) _ _ (c .before .step2 .given .1)
 
 pub domain-given-spec : {M : Type 1} → statement M
 domain-given-spec =
