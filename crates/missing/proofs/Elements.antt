@@ -12,7 +12,7 @@ use Rattle.rules.specs.declared.Refusal.the-variants.{Missing}
 use Rattle.rules.specs.Limits.{nameLimit}
 use Rattle.language.specs.Outcome.{refused, check}
 use Rattle.language.specs.Syntax.{Spans}
-use Rattle.language.specs.Evaluation.{over, isNone}
+use Rattle.language.specs.Evaluation.{isNone}
 use Rattle.language.specs.Store.{isGiven}
 use Rattle.store.specs.declared.Key.{Key}
 use Rattle.store.specs.declared.Element.{Element}
@@ -27,13 +27,12 @@ use Rattle.steps.specs.Scopes.{scopeOf}
 use Rattle.steps.specs.Names.{rowWord}
 use Rattle.evaluator.specs.declared.Passed.the-variants as passed
 use Rattle.evaluator.specs.Tables.{valueIn, World}
-use Rattle.evaluator.specs.Cycle.{under, nothingBound}
+use Rattle.evaluator.specs.Cycle.{under}
 use Rattle.elements.specs.declared.here.Here.{Here}
 use Rattle.elements.specs.declared.Step.{Step}
 use Rattle.elements.specs.declared.Step.the-variants.{At, Done, Refused}
 use Rattle.elements.specs.Held.{held, numberOf, scopeAt}
 use Rattle.elements.specs.Steps.{turnsLeft, FirstIs, NextIs}
-use Rattle.elements.specs.Loops.{Remains}
 use Rattle.elements.proofs.Numbers.{not-true, not-false}
 use Rattle.elements.proofs.Held.{scope-held}
 use Rattle.elements.proofs.Loops.{loop-start, loop-more, loop-refused, loop-done, loop-stopped, loop-subscripts}

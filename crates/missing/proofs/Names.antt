@@ -22,7 +22,7 @@ use Rattle.evaluator.specs.declared.Passed.the-variants as passed
 use Rattle.evaluator.specs.Tables.{Stands, World}
 use Rattle.evaluator.specs.Cycle.{passedOutcome, seenBy, nothingBound}
 use Rattle.elements.specs.Placed.{Placed}
-use Rattle.missing.specs.Given.{Declares, DomainGiven, NameGiven, AllGiven, GivenTo}
+use Rattle.missing.specs.Given.{DomainGiven, NameGiven, AllGiven, GivenTo}
 
 -- ---- names and their rows
 

@@ -26,14 +26,14 @@ pub record IsGiven (ds : List ℕ) (n i : ℕ) (l : List ℤ) (r : Bool) : Type 
 
 -- ---- the elements of one name
 
--- what name i asks at each element of the domain d that its row tells of
+-- the row of name i tells of the domain d
 module _ {ns ts ds : List ℕ} {given : ℕ} (w : World ns ts ds given) (i : ℕ) where
   pub record Declares (d : Spans) : Type 0 where
     pub named : i < length (w .names)
     pub domain : DomainAt (w .text) ts (seenBy w i) d (rowWord ns i 4)
     pub count : size d ≡ rowWord ns i 3
 
--- a value at each element
+-- a value of name i at each element of its domain
 pub record DomainGiven (ns ts ds : List ℕ) (given i : ℕ) (r : Passed) : Type 0 where
   pub is : (w : World ns ts ds given) (d : Spans) → Declares w i d → over d (nothingBound w) (isGiven i (rowWord ns i 0)) tt ≡ passedOutcome r
 
@@ -44,10 +44,11 @@ pub record Asking (ns ts ds : List ℕ) (given i : ℕ) (x : Step) : Type 0 wher
 
 -- ---- all names
 
--- the declared name of number i
+-- the data of name i, if its sort has any
 pub record NameGiven (ns ts ds : List ℕ) (given i : ℕ) (r : Passed) : Type 0 where
   pub is : (w : World ns ts ds given) → Placed ns (w .names) → (x : Name) → getElem? (w .names) i ≡ some x → givenBy i (x .place) (x .sort) (nothingBound w) ≡ passedOutcome r
 
+-- the data of all names
 pub record AllGiven (ns ts ds : List ℕ) (given : ℕ) (r : Passed) : Type 0 where
   pub is : (w : World ns ts ds given) → Placed ns (w .names) → allGiven 0 (w .names) (nothingBound w) ≡ passedOutcome r
 
