@@ -14,6 +14,7 @@ use mir.Val.{toZ, ofZ}
 use Rattle.rules.specs.Limits.{indexLimit}
 use Rattle.value.proofs.Integers.{back}
 use Rattle.store.specs.Element.{listOf}
+use Rattle.steps.specs.declared.scope.Scope.{Scope}
 use Rattle.steps.specs.Scopes.{boundIf, bindingsOf}
 use Rattle.elements.specs.declared.here.Level.{Level}
 use Rattle.elements.specs.declared.here.Here.{Here}
@@ -111,6 +112,23 @@ module _ (h : Here) where
 
   -- ---- numbers and bindings
 
+  -- the scope of an element, for a step that does not ask for it
+  abbrev pub scope-here : Scope
+  scope-here = record { count = h .count; first = h .first .name; second = h .second .name; third = h .third .name; fourth = h .fourth .name; a = h .first .number; b = h .second .number; c = h .third .number; d = h .fourth .number }
+
+  pub scope-same : bindingsOf scope-here ≡ bound (held h) []
+  unfolding bindingsOf held bound
+  scope-same = go (h .count)
+    where
+      go : (n : ℕ) → boundIf (ltb 3 n) (h .fourth .name) (h .fourth .number) (boundIf (ltb 2 n) (h .third .name) (h .third .number) (boundIf (ltb 1 n) (h .second .name) (h .second .number) (boundIf (ltb 0 n) (h .first .name) (h .first .number) []))) ≡ bound (take n (h .first ∷ h .second ∷ h .third ∷ h .fourth ∷ [])) []
+      go zero = refl
+      go (suc zero) = refl
+      go (suc (suc zero)) = refl
+      go (suc (suc (suc zero))) = refl
+      go (suc (suc (suc (suc n)))) =
+          let m = suc (suc (suc (suc n))) in
+          rw (lt-ltb 3 m (omega arith), lt-ltb 2 m (omega arith), lt-ltb 1 m (omega arith), lt-ltb 0 m (omega arith), take-nil n)
+
   module _ (a : mag (h .first .number) < 2 ^ 63) (b : mag (h .second .number) < 2 ^ 63) (c : mag (h .third .number) < 2 ^ 63) (d : mag (h .fourth .number) < 2 ^ 63) where
     pub element-is : listOf (record { count = h .count; a = toZ w64 (ofZ w64 (h .first .number)); b = toZ w64 (ofZ w64 (h .second .number)); c = toZ w64 (ofZ w64 (h .third .number)); d = toZ w64 (ofZ w64 (h .fourth .number)) })
         ≡ map numberOf (held h)
@@ -119,14 +137,4 @@ module _ (h : Here) where
 
     pub scope-is : bindingsOf (record { count = h .count; first = h .first .name; second = h .second .name; third = h .third .name; fourth = h .fourth .name; a = toZ w64 (ofZ w64 (h .first .number)); b = toZ w64 (ofZ w64 (h .second .number)); c = toZ w64 (ofZ w64 (h .third .number)); d = toZ w64 (ofZ w64 (h .fourth .number)) })
         ≡ bound (held h) []
-    unfolding bindingsOf held bound
-    scope-is = rw (back {z = h .first .number} a, back {z = h .second .number} b, back {z = h .third .number} c, back {z = h .fourth .number} d) (go (h .count))
-      where
-        go : (n : ℕ) → boundIf (ltb 3 n) (h .fourth .name) (h .fourth .number) (boundIf (ltb 2 n) (h .third .name) (h .third .number) (boundIf (ltb 1 n) (h .second .name) (h .second .number) (boundIf (ltb 0 n) (h .first .name) (h .first .number) []))) ≡ bound (take n (h .first ∷ h .second ∷ h .third ∷ h .fourth ∷ [])) []
-        go zero = refl
-        go (suc zero) = refl
-        go (suc (suc zero)) = refl
-        go (suc (suc (suc zero))) = refl
-        go (suc (suc (suc (suc n)))) =
-            let m = suc (suc (suc (suc n))) in
-            rw (lt-ltb 3 m (omega arith), lt-ltb 2 m (omega arith), lt-ltb 1 m (omega arith), lt-ltb 0 m (omega arith), take-nil n)
+    scope-is = rw (back {z = h .first .number} a, back {z = h .second .number} b, back {z = h .third .number} c, back {z = h .fourth .number} d) scope-same

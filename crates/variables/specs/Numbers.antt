@@ -58,6 +58,7 @@ abbrev pub declaredAt : List ℕ → ℕ → Spans → Declaration
 declaredAt ns i d = record { name = i; domain = d; place = rowWord ns i 0 }
 
 pub record AddsName (ns ts ds : List ℕ) (given i from : ℕ) (t : List ℕ) (r : Added) (t′ : List ℕ) : Type 0 where
+  pub size : length t′ ≡ length t
   pub is : (w : World ns ts ds given) (d : Spans) (vs : List Variable) → Ranges w i d → Held t from vs → All (Below i) vs
       → Answers (over d (nothingBound w) (addVariable (declaredAt ns i d)) vs) (λ k. i < k) vs r t′
 

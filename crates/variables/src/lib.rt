@@ -40,14 +40,14 @@ fn word(names: &[u64], i: usize, f: usize) -> u64
 fn add_name(
     names: &[u64],
     tokens: &[u64],
-    data: &[u64],
+    table: &[u64],
     given: usize,
     i: usize,
     from: usize,
     variables: &mut [u64],
 ) -> Added
     requires { ⌜ 2048 ≤ length (now variables) ⌝ }
-    ensures { λ r. ⌜ AddsName (now (names .entry)) (now (tokens .entry)) (now (data .entry)) given i from (now (variables .entry)) r (now (variables .exit)) ⌝ }
+    ensures { λ r. ⌜ AddsName (now (names .entry)) (now (tokens .entry)) (now (table .entry)) given i from (now (variables .entry)) r (now (variables .exit)) ⌝ }
 {
     let scope = Scope::none();
     let cx = Context {
@@ -58,18 +58,19 @@ fn add_name(
     };
     let count = word(names, i, 3) as usize;
     let at = word(names, i, 4) as usize;
-    let mut step = elements::first(names, tokens, data, cx, count, at);
+    let mut step = elements::first(names, tokens, table, cx, count, at);
     let mut n = from;
     loop {
         match step {
             Step::At(h) => {
+                let e = h.element();
                 if rules::VARIABLE_LIMIT <= n {
                     return Added::Refused(rules::Refusal::Full, word(names, i, 0));
                 }
-                let key = store::key_of(i, h.element());
+                let key = store::key_of(i, e);
                 store::append(variables, n, key, 0);
                 n += 1;
-                step = elements::next(names, tokens, data, cx, h);
+                step = elements::next(names, tokens, table, cx, h);
             }
             Step::Done => {
                 return Added::Rows(n);
@@ -85,14 +86,14 @@ fn add_name(
 fn add_sort(
     names: &[u64],
     tokens: &[u64],
-    data: &[u64],
+    table: &[u64],
     given: usize,
     sort: u64,
     from: usize,
     variables: &mut [u64],
 ) -> Added
     requires { ⌜ 2048 ≤ length (now variables) ⌝ }
-    ensures { λ r. ⌜ AddsSort (now (names .entry)) (now (tokens .entry)) (now (data .entry)) given sort from (now (variables .entry)) r (now (variables .exit)) ⌝ }
+    ensures { λ r. ⌜ AddsSort (now (names .entry)) (now (tokens .entry)) (now (table .entry)) given sort from (now (variables .entry)) r (now (variables .exit)) ⌝ }
 {
     let mut i = 0;
     let mut n = from;
@@ -101,12 +102,16 @@ fn add_sort(
             i += 1;
             continue;
         }
-        let added = add_name(names, tokens, data, given, i, n, variables);
-        let Added::Rows(m) = added else {
-            return added;
-        };
-        n = m;
-        i += 1;
+        let added = add_name(names, tokens, table, given, i, n, variables);
+        match added {
+            Added::Rows(m) => {
+                n = m;
+                i += 1;
+            }
+            Added::Refused(r, p) => {
+                return Added::Refused(r, p);
+            }
+        }
     }
     Added::Rows(n)
 }
@@ -115,16 +120,16 @@ fn add_sort(
 pub fn number(
     names: &[u64],
     tokens: &[u64],
-    data: &[u64],
+    table: &[u64],
     given: usize,
     variables: &mut [u64; 2048],
 ) -> Counted
-    ensures { λ r. ⌜ NumbersAs (now (names .entry)) (now (tokens .entry)) (now (data .entry)) given r (now (variables .exit)) ⌝ }
+    ensures { λ r. ⌜ NumbersAs (now (names .entry)) (now (tokens .entry)) (now (table .entry)) given r (now (variables .exit)) ⌝ }
 {
     let discrete = add_sort(
         names,
         tokens,
-        data,
+        table,
         given,
         sorts::DISCRETE,
         0,
@@ -135,7 +140,7 @@ pub fn number(
             let all = add_sort(
                 names,
                 tokens,
-                data,
+                table,
                 given,
                 sorts::CONTINUOUS,
                 a,
