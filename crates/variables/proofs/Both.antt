@@ -1,18 +1,16 @@
 -- The discrete names, then the continuous ones: each sort is picked by its number, and both loops make the whole. Assumes nothing.
-use mathlib.Core.Path.{_≡_, refl, sym, _∙_, ap, subst}
-use mathlib.Core.Option.{Option, none, some}
+use mathlib.Core.Path.{_≡_, refl, _∙_, ap, subst}
+use mathlib.Core.Option.{none}
 use mathlib.Core.List.{List, []}
-use Prim.Native.Nat.{ℕ, _<_, _≤_}
+use Prim.Native.Nat.{ℕ}
 use native.Mathlib.Omega.{arith}
-use lib.ListN.{length, getElem?}
+use lib.ListN.{length}
 use Rattle.rules.specs.declared.Refusal.{Refusal}
 use Rattle.rules.specs.Limits.{variableLimit}
-use Rattle.language.specs.Outcome.{Outcome, done, refused, _>>=_}
-use Rattle.language.specs.All.{All}
-use Rattle.language.specs.Syntax.{Name, Sort, Spans}
+use Rattle.language.specs.Outcome.{refused, _>>=_}
+use Rattle.language.specs.Syntax.{Sort}
 use Rattle.language.specs.Syntax
 use Rattle.language.specs.Model.{asDiscrete, asContinuous}
-use Rattle.language.specs.Numbering.{Variable}
 use Rattle.tokens.specs.Stored.{Shaped}
 use Rattle.store.proofs.Held.{numbered-none}
 use Rattle.evaluator.specs.Tables.{World}
@@ -21,7 +19,7 @@ use Rattle.variables.specs.declared.Added.{Added}
 use Rattle.variables.specs.declared.Added.the-variants as added
 use Rattle.variables.specs.declared.Counted.the-variants as counted
 use Rattle.variables.specs.Order.{InOrder}
-use Rattle.variables.specs.Numbers.{Below, Held, Adds, Answers, Taken, Picks, Above, AddsSort, discreteOnes, continuousOnes, Counts, NumbersAs}
+use Rattle.variables.specs.Numbers.{Adds, Answers, Taken, Picks, Above, AddsSort, discreteOnes, continuousOnes, Counts, NumbersAs}
 use Rattle.variables.proofs.Sorts.{below-length}
 
 -- ---- a sort by its number
@@ -74,9 +72,11 @@ module _ (ns ts ds : List ℕ) (given : ℕ) (t t₁ : List ℕ) (x : Added) (m 
   first w p = m .is w asDiscrete [] p picks-discrete (record { rows = numbered-none t; few = omega arith }) (λ j y e _ _ _. tt)
 
   pub number-refused : (c : Refusal) (p : ℕ) → x ≡ added.Refused c p → NumbersAs ns ts ds given (counted.Refused c p) t₁
-  number-refused c p e = record { is = λ w q o.
-      let z : discreteOnes w ≡ refused c p = subst (λ y. Answers (discreteOnes w) (Above asDiscrete (w .names)) [] y t₁) e (first w q) in
-      ap (λ y. y >>= λ vs. continuousOnes w vs) z }
+  number-refused c p e = record {
+    is = λ w q o.
+        let z : discreteOnes w ≡ refused c p = subst (λ y. Answers (discreteOnes w) (Above asDiscrete (w .names)) [] y t₁) e (first w q) in
+        ap (λ y. y >>= λ vs. continuousOnes w vs) z;
+  }
 
   module _ (a : ℕ) (e : x ≡ added.Rows a) (t₂ : List ℕ) (y : Added) (n : AddsSort ns ts ds given 5 a t₁ y t₂) where
     module _ (w : World ns ts ds given) (p : Placed ns (w .names)) (o : InOrder (w .names)) where
@@ -88,10 +88,12 @@ module _ (ns ts ds : List ℕ) (given : ℕ) (t t₁ : List ℕ) (x : Added) (m 
           (λ j z c _ s q. discretes .below j (λ i x d u v. o .earlier i j x z d c u v s q) tt)
 
     pub number-later : (c : Refusal) (q : ℕ) → y ≡ added.Refused c q → NumbersAs ns ts ds given (counted.Refused c q) t₂
-    number-later c q u = record { is = λ w p o.
-        let vs = discretes w p o .variables in
-        let z : continuousOnes w vs ≡ refused c q = subst (λ z. Answers (continuousOnes w vs) (Above asContinuous (w .names)) vs z t₂) u (second w p o) in
-        ap (λ z. z >>= λ vs. continuousOnes w vs) (discretes w p o .is) ∙ z }
+    number-later c q u = record {
+      is = λ w p o.
+          let vs = discretes w p o .variables in
+          let z : continuousOnes w vs ≡ refused c q = subst (λ z. Answers (continuousOnes w vs) (Above asContinuous (w .names)) vs z t₂) u (second w p o) in
+          ap (λ z. z >>= λ vs. continuousOnes w vs) (discretes w p o .is) ∙ z;
+    }
 
     pub number-of : (k : ℕ) → y ≡ added.Rows k → NumbersAs ns ts ds given (counted.Of a k) t₂
     number-of k u = record { is = go }
@@ -100,7 +102,7 @@ module _ (ns ts ds : List ℕ) (given : ℕ) (t t₁ : List ℕ) (x : Added) (m 
         go w p o =
             let f = discretes w p o in
             let z : Adds (continuousOnes w (f .variables)) (Above asContinuous (w .names)) (f .variables) k t₂ =
-                subst (λ z. Answers (continuousOnes w (f .variables)) (Above asContinuous (w .names)) (f .variables) z t₂) u (second w p o) in
+            subst (λ z. Answers (continuousOnes w (f .variables)) (Above asContinuous (w .names)) (f .variables) z t₂) u (second w p o) in
             record {
               discretes = f .variables;
               variables = z .variables;

@@ -2,16 +2,15 @@
 use mathlib.Core.Path.{_≡_, refl, sym, _∙_, ap, subst, subst₂}
 use mathlib.Core.Bool.{true}
 use mathlib.Core.List.{List, [], _∷_, _++_, map}
-use Prim.Native.Nat.{ℕ, suc, _+_, _-_, _/_, _<_, _≤_}
+use Prim.Native.Nat.{ℕ, _+_, _-_, _/_, _<_, _≤_}
 use native.Mathlib.Omega.{arith}
 use borrow.Author.Tests.{lt-ltb, le-ltb}
-use lib.Dec.{ltb}
-use lib.ListN.{length, getD}
+use lib.ListN.{length}
 use lib.IntN.{ℤ}
 use Rattle.rules.specs.declared.Refusal.{Refusal}
 use Rattle.rules.specs.declared.Refusal.the-variants.{Full}
 use Rattle.rules.specs.Limits.{variableLimit}
-use Rattle.language.specs.Outcome.{Outcome, done, refused, check}
+use Rattle.language.specs.Outcome.{Outcome, done, refused}
 use Rattle.language.specs.All.{All, all-with, all-getD}
 use Rattle.language.specs.Scope.{Scope}
 use Rattle.language.specs.Syntax.{Spans}
@@ -20,8 +19,8 @@ use Rattle.language.specs.Model.{Declaration}
 use Rattle.language.specs.Numbering.{Variable, addVariable}
 use Rattle.store.specs.declared.Element.{Element}
 use Rattle.store.specs.declared.Key.{Key}
-use Rattle.store.specs.Element.{listOf, Subscripts}
-use Rattle.store.specs.Key.{nameBound, keyNumber, keyOf}
+use Rattle.store.specs.Element.{listOf}
+use Rattle.store.specs.Key.{keyNumber, keyOf}
 use Rattle.store.specs.Table.{keyAt, hasRoom, appended}
 use Rattle.store.specs.Entries.{Keyed, variableKey, Numbered}
 use Rattle.store.proofs.Keys.{key-name, key-precedes}
@@ -38,9 +37,8 @@ use Rattle.elements.specs.Steps.{turnsLeft, FirstIs, NextIs}
 use Rattle.elements.specs.Loops.{Remains}
 use Rattle.elements.proofs.Held.{scope-here, scope-same}
 use Rattle.elements.proofs.Loops.{loop-start, loop-more, loop-refused, loop-done, loop-stopped, loop-rises, loop-subscripts}
-use Rattle.variables.specs.declared.Added.{Added}
 use Rattle.variables.specs.declared.Added.the-variants as added
-use Rattle.variables.specs.Numbers.{Below, Held, Adds, Answers, Ranges, declaredAt, AddsName}
+use Rattle.variables.specs.Numbers.{Below, Held, Adds, Ranges, declaredAt, AddsName}
 
 -- ---- each next element is nearer to the end
 

@@ -151,7 +151,9 @@ pub declarations-order : (ts rest : List Token) (names : List Name) → declarat
 declarations-order ts rest names h =
     let p = declarations-parted .has ts (record { what = names; rest = rest }) h in
     let a : All (λ (x : Name). asContinuous (x .sort) ≡ none) (p .front) = subst (All (λ (x : Name). asContinuous (x .sort) ≡ none)) (sym (p .grown .is)) (p .grown .sorts) in
-    record { earlier = λ i j x y d e s u t v.
-        let l = before-end asDiscrete (p .front) (p .ends .more) (p .ends .sorts) i x d (subst (λ n. getElem? n i ≡ some x) (p .ends .is) s) u in
-        let m = behind-front asContinuous (p .front) (p .ends .more) a j y e (subst (λ n. getElem? n j ≡ some y) (p .ends .is) t) v in
-        omega (arith, l, m) }
+    record {
+      earlier = λ i j x y d e s u t v.
+          let l = before-end asDiscrete (p .front) (p .ends .more) (p .ends .sorts) i x d (subst (λ n. getElem? n i ≡ some x) (p .ends .is) s) u in
+          let m = behind-front asContinuous (p .front) (p .ends .more) a j y e (subst (λ n. getElem? n j ≡ some y) (p .ends .is) t) v in
+          omega (arith, l, m);
+    }

@@ -7,7 +7,7 @@ use native.Mathlib.Omega.{arith}
 use lib.ListN.{length, take, drop, getElem?, drop-of-length-le}
 use Rattle.rules.specs.declared.Refusal.{Refusal}
 use Rattle.rules.specs.Limits.{nameLimit}
-use Rattle.language.specs.Outcome.{Outcome, done, refused, _>>=_}
+use Rattle.language.specs.Outcome.{done, refused, _>>=_}
 use Rattle.language.specs.All.{All}
 use Rattle.language.specs.Scope.{Scope}
 use Rattle.language.specs.Syntax.{Name, Sort, Spans}
@@ -23,7 +23,7 @@ use Rattle.evaluator.specs.Cycle.{nothingBound}
 use Rattle.elements.specs.Placed.{Placed}
 use Rattle.variables.specs.declared.Added.{Added}
 use Rattle.variables.specs.declared.Added.the-variants as added
-use Rattle.variables.specs.Numbers.{Below, Held, Adds, Answers, Ranges, declaredAt, AddsName, Taken, Picks, Above, Before, AddsSort}
+use Rattle.variables.specs.Numbers.{Below, Held, Adds, Answers, Ranges, declaredAt, AddsName, Picks, Above, Before, AddsSort}
 
 -- ---- names by their number
 
@@ -125,7 +125,7 @@ module _ (ns ts ds : List ℕ) (given k from : ℕ) (t₀ : List ℕ) where
                 let x = here w in
                 let y : i + 1 ≡ suc i = omega arith in
                 let z : declared f i (drop i (w .names)) ≡ declared f (suc i) (drop (suc i) (w .names)) =
-                    ap (declared f i) (x .rest) ∙ declared-left f i (x .name) (drop (suc i) (w .names)) (q .leaves (x .name .sort) (rowWord ns i 2) (rowWord ns i 3) (shaped w) (λ m. g (e ∙ m))) in
+                ap (declared f i) (x .rest) ∙ declared-left f i (x .name) (drop (suc i) (w .names)) (q .leaves (x .name .sort) (rowWord ns i 2) (rowWord ns i 3) (shaped w) (λ m. g (e ∙ m))) in
                 record {
                   variables = a .variables;
                   due = rw y (ap (λ c. addVariables (nothingBound w) c (a .variables)) (sym z) ∙ a .due);
@@ -157,8 +157,8 @@ module _ (ns ts ds : List ℕ) (given k from : ℕ) (t₀ : List ℕ) where
                 sized = y .sized;
               } in
               let z : declared f i (drop i (w .names)) ≡ declaredAt ns i d ∷ declared f (suc i) (drop (suc i) (w .names)) =
-                  ap (declared f i) (x .rest) ∙ declared-taken f i (x .name) (drop (suc i) (w .names)) d (y .is)
-                  ∙ ap (λ (m : ℕ). record { name = i; domain = d; place = m } ∷ declared f (suc i) (drop (suc i) (w .names))) (p .at i (x .name) (x .at)) in
+              ap (declared f i) (x .rest) ∙ declared-taken f i (x .name) (drop (suc i) (w .names)) d (y .is)
+              ∙ ap (λ (m : ℕ). record { name = i; domain = d; place = m } ∷ declared f (suc i) (drop (suc i) (w .names))) (p .at i (x .name) (x .at)) in
               record {
                 now = a;
                 domain = d;

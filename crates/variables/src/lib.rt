@@ -126,26 +126,10 @@ pub fn number(
 ) -> Counted
     ensures { λ r. ⌜ NumbersAs (now (names .entry)) (now (tokens .entry)) (now (table .entry)) given r (now (variables .exit)) ⌝ }
 {
-    let discrete = add_sort(
-        names,
-        tokens,
-        table,
-        given,
-        sorts::DISCRETE,
-        0,
-        variables,
-    );
+    let discrete = add_sort(names, tokens, table, given, sorts::DISCRETE, 0, variables);
     match discrete {
         Added::Rows(a) => {
-            let all = add_sort(
-                names,
-                tokens,
-                table,
-                given,
-                sorts::CONTINUOUS,
-                a,
-                variables,
-            );
+            let all = add_sort(names, tokens, table, given, sorts::CONTINUOUS, a, variables);
             match all {
                 Added::Rows(n) => Counted::Of(a, n),
                 Added::Refused(r, p) => Counted::Refused(r, p),

@@ -1,4 +1,5 @@
 -- `add_name` meets its contract. Assumes nothing.
+use native.Mathlib.Omega.{arith}
 use borrow.Author.Needs.{needs}
 use Rattle.elements.specs.Steps.{turnsLeft}
 use Rattle.variables.proofs.Names.{NameOn, next-less, name-start, name-full, name-more, name-done, name-stopped}
@@ -26,7 +27,7 @@ add-name-spec =
     (λ c κs. search needs)  -- element-requires
     (λ c κs. search needs)  -- word-requires-3
     (λ c. search needs)  -- same-length
-    (λ c. search name-full depth 8)  -- returns
+    (λ c. name-full _ _ _ _ _ _ _ _ _ _ (c .before .before .before .before .before .before .loop .inv) _ _ (c .before .before .before .before .step .given .1) (c .before .before .element .ensures) _ (omega (arith, c .before .if1 .taken)) (c .word3 .ensures))  -- returns
     (λ c κs. search needs)  -- key-of-requires
     (λ c κs. search needs)  -- append-requires
     (λ c. search needs)  -- add-n

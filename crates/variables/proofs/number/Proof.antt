@@ -14,6 +14,6 @@ number-spec =
     (λ c. search needs)  -- enum-known-all
     (λ c. search needs)  -- enum-known-all-2
     (λ c. search needs)  -- enum-known-discrete-2
-    (λ c. search number-of depth 7)  -- returns
+    (λ c. number-of _ _ _ _ _ _ _ (c .before .before .before .before .before .before .before .before .add-sort .ensures) _ (c .before .before .before .before .before .before .discrete .given .1) _ _ (c .before .before .before .add-sort2 .ensures) _ (c .before .all .given .1))  -- returns
     (λ c. search number-later depth 7)  -- returns-2
     (λ c. search number-refused depth 5))  -- returns-3
