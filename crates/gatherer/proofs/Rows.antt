@@ -1,52 +1,25 @@
--- Laws of a row of counts: zeros, and a coefficient added as the definition adds it. Assumes nothing.
+-- Laws of a row of counts: a coefficient added as the definition adds it. Assumes nothing.
 use mathlib.Core.Path.{_≡_, refl, sym, _∙_, ap, subst}
 use mathlib.Core.Bool.{Bool, true, false}
 use mathlib.Core.List.{List}
-use Prim.Native.Nat.{ℕ, zero, suc, _<_, _≤_}
+use Prim.Native.Nat.{ℕ, _<_, _≤_}
 use native.Mathlib.Omega.{arith}
 use native.Mathlib.Decide.{ℕ-discrete}
 use borrow.Author.Tests.{ltb-true, ltb-false}
 use lib.Dec.{ltb}
-use lib.ListN.{length, getD, set, replicate, length-set, List·getD-eq-default}
+use lib.ListN.{length, getD, set, length-set, List·getD-eq-default}
 use lib.Seq.{getD-set-same, getD-set-other}
 use lib.IntN.{ℤ, pos, natAbs, _+ℤ_}
 use Rattle.rules.specs.declared.Refusal.the-variants.{Unfit}
-use Rattle.rules.specs.Limits.{scaleLimit}
 use Rattle.value.specs.declared.Value.{Value}
 use Rattle.value.specs.declared.Fit.{Fit}
 use Rattle.value.specs.declared.Fit.the-variants.{Fits, TooBig}
 use Rattle.value.specs.Decimal.{Valid, zeroValue, sumOf}
 use Rattle.value.specs.Gathering.{millionths, ofMillionths, isFit, countLimit, Gathered, Counts}
-use Rattle.value.proofs.Operations.{zero-valid}
-use Rattle.value.proofs.Gathering.{count-small, ofMillionths-own, ofMillionths-sum, gathers-fit, gathered-value}
+use Rattle.value.proofs.Gathering.{count-small, ofMillionths-sum, gathers-fit, gathered-value}
 use Rattle.language.specs.Outcome.{done, refused}
-use Rattle.language.specs.Numbering.{Variable, Row, addAt}
-use Rattle.rows.specs.Counts.{RowIs, RowOf}
-
--- ---- zeros
-
-length-zeros : {A : Type 0} (n : ℕ) (a : A) → length (replicate n a) ≡ n
-length-zeros zero a = refl
-length-zeros (suc n) a = ap suc (length-zeros n a)
-
-getD-zeros : {A : Type 0} (n j : ℕ) (a : A) → getD (replicate n a) j a ≡ a
-getD-zeros zero j a = refl
-getD-zeros (suc n) zero a = refl
-getD-zeros (suc n) (suc j) a = getD-zeros n j a
-
-zero-count : ofMillionths (pos 0) ≡ Fits zeroValue
-unfolding millionths scaleLimit
-zero-count = ofMillionths-own zeroValue zero-valid
-
-pub row-zeros : (n : ℕ) → RowIs (replicate n (pos 0)) (replicate n zeroValue)
-row-zeros n =
-    record {
-      size = length-zeros n (pos 0) ∙ sym (length-zeros n zeroValue);
-      same = λ j h. ap ofMillionths (getD-zeros n j (pos 0)) ∙ zero-count ∙ ap Fits (sym (getD-zeros n j zeroValue));
-    }
-
-pub zeros-of : (vs : List Variable) → RowOf vs (replicate (length vs) (pos 0)) (replicate (length vs) zeroValue)
-zeros-of vs = record { count = length-zeros (length vs) zeroValue; row = row-zeros (length vs) }
+use Rattle.language.specs.Numbering.{Row, addAt}
+use Rattle.rows.specs.Counts.{RowIs}
 
 -- ---- a coefficient added
 

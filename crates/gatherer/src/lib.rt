@@ -84,7 +84,7 @@ pub fn number(
 }
 
 // The variable at a position, whose token has kind k, if it names one.
-fn variable_at(names: &[u64], tokens: &[u64], level: usize, at: usize, k: u64) -> Listed
+pub fn variable_at(names: &[u64], tokens: &[u64], level: usize, at: usize, k: u64) -> Listed
     ensures { λ r. ⌜ Begins (now (names .entry)) (now (tokens .entry)) level at k r ⌝ }
 {
     if k != kinds::NAME {
