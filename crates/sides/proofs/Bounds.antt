@@ -110,13 +110,14 @@ module _ (ns ts ds : List ℕ) (given : ℕ) (xs : List ℕ) (total level : ℕ)
           record {
             is = λ w g i d fs r z.
                 let u = stood w i d fs r z _ f in
-                let (v, same, declared) = u .heads in
+                let (v, known) = u .heads in
+                let (same, declared) = known in
                 let vi : i ≡ ι = cc in
                 let vd : d ≡ v = cc in
                 let n = sym (u .walks) ∙ ap (λ i. walkNumber (w .variables) (seenBy (w .world) level) 12 i d r (under (w .world) sc) (tokensAt (w .world) a)) vi
-                    ∙ ap (λ d. walkNumber (w .variables) (seenBy (w .world) level) 12 ι d r (under (w .world) sc) (tokensAt (w .world) a)) vd
-                    ∙ ap (λ r. walkNumber (w .variables) (seenBy (w .world) level) 12 ι v r (under (w .world) sc) (tokensAt (w .world) a)) (sym (u .place))
-                    ∙ o .is w g v declared in
+                ∙ ap (λ d. walkNumber (w .variables) (seenBy (w .world) level) 12 ι d r (under (w .world) sc) (tokensAt (w .world) a)) vd
+                ∙ ap (λ r. walkNumber (w .variables) (seenBy (w .world) level) 12 ι v r (under (w .world) sc) (tokensAt (w .world) a)) (sym (u .place))
+                ∙ o .is w g v declared in
                 sym (only-as (variableAt (w .variables) i d fs r (under (w .world) sc)) (u .rest)) ∙ ap onlyOutcome n;
             below = o .below;
           }
