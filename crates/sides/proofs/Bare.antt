@@ -10,7 +10,7 @@ use Rattle.rules.specs.Limits.{tokenLimit, nestingLimit}
 use Rattle.lexer.specs.Marks.{minusSign, timesSign, sigmaWord}
 use Rattle.lexer.specs.Text.{Token, Kind}
 use Rattle.lexer.specs.Text
-use Rattle.language.specs.Outcome.{Outcome, done, refused, refused-done}
+use Rattle.language.specs.Outcome.{refused-done}
 use Rattle.language.specs.Syntax.{Name, Formulas, Spans, Form, Term, also, factor, variable, sigma, Side, bare, form}
 use Rattle.language.specs.Syntax
 use Rattle.language.specs.Reader.{Reader, follow, _>>=_, give, next, look, markOf, isMark, expect}
@@ -18,14 +18,14 @@ use Rattle.language.specs.Formulas.{isSum, Signed, readSign, subscriptsOf, prim
 use Rattle.language.specs.Linear.{Head, aSigma, aVariable, aPrimary, headBy, linearTerm, linearTerms, Linear, linearOf, sigmaAt, linearAt, sideOfTerm, sideOf}
 use Rattle.walk.specs.Entries.{read}
 use Rattle.walk.proofs.Steps.{after-read, on, same-what, same-rest, look-stays}
-use Rattle.walk.proofs.WalkedLinear.{Bare, bare-walk}
+use Rattle.walk.proofs.WalkedLinear.{bare-walk}
 use Rattle.tokens.specs.declared.Move.{Move}
 use Rattle.tokens.specs.declared.Move.the-variants as move
 use Rattle.tokens.specs.declared.Seen.{Seen}
 use Rattle.tokens.specs.declared.Seen.the-variants as seen
 use Rattle.tokens.specs.declared.Found.{Found}
 use Rattle.tokens.specs.declared.Found.the-variants as found
-use Rattle.tokens.specs.Stored.{token, kindOf, from, size, Sees, Looks, Named, Matches}
+use Rattle.tokens.specs.Stored.{token, from, Sees, Looks, Named, Matches}
 use Rattle.tokens.proofs.Moved.{next-is, look-is, is-sum}
 use Rattle.formulas.specs.Cycle.{Subscripts}
 use Rattle.linear.specs.Linear.{Heads, Begins}

@@ -2,7 +2,7 @@
 use mathlib.Core.Path.{_≡_, refl, sym, _∙_, ap, subst}
 use mathlib.Core.Bool.{Bool, true, false, _&&_, cond}
 use mathlib.Core.List.{List}
-use Prim.Native.Nat.{ℕ, _<_}
+use Prim.Native.Nat.{ℕ}
 use native.Mathlib.Omega.{arith}
 use lib.Dec.{eqb}
 use Rattle.rules.specs.declared.Refusal.{Refusal}
@@ -12,10 +12,10 @@ use Rattle.value.specs.declared.Value.{Value}
 use Rattle.lexer.specs.Marks.{sigmaWord}
 use Rattle.lexer.specs.Text.{Token, Kind}
 use Rattle.lexer.specs.Text
-use Rattle.language.specs.Outcome.{Outcome, done, refused, refused-done}
+use Rattle.language.specs.Outcome.{refused-done}
 use Rattle.language.specs.Syntax.{Name, Formula, Formulas, Spans, Relation, Side, bare, form}
 use Rattle.language.specs.Reader.{asRead}
-use Rattle.language.specs.Linear.{Head, aSigma, aVariable, aPrimary, headBy}
+use Rattle.language.specs.Linear.{aSigma, aVariable, aPrimary, headBy}
 use Rattle.language.specs.Evaluation.{eval}
 use Rattle.language.specs.Numbering.{variableAt, factOf}
 use Rattle.walk.specs.WalkLinear.{walkNumber}
@@ -37,7 +37,7 @@ use Rattle.evaluator.specs.Cycle.{formulaIn, valueOutcome, ValidAnswer, onlyOut
 use Rattle.evaluator.proofs.Names.{only-as}
 use Rattle.gatherer.specs.declared.Numbered.{Numbered}
 use Rattle.gatherer.specs.declared.Numbered.the-variants as numbered
-use Rattle.gatherer.specs.Cycle.{Model, Declared, numberOutcome, NumberIs, Heads, Begins}
+use Rattle.gatherer.specs.Cycle.{Model, numberOutcome, NumberIs, Heads, Begins}
 use Rattle.sides.specs.declared.Bounded.{Bounded}
 use Rattle.sides.specs.declared.Bounded.the-variants as bounded
 use Rattle.sides.specs.Answers.{isBare, LeftAt, RightAt, NumberOf, boundOutcome, Sound, BoundIs}

@@ -10,11 +10,10 @@ use Rattle.rules.specs.declared.Refusal.{Refusal}
 use Rattle.rules.specs.Limits.{nestingLimit, mantissaLimit, scaleLimit}
 use Rattle.value.specs.declared.Value.{Value}
 use Rattle.value.specs.Decimal.{Valid, zeroValue, oneValue}
-use Rattle.language.specs.Outcome.{Outcome, done, refused}
+use Rattle.language.specs.Outcome.{Outcome, done}
 use Rattle.language.specs.Syntax.{Form, Formula, Relation, Side, bare, form}
 use Rattle.language.specs.Reader.{asRead}
 use Rattle.language.specs.Linear.{Linear}
-use Rattle.language.specs.Evaluation.{eval}
 use Rattle.language.specs.Numbering.{Variable, Row, signed, gathered, row, flips, factOf}
 use Rattle.walk.specs.Walk.{negatedValue}
 use Rattle.walk.proofs.WalkedLinear.{gathered-walk}
