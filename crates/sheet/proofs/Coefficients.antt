@@ -9,7 +9,7 @@ use Rattle.value.specs.declared.Value.{Value}
 use Rattle.value.specs.Printed.{Written}
 use Rattle.language.specs.Listing.{Line, colLine}
 use Rattle.listing.specs.Shown.{shownLine, shownLines}
-use Rattle.listing.proofs.Writing.{Left, left-more}
+use Rattle.listing.proofs.Writing.{Left, left-all, left-more}
 use Rattle.listing.proofs.Lines.{lines-append, lines-end}
 use Rattle.rows.specs.Slots.{objectiveRow}
 use Rattle.sheet.specs.Columns.{slotAt, countAt, valueOf, cellLines, columnFrom, columnsFrom}
@@ -22,6 +22,13 @@ lines-then all ks ls e h w = left-more (shownLines ks) (shownLines ls) (ap shown
 
 one-less : (n i : ℕ) → i < n → n - i ≡ suc (n - (i + 1))
 one-less n i h = omega arith
+
+module _ (m : List ℤ) (less : ℕ) (l : List ℕ) (at : ℕ) where
+  pub column-start : (j n : ℕ) → Left l at (shownLines (columnFrom m less j n 0)) l at (shownLines (columnFrom m less j (n - 0) 0))
+  column-start j n = let e : n - 0 ≡ n = omega arith in rw e (left-all l at _)
+
+  pub columns-start : (rows n : ℕ) → Left l at (shownLines (columnsFrom m less rows n 0)) l at (shownLines (columnsFrom m less rows (n - 0) 0))
+  columns-start rows n = let e : n - 0 ≡ n = omega arith in rw e (left-all l at _)
 
 module _ (m : List ℤ) (less : ℕ) {l₀ : List ℕ} {at₀ : ℕ} {text l : List ℕ} {at : ℕ} where
   pub column-more : (j n i k : ℕ) (z : ℤ) {r : ℕ} {l′ : List ℕ} → Left l₀ at₀ text l at (shownLines (columnFrom m less j (n - i) i)) → i < n

@@ -1,4 +1,7 @@
 -- `sheet::cell` meets its contract. Assumes nothing.
+use mir.Val.{toZ}
+use mir.Syntax.{w64}
+use mathlib.Core.Path.{sym, _∙_, ap}
 use Rattle.value.proofs.Integers.{back}
 use native.Mathlib.Omega.{arith}
 use Rattle.sheet.proofs.Cells.{cell-none, cell-zero, cell-line}
@@ -13,7 +16,9 @@ use Rattle.value.proofs.is_zero.Reads as is-zero-reads
 
 -- src/lib.rt:64:9
 returns : tie.Need-returns
-returns c = (cell-none _ _ _ _ _ (c .if1 .taken), omega arith)
+returns c = 
+    let s = c .before .before in
+    (cell-none _ _ _ _ _ (sym (back (s .fits .z .sfits)) ∙ ap (toZ w64) (c .if1 .taken)), omega arith)
 
 -- src/lib.rt:66:9
 value-of-requires : tie.Need-value-of-requires
