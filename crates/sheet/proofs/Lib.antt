@@ -1,2 +1,4 @@
 pub mod Cells
 pub mod Coefficients
+pub mod Words
+pub mod Writing

@@ -16,7 +16,7 @@ use Rattle.value.proofs.is_zero.Reads as is-zero-reads
 
 -- src/lib.rt:64:9
 returns : tie.Need-returns
-returns c = 
+returns c =
     let s = c .before .before in
     (cell-none _ _ _ _ _ (sym (back (s .fits .z .sfits)) ∙ ap (toZ w64) (c .if1 .taken)), omega arith)
 
@@ -30,7 +30,7 @@ is-zero-requires c κs = search needs
 
 -- src/lib.rt:68:9
 returns-2 : tie.Need-returns-2
-returns-2 c = 
+returns-2 c =
     let t = c .before .before in
     let h = rw (back (t .before .before .before .fits .z .sfits)) at (t .value-of .ensures) in
     (cell-zero _ _ _ _ _ _ _ h (c .before .is-zero .ensures) (c .if2 .taken), omega arith)
@@ -45,7 +45,7 @@ same-length c = search needs
 
 -- src/lib.rt:59:1
 returns-3 : tie.Need-returns-3
-returns-3 c = 
+returns-3 c =
     let w = c .before .before in
     let i = w .before .before in
     let t = i .before .before in

@@ -20,7 +20,7 @@ use Rattle.sheet.proofs.slot.Reads as slot-reads
 use Rattle.sheet.proofs.value_of.Reads as value-of-reads
 
 abbrev Inv-loop : tie.InvT-loop
-Inv-loop matrix less rows j out₀ at next₀ i₀ out next i = 
+Inv-loop matrix less rows j out₀ at next₀ i₀ out next i =
     (i ≤ rows) × (next ≤ at + 128 * i) × Left out₀ at (shownLines (columnFrom matrix less j rows 0)) out next (shownLines (columnFrom matrix less j (rows - i) i))
 
 abbrev μ-loop : tie.MeasureT-loop
@@ -63,7 +63,7 @@ loop-less c = omega arith
 
 -- src/lib.rt:87:5
 loop-again : tie.Need-loop-again Inv-loop μ-loop
-loop-again c = 
+loop-again c =
     let w = c .before .before in
     let z = w .before .before in
     let t = z .before .before in

@@ -33,7 +33,7 @@ column-requires c κs = search needs
 
 -- src/lib.rt:55:5
 add-result : tie.Need-add-result
-add-result c = 
+add-result c =
     let d = c .before .before in
     omega (arith, d .column .ensures .next, line-most (colLine (d .before .before .before .before .args .variable) (d .before .before .before .before .args .row) (d .before .before .before .before .args .v)))
 
@@ -43,7 +43,7 @@ same-length c = search needs
 
 -- src/lib.rt:44:1
 returns : tie.Need-returns
-returns c = 
+returns c =
     let d = c .before .before in
     let f = d .before .before in (
       written-from _ _ _ _ _ _ (f .rest-from .ensures) (d .column .ensures),

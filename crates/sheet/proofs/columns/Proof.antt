@@ -14,7 +14,7 @@ use Rattle.sheet.proofs.columns.Lts as lts
 use Rattle.sheet.proofs.column.Reads as column-reads
 
 abbrev Inv-loop : tie.InvT-loop
-Inv-loop matrix less rows variables out₀ at next₀ j₀ out next j = 
+Inv-loop matrix less rows variables out₀ at next₀ j₀ out next j =
     (j ≤ variables) × (next ≤ at + 65664 * j) × (length out ≡ length out₀) × Left out₀ at (shownLines (columnsFrom matrix less rows variables 0)) out next (shownLines (columnsFrom matrix less rows (variables - j) j))
 
 abbrev μ-loop : tie.MeasureT-loop
@@ -38,7 +38,7 @@ loop-less c = omega arith
 
 -- src/lib.rt:110:5
 loop-again : tie.Need-loop-again Inv-loop μ-loop
-loop-again c = 
+loop-again c =
     let w = c .before .before in
     let t = w .before .before in
     (omega arith, omega arith, w .column .kept .1 .1 .1 .1 .0 ∙ t .before .loop .inv .2, columns-more _ _ _ _ _ (t .before .loop .inv .3) (t .loop-test .taken) (w .column .ensures .0))

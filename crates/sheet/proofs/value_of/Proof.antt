@@ -27,13 +27,13 @@ of-whole-requires c κs = search needs
 
 -- src/lib.rt:35:1
 returns : tie.Need-returns
-returns c = 
+returns c =
     let s = c .before .before .before in
     value-fits _ _ _ (rw (back (s .before .fits .z .sfits)) at (s .of-millionths .ensures)) (c .before .v .given .1)
 
 -- src/lib.rt:35:1
 returns-2 : tie.Need-returns-2
-returns-2 c = 
+returns-2 c =
     let s = c .before .before .before in
     value-none _ _ _ (rw (back (s .before .fits .z .sfits)) at (s .of-millionths .ensures)) (c .before .enum-told .given .1) (c .of-whole .ensures)
 
