@@ -2,3 +2,5 @@ pub mod Cells
 pub mod Coefficients
 pub mod Words
 pub mod Writing
+pub mod Texts
+pub mod Slots
