@@ -4,3 +4,4 @@ pub mod Words
 pub mod Writing
 pub mod Texts
 pub mod Slots
+pub mod Variables

@@ -1,6 +1,6 @@
 -- Laws of the rows of a problem in their slots: the row of a number, its line and its coefficients. Assumes nothing.
 use mathlib.Core.Path.{_≡_, refl, sym, _∙_, ap, subst}
-use mathlib.Core.Bool.{Bool, true, false}
+use mathlib.Core.Bool.{Bool, true, false, cond}
 use mathlib.Core.Logic.{inl, inr}
 use mathlib.Core.List.{List, [], _∷_, _++_}
 use Prim.Native.Nat.{ℕ, zero, suc, _+_, _-_, _*_, _<_, _≤_}
@@ -11,7 +11,7 @@ use lib.Dec.{leb}
 use lib.ListN.{length, getD}
 use lib.Seq.{getD-take, getD-drop}
 use lib.IntN.{ℤ, pos}
-use Rattle.rules.specs.Limits.{variableLimit}
+use Rattle.rules.specs.Limits.{variableLimit, rowLimit}
 use Rattle.value.specs.declared.Value.{Value}
 use Rattle.value.specs.Decimal.{zeroValue, isZero}
 use Rattle.value.specs.Gathering.{ofMillionths}
@@ -19,7 +19,7 @@ use Rattle.language.specs.Listed.{At, Split, at-length, at-append, at-left, at-
 use Rattle.language.specs.Numbering.{Variable, Row, Entry, keep, lessRow, equalRow}
 use Rattle.language.specs.Listing.{Line, rowLine, colLine, rightOf, coefficientsOf, rowLines, columnLines, colLines}
 use Rattle.rows.specs.Counts.{RowOf}
-use Rattle.rows.specs.Slots.{countsAt, Slot, RowsHeld}
+use Rattle.rows.specs.Slots.{countsAt, objectiveRow, Slot, RowsHeld}
 use Rattle.sheet.specs.Columns.{slotAt, countAt, fitted, valueOf, cellLines, columnFrom, columnsFrom}
 
 -- ---- slots
@@ -87,8 +87,41 @@ unfolding valueOf fitted
 value-told vs m k j r h b =
     ap fitted (ap ofMillionths (sym (count-told m (length vs) k j b)) ∙ h .row .same j (omega (arith, h .count)))
 
-module _ (m : List ℤ) (less : ℕ) (o : Row) where
-  -- the coefficient of variable j in each of the rows from number i on
-  pub record Column (j i : ℕ) (es : List Entry) : Type 0 where
+cell-then : (j n : ℕ) (v : Value) (ls : List Line) → cellLines (j + 1) n v ++ ls ≡ elim (isZero v) as (λ _. List Line) [ true ↦ ls | false ↦ colLine (suc j) n v ∷ ls ]
+unfolding cellLines
+cell-then j n v ls = go (isZero v)
+  where
+    go : (t : Bool) → cond t [] (colLine (j + 1) n v ∷ []) ++ ls ≡ elim t as (λ _. List Line) [ true ↦ ls | false ↦ colLine (suc j) n v ∷ ls ]
+    go true = refl
+    go false = rw (add-one j)
+
+module _ (m : List ℤ) (less : ℕ) (o : Row) (j : ℕ) where
+  -- the coefficient of variable j in each of the rows from number i on, and in the objective
+  pub record Column (i : ℕ) (es : List Entry) : Type 0 where
     pub rows : (n : ℕ) (e : Entry) → At es n e → valueOf (countAt m (slotAt less (i + n)) j) ≡ getD (coefficientsOf (e .fact)) j zeroValue
     pub last : valueOf (countAt m 512 j) ≡ getD o j zeroValue
+
+  column-next : (i : ℕ) (e : Entry) (es : List Entry) → Column i (e ∷ es) → Column (i + 1) es
+  column-next i e es h =
+      record {
+        rows = λ n f a. let x : i + suc n ≡ i + 1 + n = omega arith in rw x at (h .rows (suc n) f a);
+        last = h .last;
+      }
+
+  pub column-told : (i : ℕ) (es : List Entry) → Column i es → columnFrom m less j (length es) i ≡ columnLines j (i + 1) es o
+  unfolding columnFrom columnLines objectiveRow rowLimit
+  column-told i [] h = rw (h .last, add-one j)
+  column-told i (e ∷ es) h =
+      let x : i + 0 ≡ i = omega arith in
+      let c = getD (coefficientsOf (e .fact)) j zeroValue in
+      let v : valueOf (countAt m (slotAt less i) j) ≡ c = rw x at (h .rows 0 e refl) in
+      let rest : columnFrom m less j (length es) (i + 1) ≡ columnLines j (suc (i + 1)) es o = rw (add-one (i + 1)) at (column-told (i + 1) es (column-next i e es h)) in
+      ap (λ w. cellLines (j + 1) (i + 1) w ++ columnFrom m less j (length es) (i + 1)) v ∙ ap (λ ls. cellLines (j + 1) (i + 1) c ++ ls) rest ∙ cell-then j (i + 1) c (columnLines j (suc (i + 1)) es o)
+
+pub columns-told : (m : List ℤ) (less : ℕ) (o : Row) (es : List Entry) (k j : ℕ) → ((n : ℕ) → n < j + k → Column m less o n 0 es)
+    → columnsFrom m less (length es) k j ≡ colLines k j es o
+unfolding columnsFrom colLines
+columns-told m less o es zero j h = refl
+columns-told m less o es (suc k) j h =
+    let x : columnsFrom m less (length es) k (j + 1) ≡ colLines k (j + 1) es o = columns-told m less o es k (j + 1) (λ n b. h n (omega arith)) in
+    rw (column-told m less o j 0 es (h j (omega arith)), x, add-one j)
