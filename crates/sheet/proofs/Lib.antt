@@ -5,3 +5,4 @@ pub mod Writing
 pub mod Texts
 pub mod Slots
 pub mod Variables
+pub mod Listed

@@ -41,7 +41,7 @@ slot-held vs t m less equal es h i e a = go (at-append (keep lessRow es) (keep e
 
 -- ---- the lines of rows
 
-rows-length : (n : ℕ) (q : Bool) (es : List Entry) → length (rowLines n q es) ≡ length es
+pub rows-length : (n : ℕ) (q : Bool) (es : List Entry) → length (rowLines n q es) ≡ length es
 unfolding rowLines
 rows-length n q [] = refl
 rows-length n q (e ∷ es) = ap suc (rows-length (suc n) q es)
