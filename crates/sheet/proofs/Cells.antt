@@ -2,11 +2,9 @@
 use mathlib.Core.Path.{_≡_, refl, sym, _∙_, ap}
 use mathlib.Core.Bool.{Bool, true, false}
 use mathlib.Core.List.{List, [], _∷_, append-nil}
-use Prim.Native.Nat.{ℕ, _+_, _-_, _*_, _<_, _≤_}
+use Prim.Native.Nat.{ℕ, _+_, _-_, _<_, _≤_}
 use native.Mathlib.Omega.{arith}
 use borrow.Author.Tests.{lt-ltb, le-ltb}
-use lib.Dec.{ltb}
-use lib.ListN.{length, getD, List·getD-eq-default}
 use lib.IntN.{ℤ, pos}
 use Rattle.rules.specs.Limits.{rowLimit, scaleLimit}
 use Rattle.value.specs.declared.Value.{Value}
@@ -21,7 +19,7 @@ use Rattle.language.specs.Listing.{Line, colLine}
 use Rattle.listing.specs.Shown.{shownLine, shownLines}
 use Rattle.listing.proofs.Lines.{lines-none}
 use Rattle.rows.specs.Slots.{lessSlot, equalSlot}
-use Rattle.sheet.specs.Columns.{slotAt, countAt, fitted, valueOf, cellLines}
+use Rattle.sheet.specs.Columns.{slotAt, fitted, valueOf, cellLines}
 
 -- ---- slots
 

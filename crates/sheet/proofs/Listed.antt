@@ -2,23 +2,21 @@
 use mathlib.Core.Path.{_≡_, refl, sym, _∙_, ap, subst}
 use mathlib.Core.Bool.{Bool, true, false, not}
 use mathlib.Core.List.{List, [], _∷_, _++_, append-assoc}
-use Prim.Native.Nat.{ℕ, suc, _+_, _*_, _<_, _≤_}
+use Prim.Native.Nat.{ℕ, suc, _+_, _<_}
 use native.Mathlib.Omega.{arith}
 use native.Mathlib.Numerals.{add-one}
 use borrow.Author.Tests.{not-true}
-use lib.Dec.{leb}
-use lib.ListN.{length, getD, length-append}
+use lib.ListN.{length, length-append}
 use lib.IntN.{ℤ}
 use Rattle.rules.specs.Limits.{byteLimit, variableLimit, rowLimit}
 use Rattle.value.specs.Printed.{Written}
 use Rattle.value.proofs.Writing.{written-then}
 use Rattle.lexer.specs.View.{partOf}
-use Rattle.lexer.proofs.Runs.{true-false}
 use Rattle.language.specs.All.{All, all-at, all-append, all-left, all-right}
 use Rattle.language.specs.Listed.{At, at-length, at-getD}
 use Rattle.language.specs.Model.{Model}
-use Rattle.language.specs.Numbering.{Variable, Entry, Lp, keep, lessRow, equalRow, lessRows, equalRows, rows}
-use Rattle.language.specs.Listing.{Line, lpLine, rowLine, varLine, endLine, rightOf, coefficientsOf, rowLines, varLines, colLines, linesOf}
+use Rattle.language.specs.Numbering.{Entry, Lp, keep, lessRow, equalRow, lessRows, equalRows, rows}
+use Rattle.language.specs.Listing.{Line, lpLine, endLine, rightOf, coefficientsOf, rowLines, varLines, colLines, linesOf}
 use Rattle.language.specs.Proper.{Proper}
 use Rattle.listing.specs.Shown.{shownLine, shownLines}
 use Rattle.listing.proofs.Lines.{lines-append}
@@ -29,7 +27,7 @@ use Rattle.rows.specs.Slots.{objectiveRow, Slot}
 use Rattle.rows.specs.Bounds.{lowerWord, upperWord}
 use Rattle.sheet.specs.declared.Sizes.{Sizes}
 use Rattle.sheet.specs.Columns.{slotAt, columnsFrom}
-use Rattle.sheet.specs.Strings.{nameAt, stringAt, titleOf, lowerIn, upperIn, within}
+use Rattle.sheet.specs.Strings.{stringAt, within}
 use Rattle.sheet.specs.Told.{RowTold, VariableTold, Told, WritesAll}
 use Rattle.sheet.specs.Shown.{KeyedVariable, FromConstraint, Shown, Lists}
 use Rattle.sheet.proofs.Cells.{one-line}
@@ -178,7 +176,10 @@ module _ {s ns ts cs vs rs bs : List ℕ} {m : List ℤ} {z : Sizes} {at place b
 
 module _ (s ns ts cs vs rs bs : List ℕ) (m : List ℤ) (z : Sizes) (at place bytes : ℕ) where
   pub lists-none : (b : Bool) (l : List ℕ) (r : ℕ) (l′ : List ℕ) → b ≡ within (length s) z → not b ≡ true → Lists s ns ts cs vs rs bs m z at place bytes l r l′
-  lists-none b l r l′ e n = record { lines = λ x p h. true-false (sym (all-within h) ∙ sym e ∙ not-true b n) }
+  lists-none b l r l′ e n = record { lines = λ x p h. never (sym (all-within h) ∙ sym e ∙ not-true b n) }
+    where
+      never : {A : Type 0} → _≡_ {A = Bool} true false → A
+      never q = let z : _≡_ {A = ℕ} 0 1 = cc in absurd (omega arith)
 
   pub lists-all : {l : List ℕ} {r₁ : ℕ} {l₁ : List ℕ} {r₂ : ℕ} {l₂ : List ℕ} {r₃ : ℕ} {l₃ : List ℕ} {r₄ : ℕ} {l₄ : List ℕ} {r₅ : ℕ} {l₅ : List ℕ}
       → Written l 0 (shownLine (lpLine (z .discrete) (z .variables) (z .less) (z .less + z .equal) (stringAt s ts at) (partOf s place bytes))) r₁ l₁

@@ -3,14 +3,13 @@
 use mathlib.Core.Path.{_≡_, refl, sym, _∙_, ap, subst}
 use mathlib.Core.Bool.{Bool, true, false}
 use mathlib.Core.List.{List, [], _∷_}
-use Prim.Native.Nat.{ℕ, zero, suc, _+_, _*_, _<_, _≤_}
+use Prim.Native.Nat.{ℕ, zero, suc, _+_, _*_, _<_}
 use native.Mathlib.Omega.{arith}
 use borrow.Author.Tests.{ltb-true, ltb-false}
 use lib.Dec.{ltb}
 use lib.ListN.{length, take, drop, getD, List·getD-eq-default}
 use lib.Seq.{drop-cons}
 use Rattle.lexer.specs.Text as Text
-use Rattle.lexer.specs.Text.{Kind}
 use Rattle.lexer.specs.View.{partOf}
 use Rattle.language.specs.All.{All}
 use Rattle.language.specs.Listed.{At}
@@ -19,7 +18,7 @@ use Rattle.language.specs.Syntax.{Name, Constraint}
 use Rattle.language.specs.Reader.{Read, Titled, readString, next, passed, stringOf, demand}
 use Rattle.language.specs.Proper.{Visible}
 use Rattle.language.specs.Proper as Proper
-use Rattle.tokens.specs.Stored.{placePart, payloadPart, kindPart, bytesFrom, spelling, kindOf, token, view, from, Named, Stands}
+use Rattle.tokens.specs.Stored.{placePart, payloadPart, bytesFrom, spelling, kindOf, token, from, Named, Stands}
 use Rattle.tokens.proofs.Tables.{view-here, view-end}
 use Rattle.constraints.specs.Rows.{Rows}
 use Rattle.sheet.specs.Strings.{rowWord, nameAt, stringAt, titleOf}

@@ -1,16 +1,16 @@
 -- Laws of the variables of a problem: the line of a number, its bounds and its name. Assumes nothing.
-use mathlib.Core.Path.{_≡_, refl, sym, _∙_, ap, subst}
+use mathlib.Core.Path.{_≡_, refl, sym, _∙_, ap}
 use mathlib.Core.Bool.{Bool, true, false, cond}
-use mathlib.Core.Option.{Option, none, some}
+use mathlib.Core.Option.{some}
 use mathlib.Core.List.{List, [], _∷_}
-use Prim.Native.Nat.{ℕ, zero, suc, _+_, _*_, _<_, _≤_}
+use Prim.Native.Nat.{ℕ, zero, suc, _+_}
 use native.Mathlib.Omega.{arith}
 use borrow.Author.Tests.{ne-eqb}
 use lib.Dec.{ltb}
 use lib.ListN.{length, getD}
-use Rattle.rules.specs.Limits.{mantissaLimit, scaleLimit}
+use Rattle.rules.specs.Limits.{scaleLimit}
 use Rattle.value.specs.declared.Value.{Value}
-use Rattle.value.specs.Decimal.{Valid, zeroValue, isAtMost}
+use Rattle.value.specs.Decimal.{Valid, isAtMost}
 use Rattle.language.specs.All.{All}
 use Rattle.language.specs.Listed.{At}
 use Rattle.language.specs.Syntax.{Name}

@@ -1,21 +1,20 @@
 -- Laws of sizes within the limits, of words, and of the names, strings and bounds that they tell. Assumes nothing.
-use mathlib.Core.Path.{_≡_, refl, sym, _∙_, ap}
+use mathlib.Core.Path.{_≡_, refl, sym, ap}
 use mathlib.Core.Bool.{Bool, true, false, _&&_}
-use mathlib.Core.Option.{none, some}
+use mathlib.Core.Option.{some}
 use mathlib.Core.List.{List}
 use Prim.Native.Nat.{ℕ, _+_, _-_, _*_, _/_, _%_, _<_, _≤_}
 use native.Mathlib.Omega.{arith}
 use borrow.Author.Tests.{le-leb, lt-leb, leb-true, leb-false, eq-eqb, ne-eqb}
-use lib.Dec.{leb, eqb}
-use lib.ListN.{length, take, drop, getD, length-take, length-drop, List·getD-eq-default}
+use lib.Dec.{leb}
+use lib.ListN.{length, getD, length-take, length-drop, List·getD-eq-default}
 use lib.IntN.{pos}
 use Rattle.rules.specs.Limits.{byteLimit, variableLimit, rowLimit}
 use Rattle.value.specs.declared.Value.{Value}
-use Rattle.value.specs.Decimal.{zeroValue, ofWhole}
+use Rattle.value.specs.Decimal.{ofWhole}
 use Rattle.value.proofs.Ranges.{and-false, and-left, and-right}
 use Rattle.lexer.specs.View.{partOf}
 use Rattle.tokens.specs.Stored.{placePart, payloadPart}
-use Rattle.listing.specs.declared.Upper.{Upper}
 use Rattle.listing.specs.declared.Upper.the-variants.{None, At}
 use Rattle.listing.specs.Upper.{bound}
 use Rattle.store.specs.Packed.{unpacked}

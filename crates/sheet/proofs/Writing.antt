@@ -1,5 +1,5 @@
 -- Laws of the lines that tables tell: one line written, and line after line. Assumes nothing.
-use mathlib.Core.Path.{_≡_, refl, sym, _∙_, ap}
+use mathlib.Core.Path.{_≡_, refl, _∙_, ap}
 use mathlib.Core.Bool.{Bool}
 use mathlib.Core.Option.{Option}
 use mathlib.Core.List.{List, [], _∷_}
@@ -7,16 +7,14 @@ use Prim.Native.Nat.{ℕ, zero, suc, _+_, _-_, _*_, _<_, _≤_, min}
 use native.Mathlib.Omega.{arith}
 use native.Mathlib.Numerals.{add-one}
 use lib.Dec.{leb, ltb}
-use lib.ListN.{length, take, drop, getD, drop-of-length-le}
+use lib.ListN.{length, take, drop, drop-of-length-le}
 use lib.Seq.{take-all}
-use lib.IntN.{ℤ}
 use borrow.Rule.Slice.PartMut.{putMid}
 use Rattle.rules.specs.Limits.{byteLimit}
 use Rattle.value.specs.declared.Value.{Value}
 use Rattle.value.specs.Printed.{Written}
-use Rattle.language.specs.Listed.{At, at-length}
-use Rattle.language.specs.Listing.{Line, lpLine, rowLine, varLine, endLine}
-use Rattle.lexer.specs.View.{partOf}
+use Rattle.language.specs.Listed.{At}
+use Rattle.language.specs.Listing.{Line, lpLine, rowLine, varLine}
 use Rattle.listing.specs.Shown.{shownLine, shownLines}
 use Rattle.listing.proofs.Writing.{Left, left-all, left-more, written-from}
 use Rattle.listing.proofs.Lines.{lines-end}
@@ -29,7 +27,7 @@ use Rattle.store.specs.Entries.{NameRead, ElementRead}
 use Rattle.store.proofs.Elements.{length-few}
 use Rattle.rows.specs.Bounds.{lowerWord, upperWord}
 use Rattle.sheet.specs.Columns.{slotAt}
-use Rattle.sheet.specs.Strings.{nameAt, stringAt, titleOf, lowerIn, upperIn}
+use Rattle.sheet.specs.Strings.{nameAt, titleOf, lowerIn, upperIn}
 use Rattle.sheet.specs.Told.{RowTold, VariableTold, Told, Writes, WritesAll}
 use Rattle.sheet.proofs.Words.{name-most, title-most}
 

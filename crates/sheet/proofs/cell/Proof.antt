@@ -1,49 +1,37 @@
 -- `sheet::cell` meets its contract. Assumes nothing.
-use mir.Val.{toZ}
-use mir.Syntax.{w64}
 use mathlib.Core.Path.{sym, _∙_, ap}
-use Rattle.value.proofs.Integers.{back}
 use native.Mathlib.Omega.{arith}
-use Rattle.sheet.proofs.Cells.{cell-none, cell-zero, cell-line}
 use borrow.Author.Needs.{needs}
+use mir.Syntax.{w64}
+use mir.Val.{toZ}
+use Rattle.value.proofs.Integers.{back}
+use Rattle.sheet.proofs.Cells.{cell-none, cell-zero, cell-line}
 use Rattle.sheet.proofs.cell.Statement.{statement}
 use Rattle.sheet.proofs.cell.Tie as tie
-use Rattle.sheet.proofs.cell.Reads as reads
-use Rattle.sheet.proofs.cell.Lts as lts
-use Rattle.sheet.proofs.column_line.Reads as column-line-reads
-use Rattle.sheet.proofs.value_of.Reads as value-of-reads
-use Rattle.value.proofs.is_zero.Reads as is-zero-reads
 
--- src/lib.rt:64:9
 returns : tie.Need-returns
 returns c =
     let s = c .before .before in
     (cell-none _ _ _ _ _ (sym (back (s .fits .z .sfits)) ∙ ap (toZ w64) (c .if1 .taken)), omega arith)
 
--- src/lib.rt:66:9
 value-of-requires : tie.Need-value-of-requires
 value-of-requires c κs = search needs
 
--- src/lib.rt:67:8
 is-zero-requires : tie.Need-is-zero-requires
 is-zero-requires c κs = search needs
 
--- src/lib.rt:68:9
 returns-2 : tie.Need-returns-2
 returns-2 c =
     let t = c .before .before in
     let h = rw (back (t .before .before .before .fits .z .sfits)) at (t .value-of .ensures) in
     (cell-zero _ _ _ _ _ _ _ h (c .before .is-zero .ensures) (c .if2 .taken), omega arith)
 
--- src/lib.rt:70:5
 column-line-requires : tie.Need-column-line-requires
 column-line-requires c κs = search needs
 
--- src/lib.rt:59:1
 same-length : tie.Need-same-length
 same-length c = search needs
 
--- src/lib.rt:59:1
 returns-3 : tie.Need-returns-3
 returns-3 c =
     let w = c .before .before in

@@ -1,23 +1,16 @@
 -- `sheet::column` meets its contract. Assumes nothing.
-use Rattle.sheet.proofs.Coefficients.{column-start, column-more, column-end}
-use Rattle.sheet.specs.Columns.{columnFrom}
-use Rattle.listing.proofs.Writing.{Left}
-use Rattle.listing.specs.Shown.{shownLines}
-use Rattle.value.specs.Printed.{Written}
-use Rattle.value.proofs.Writing.{written-length}
 use Prim.Native.Nat.{_+_, _-_, _*_, _≤_}
-use borrow.Author.Needs.{needs}
 use native.Mathlib.Omega.{arith}
+use borrow.Author.Needs.{needs}
+use Rattle.value.specs.Printed.{Written}
 use Rattle.value.proofs.Integers.{back}
+use Rattle.value.proofs.Writing.{written-length}
+use Rattle.listing.specs.Shown.{shownLines}
+use Rattle.listing.proofs.Writing.{Left}
+use Rattle.sheet.specs.Columns.{columnFrom}
+use Rattle.sheet.proofs.Coefficients.{column-start, column-more, column-end}
 use Rattle.sheet.proofs.column.Statement.{statement}
 use Rattle.sheet.proofs.column.Tie as tie
-use Rattle.sheet.proofs.column.Reads as reads
-use Rattle.sheet.proofs.column.Lts as lts
-use Rattle.sheet.proofs.cell.Reads as cell-reads
-use Rattle.sheet.proofs.column_line.Reads as column-line-reads
-use Rattle.sheet.proofs.count_at.Reads as count-at-reads
-use Rattle.sheet.proofs.slot.Reads as slot-reads
-use Rattle.sheet.proofs.value_of.Reads as value-of-reads
 
 abbrev Inv-loop : tie.InvT-loop
 Inv-loop matrix less rows j out₀ at next₀ i₀ out next i =
@@ -29,39 +22,30 @@ abbrev μ-loop : tie.MeasureT-loop
 abbrev start : tie.After-slice-known3 Inv-loop μ-loop → tie.Start Inv-loop μ-loop
 start c = c .before .before .before .before .before .before .before .before .before
 
--- src/lib.rt:87:5
 loop-holds : tie.Need-loop-holds Inv-loop μ-loop
 loop-holds c = (omega arith, omega arith, column-start _ _ _ _ _ _)
 
--- src/lib.rt:88:13
 slot-requires : tie.Need-slot-requires Inv-loop μ-loop
 slot-requires c κs = omega arith
 
--- src/lib.rt:89:21
 add-cell : tie.Need-add-cell Inv-loop μ-loop
 add-cell c = omega arith
 
--- src/lib.rt:89:28
 add-cell-2 : tie.Need-add-cell-2 Inv-loop μ-loop
 add-cell-2 c = omega arith
 
--- src/lib.rt:89:35
 count-at-requires : tie.Need-count-at-requires Inv-loop μ-loop
 count-at-requires c κs = omega arith
 
--- src/lib.rt:89:9
 cell-requires : tie.Need-cell-requires Inv-loop μ-loop
 cell-requires c κs = omega arith
 
--- src/lib.rt:90:9
 add-i : tie.Need-add-i Inv-loop μ-loop
 add-i c = omega arith
 
--- src/lib.rt:87:5
 loop-less : tie.Need-loop-less Inv-loop μ-loop
 loop-less c = omega arith
 
--- src/lib.rt:87:5
 loop-again : tie.Need-loop-again Inv-loop μ-loop
 loop-again c =
     let w = c .before .before in
@@ -70,23 +54,18 @@ loop-again c =
     let v = rw (back (z .count-at .ok)) at (w .cell .ensures .0) in
     (omega arith, omega arith, column-more _ _ _ _ _ _ _ (t .before .loop .inv .2) (t .loop-test .taken) (z .before .slot .ensures .0) (z .count-at .ensures) v)
 
--- src/lib.rt:92:22
 count-at-requires-2 : tie.Need-count-at-requires-2 Inv-loop μ-loop
 count-at-requires-2 c κs = omega arith
 
--- src/lib.rt:92:9
 value-of-requires : tie.Need-value-of-requires Inv-loop μ-loop
 value-of-requires c κs = search needs
 
--- src/lib.rt:93:17
 add-column-line : tie.Need-add-column-line Inv-loop μ-loop
 add-column-line c = omega arith
 
--- src/lib.rt:93:24
 add-column-line-2 : tie.Need-add-column-line-2 Inv-loop μ-loop
 add-column-line-2 c = omega arith
 
--- src/lib.rt:93:5
 column-line-requires : tie.Need-column-line-requires Inv-loop μ-loop
 column-line-requires c κs = omega arith
 
@@ -102,7 +81,6 @@ whole c =
 same-length : tie.Need-same-length Inv-loop μ-loop
 same-length c = written-length _ _ _ _ _ (whole c)
 
--- src/lib.rt:74:1
 returns : tie.Need-returns Inv-loop μ-loop
 returns c = (whole c, omega arith)
 

@@ -1,47 +1,35 @@
 -- `sheet::column_line` meets its contract. Assumes nothing.
 use native.Mathlib.Omega.{arith}
+use borrow.Author.Needs.{needs}
 use Rattle.language.specs.Listing.{colLine}
 use Rattle.listing.proofs.Lengths.{line-most}
 use Rattle.listing.proofs.Writing.{written-from}
-use borrow.Author.Needs.{needs}
 use Rattle.sheet.proofs.column_line.Statement.{statement}
 use Rattle.sheet.proofs.column_line.Tie as tie
-use Rattle.sheet.proofs.column_line.Reads as reads
-use Rattle.sheet.proofs.column_line.Lts as lts
-use Rattle.listing.proofs.column.Reads as column-reads
-use Rattle.listing.proofs.rest_from.Reads as rest-from-reads
 
--- src/lib.rt:54:9
 rest-from-requires : tie.Need-rest-from-requires
 rest-from-requires c κs = search needs
 
--- src/lib.rt:55:44
 sub-column : tie.Need-sub-column
 sub-column c = search needs
 
--- src/lib.rt:55:44
 part-column-start : tie.Need-part-column-start
 part-column-start c = search needs
 
--- src/lib.rt:55:44
 part-column-end : tie.Need-part-column-end
 part-column-end c = search needs
 
--- src/lib.rt:55:10
 column-requires : tie.Need-column-requires
 column-requires c κs = search needs
 
--- src/lib.rt:55:5
 add-result : tie.Need-add-result
 add-result c =
     let d = c .before .before in
     omega (arith, d .column .ensures .next, line-most (colLine (d .before .before .before .before .args .variable) (d .before .before .before .before .args .row) (d .before .before .before .before .args .v)))
 
--- src/lib.rt:44:1
 same-length : tie.Need-same-length
 same-length c = search needs
 
--- src/lib.rt:44:1
 returns : tie.Need-returns
 returns c =
     let d = c .before .before in

@@ -1,36 +1,25 @@
 -- `sheet::first_line` meets its contract. Assumes nothing.
-use Rattle.sheet.proofs.Writing.{first-written}
-use Rattle.sheet.proofs.Words.{string-most, part-most}
 use borrow.Author.Needs.{needs}
+use Rattle.sheet.proofs.Words.{string-most, part-most}
+use Rattle.sheet.proofs.Writing.{first-written}
 use Rattle.sheet.proofs.first_line.Statement.{statement}
 use Rattle.sheet.proofs.first_line.Tie as tie
-use Rattle.sheet.proofs.first_line.Reads as reads
-use Rattle.sheet.proofs.first_line.Lts as lts
-use Rattle.lexer.proofs.part.Reads as part-reads
-use Rattle.listing.proofs.lp.Reads as lp-reads
-use Rattle.sheet.proofs.string_at.Reads as string-at-reads
 
--- src/lib.rt:102:16
 add-rows : tie.Need-add-rows
 add-rows c = search needs
 
--- src/lib.rt:103:9
 string-at-requires : tie.Need-string-at-requires
 string-at-requires c κs = search needs
 
--- src/lib.rt:104:9
 part-requires : tie.Need-part-requires
 part-requires c κs = search needs
 
--- src/lib.rt:105:5
 lp-requires : tie.Need-lp-requires
 lp-requires c κs = search needs
 
--- src/lib.rt:90:1
 same-length : tie.Need-same-length
 same-length c = search needs
 
--- src/lib.rt:90:1
 returns : tie.Need-returns
 returns c =
     let d = c .before .before in

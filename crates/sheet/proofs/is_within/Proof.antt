@@ -2,14 +2,10 @@
 use Rattle.sheet.proofs.Words.{within-no, within-test}
 use Rattle.sheet.proofs.is_within.Statement.{statement}
 use Rattle.sheet.proofs.is_within.Tie as tie
-use Rattle.sheet.proofs.is_within.Reads as reads
-use Rattle.sheet.proofs.is_within.Lts as lts
 
--- src/lib.rt:32:9
 returns : tie.Need-returns
 returns c = within-no _ _ (c .if1 .taken)
 
--- src/lib.rt:25:1
 returns-2 : tie.Need-returns-2
 returns-2 c = within-test _ _ (c .if1 .left)
 

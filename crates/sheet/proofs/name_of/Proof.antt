@@ -1,26 +1,18 @@
 -- `sheet::name_of` meets its contract. Assumes nothing.
-use Rattle.sheet.proofs.Words.{name-is}
 use borrow.Author.Needs.{needs}
+use Rattle.sheet.proofs.Words.{name-is}
 use Rattle.sheet.proofs.name_of.Statement.{statement}
 use Rattle.sheet.proofs.name_of.Tie as tie
-use Rattle.sheet.proofs.name_of.Reads as reads
-use Rattle.sheet.proofs.name_of.Lts as lts
-use Rattle.lexer.proofs.part.Reads as part-reads
-use Rattle.sheet.proofs.row_word.Reads as row-word-reads
 
--- src/lib.rt:66:9
 row-word-requires : tie.Need-row-word-requires
 row-word-requires c κs = search needs
 
--- src/lib.rt:67:9
 row-word-requires-2 : tie.Need-row-word-requires-2
 row-word-requires-2 c κs = search needs
 
--- src/lib.rt:68:5
 part-requires : tie.Need-part-requires
 part-requires c κs = search needs
 
--- src/lib.rt:63:1
 returns : tie.Need-returns
 returns c = name-is _ _ _ _ _ _ (c .before .before .row-word .ensures) (c .before .row-word2 .ensures) (c .part .ensures)
 

@@ -1,13 +1,10 @@
 -- `sheet::row_lines` meets its contract. Assumes nothing.
-use Rattle.sheet.proofs.Writing.{Writing, writing-start, writing-more, writing-end}
-use Rattle.sheet.specs.Told.{RowTold}
 use Prim.Native.Nat.{_-_}
 use native.Mathlib.Omega.{arith}
+use Rattle.sheet.specs.Told.{RowTold}
+use Rattle.sheet.proofs.Writing.{Writing, writing-start, writing-more, writing-end}
 use Rattle.sheet.proofs.row_lines.Statement.{statement}
 use Rattle.sheet.proofs.row_lines.Tie as tie
-use Rattle.sheet.proofs.row_lines.Reads as reads
-use Rattle.sheet.proofs.row_lines.Lts as lts
-use Rattle.sheet.proofs.row_line.Reads as row-line-reads
 
 abbrev Inv-loop : tie.InvT-loop
 Inv-loop text tokens constraints rows less n out₀ at next₀ i₀ out next i = Writing (RowTold text tokens constraints rows less) n i out₀ at out next
@@ -15,34 +12,27 @@ Inv-loop text tokens constraints rows less n out₀ at next₀ i₀ out next i =
 abbrev μ-loop : tie.MeasureT-loop
 μ-loop text tokens constraints rows less n out₀ at next₀ i₀ out next i = n - i
 
--- src/lib.rt:155:5
 loop-holds : tie.Need-loop-holds Inv-loop μ-loop
 loop-holds c = writing-start _ _ _ _
 
--- src/lib.rt:156:9
 row-line-requires : tie.Need-row-line-requires Inv-loop μ-loop
 row-line-requires c κs = omega arith
 
--- src/lib.rt:157:9
 add-i : tie.Need-add-i Inv-loop μ-loop
 add-i c = omega arith
 
--- src/lib.rt:155:5
 loop-less : tie.Need-loop-less Inv-loop μ-loop
 loop-less c = omega arith
 
--- src/lib.rt:155:5
 loop-again : tie.Need-loop-again Inv-loop μ-loop
 loop-again c =
     let w = c .before .before in
     let t = w .before .before in
     writing-more _ _ (t .before .loop .inv) (t .loop-test .taken) (w .row-line .kept .1 .1 .1 .1 .1 .1 .0) (w .row-line .ensures)
 
--- src/lib.rt:140:1
 same-length : tie.Need-same-length Inv-loop μ-loop
 same-length c = c .before .loop .inv .size
 
--- src/lib.rt:140:1
 returns : tie.Need-returns Inv-loop μ-loop
 returns c = writing-end _ _ (c .before .loop .inv) (c .loop-test .left)
 

@@ -1,37 +1,27 @@
 -- `sheet::value_of` meets its contract. Assumes nothing.
+use borrow.Author.Needs.{needs}
 use Rattle.value.proofs.Integers.{back}
 use Rattle.sheet.proofs.Cells.{value-fits, value-none}
-use borrow.Author.Needs.{needs}
 use Rattle.sheet.proofs.value_of.Statement.{statement}
 use Rattle.sheet.proofs.value_of.Tie as tie
-use Rattle.sheet.proofs.value_of.Reads as reads
-use Rattle.sheet.proofs.value_of.Lts as lts
-use Rattle.value.proofs.of_millionths.Reads as of-millionths-reads
-use Rattle.value.proofs.of_whole.Reads as of-whole-reads
 
--- src/lib.rt:38:11
 of-millionths-requires : tie.Need-of-millionths-requires
 of-millionths-requires c κs = search needs
 
--- src/lib.rt:39:26
 enum-known-v : tie.Need-enum-known-v
 enum-known-v c = search needs
 
--- src/lib.rt:40:31
 enum-told : tie.Need-enum-told
 enum-told c = search needs
 
--- src/lib.rt:40:31
 of-whole-requires : tie.Need-of-whole-requires
 of-whole-requires c κs = search needs
 
--- src/lib.rt:35:1
 returns : tie.Need-returns
 returns c =
     let s = c .before .before .before in
     value-fits _ _ _ (rw (back (s .before .fits .z .sfits)) at (s .of-millionths .ensures)) (c .before .v .given .1)
 
--- src/lib.rt:35:1
 returns-2 : tie.Need-returns-2
 returns-2 c =
     let s = c .before .before .before in

@@ -1,26 +1,20 @@
 -- `sheet::word` meets its contract. Assumes nothing.
-use native.Mathlib.Omega.{arith}
 use mathlib.Core.Path.{sym}
-use lib.ListN.{List·getD-eq-default}
+use native.Mathlib.Omega.{arith}
 use borrow.Author.Needs.{needs}
+use lib.ListN.{List·getD-eq-default}
 use Rattle.sheet.proofs.word.Statement.{statement}
 use Rattle.sheet.proofs.word.Tie as tie
-use Rattle.sheet.proofs.word.Reads as reads
-use Rattle.sheet.proofs.word.Lts as lts
 
--- src/lib.rt:46:16
 mul-result : tie.Need-mul-result
 mul-result c = search needs
 
--- src/lib.rt:46:16
 shared-slice-read-result : tie.Need-shared-slice-read-result
 shared-slice-read-result c = search needs
 
--- src/lib.rt:46:9
 returns : tie.Need-returns
 returns c = search needs
 
--- src/lib.rt:42:1
 returns-2 : tie.Need-returns-2
 returns-2 c = sym (List·getD-eq-default (c .before .args .table .now) 0 (omega arith))
 

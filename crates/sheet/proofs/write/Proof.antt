@@ -1,54 +1,67 @@
+-- `sheet::write` meets its contract. Assumes nothing.
+use mathlib.Core.Path.{sym, _∙_}
+use native.Mathlib.Omega.{arith}
 use borrow.Author.Needs.{needs}
+use borrow.Author.Tests.{not-false}
+use lib.ListN.{length}
+use Rattle.sheet.proofs.Listed.{lists-none, lists-all}
+use Rattle.sheet.proofs.Words.{Within, within-yes}
 use Rattle.sheet.proofs.write.Statement.{statement}
 use Rattle.sheet.proofs.write.Tie as tie
-use Rattle.sheet.proofs.write.Reads as reads
-use Rattle.sheet.proofs.write.Lts as lts
-use Rattle.sheet.proofs.columns.Reads as columns-reads
-use Rattle.sheet.proofs.first_line.Reads as first-line-reads
-use Rattle.sheet.proofs.is_within.Reads as is-within-reads
-use Rattle.sheet.proofs.last_line.Reads as last-line-reads
-use Rattle.sheet.proofs.row_lines.Reads as row-lines-reads
-use Rattle.sheet.proofs.variable_lines.Reads as variable-lines-reads
 
--- src/lib.rt:350:9
 is-within-requires : tie.Need-is-within-requires
 is-within-requires c κs = search needs
 
--- src/lib.rt:351:9
 returns : tie.Need-returns
-returns c = ?
+returns c = lists-none _ _ _ _ _ _ _ _ _ _ _ _ _ _ _ _ (c .before .is-within .ensures) (c .if1 .taken)
 
--- src/lib.rt:354:15
+abbrev start : tie.Else1 → tie.Start
+start c = c .before .before .before .before .before .before .before .before .before .before
+
+-- the sizes are within the limits
+limits : (c : tie.Else1) → Within (length (start c .args .text .now)) (start c .args .sizes)
+limits c = within-yes _ _ (sym (c .before .is-within .ensures) ∙ not-false _ (c .if1 .left))
+
 add-all : tie.Need-add-all
-add-all c = ?
+add-all c =
+    let e = limits (c .before) in omega (arith, e .bytes, e .variables, e .rows)
 
--- src/lib.rt:356:9
 first-line-requires : tie.Need-first-line-requires
-first-line-requires c κs = ?
+first-line-requires c κs =
+    let e = limits (c .before .before) in
+    (e .bytes, e .rows)
 
--- src/lib.rt:357:9
 row-lines-requires : tie.Need-row-lines-requires
-row-lines-requires c κs = ?
+row-lines-requires c κs =
+    let e = limits (c .before .before .before .before .before .before) in
+    (e .bytes, e .rows, omega (arith, c .before .before .before .first-line .ensures .1))
 
--- src/lib.rt:358:9
 variable-lines-requires : tie.Need-variable-lines-requires
-variable-lines-requires c κs = ?
+variable-lines-requires c κs =
+    let e = limits (c .before .before .before .before .before .before .before .before .before .before) in
+    (e .bytes, e .variables, omega (arith, e .rows, c .before .before .before .row-lines .ensures .most, c .before .before .before .before .before .before .before .first-line .ensures .1))
 
--- src/lib.rt:368:9
 columns-requires : tie.Need-columns-requires
-columns-requires c κs = ?
+columns-requires c κs =
+    let e = limits (c .before .before .before .before .before .before .before .before .before .before .before .before .before .before) in
+    (e .rows, e .variables, omega (arith, e .rows, e .variables, c .before .before .before .variable-lines .ensures .most, c .before .before .before .before .before .before .before .row-lines .ensures .most, c .before .before .before .before .before .before .before .before .before .before .before .first-line .ensures .1))
 
--- src/lib.rt:369:5
 last-line-requires : tie.Need-last-line-requires
-last-line-requires c κs = ?
+last-line-requires c κs =
+    let e = limits (c .before .before .before .before .before .before .before .before .before .before .before .before .before .before .before .before .before .before) in
+    omega (arith, e .rows, e .variables, c .before .before .before .columns .ensures .1, c .before .before .before .before .before .before .before .variable-lines .ensures .most, c .before .before .before .before .before .before .before .before .before .before .before .row-lines .ensures .most, c .before .before .before .before .before .before .before .before .before .before .before .before .before .before .before .first-line .ensures .1)
 
--- src/lib.rt:333:1
 same-length : tie.Need-same-length
 same-length c = search needs
 
--- src/lib.rt:333:1
 returns-2 : tie.Need-returns-2
-returns-2 c = ?
+returns-2 c =
+    let w = c .before .before in
+    let o = w .before .before .before .before in
+    let v = o .before .before .before .before in
+    let r = v .before .before .before .before in
+    let f = r .before .before .before .before in
+    lists-all _ _ _ _ _ _ _ _ _ _ _ _ (f .first-line .ensures .0) (r .row-lines .ensures) (v .variable-lines .ensures) (o .columns .ensures .0) (w .last-line .ensures)
 
 pub write-spec : {M : Type 1} → statement M
 write-spec =
