@@ -11,21 +11,7 @@ use tokens::sorts;
 ghost use mathlib.Core.Path.{_≡_};
 ghost use Rattle.language.specs.Data.{portionOf};
 ghost use Rattle.portions.specs.Lists.{Heads};
-ghost use Rattle.steps.specs.Names.{rowWord};
 ghost use Rattle.data.specs.Portions.{headFor, CarriesOut, Uses, Fills};
-
-// The position of what the name with number i was declared with, 0 where there is no such name.
-fn start_of(names: &[u64], i: usize) -> usize
-    ensures { λ r. ⌜ r ≡ rowWord (now (names .entry)) i 4 ⌝ }
-{
-    if i < names.len() {
-        let k = i * 5 + 4;
-        if k < names.len() {
-            return names[k] as usize;
-        }
-    }
-    0
-}
 
 // The head of a portion whose name stands at `place` and has `count` indices; without indices there is none.
 fn head_of(text: &[u8], names: &[u64], tokens: &[u64], at: usize, place: u64, count: usize) -> Plan
@@ -55,7 +41,7 @@ fn carry_out(
     let head = head_of(text, names, tokens, at, place, count as usize);
     match head {
         Plan::Runs(order, entries, a) => {
-            let start = start_of(names, name);
+            let start = steps::names::word_of(names, name, 4) as usize;
             let layout = layouts::layout_of(text, names, tokens, name, start, count);
             let x = Portion {
                 name,

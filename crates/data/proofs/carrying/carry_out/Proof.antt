@@ -10,7 +10,7 @@ carry-out-spec =
     (tie.spec
     (λ c κs. search needs)  -- head-of-requires
     (λ c. search needs)  -- enum-known-head
-    (λ c κs. search needs)  -- start-of-requires
+    (λ c κs. search needs)  -- word-of-requires
     (λ c κs. search needs)  -- layout-of-requires
     (λ c κs. search needs)  -- runs-requires
     (λ c. search needs)  -- enum-known-head-2
