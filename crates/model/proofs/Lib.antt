@@ -1,1 +1,3 @@
 pub mod Declared
+pub mod Kept
+pub mod Grounds
