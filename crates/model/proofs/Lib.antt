@@ -1,3 +1,4 @@
 pub mod Declared
 pub mod Kept
 pub mod Grounds
+pub mod Laws
