@@ -131,3 +131,7 @@ module _ (s ts ts′ ns t : List ℕ) (r : Parsed) (x : Structure) (few : r .nam
             (told-at s ts′ (rowsOf (r .names) ns) [] (x .names) i y (resolved-structure .names .told) g .declares)
             (few-at (x .names) i y (few-written s (record { what = x; rest = rest }) e) g);
       }
+
+  pub ground-names : (rest : List Token) (e : structure (tokens s) ≡ done (record { what = x; rest = rest })) → ground-of rest e .names ≡ x .names
+  unfolding ground-of
+  ground-names rest e = refl

@@ -1,1 +1,3 @@
 pub mod Few
+pub mod Given
+pub mod ReadAs
