@@ -53,7 +53,7 @@ use Rattle.evaluator.proofs.Laws.{stop, refused-is, value-is, value-val
 
 -- ---- lists of names
 
-below-length : {A : Type 0} (l : List A) (i : ℕ) (x : A) → getElem? l i ≡ some x → i < length l
+pub below-length : {A : Type 0} (l : List A) (i : ℕ) (x : A) → getElem? l i ≡ some x → i < length l
 below-length [] i x e = absurd (let z : _≡_ {A = ℕ} 0 1 = cc in omega arith)
 below-length (y ∷ l) zero x e = omega arith
 below-length (y ∷ l) (suc i) x e = omega (arith, below-length l i x e)
