@@ -179,7 +179,7 @@ module _ (s ns ts ds : List ℕ) (given at i k c p : ℕ) where
       by u d st g b whole o a n m =
           let x : Portion = record { name = u .number; place = u .place; whole = whole; domain = b } in
           let declares : Declares s ns ts i c p (eqb k 1) x =
-              record { ground = d .ground; name = d .number; place = d .place; kind = a; known = below-length (d .ground .names) i (d .name) (d .stands); domain = m; long = n } in
+          record { ground = d .ground; name = d .number; place = d .place; kind = a; known = below-length (d .ground .names) i (d .name) (d .stands); domain = m; long = n } in
           rw o (subst (λ o. TakenIs o s ts ds′ r) (sym (carry-joined (d .ground .names) x st (from s ts at))) (h .is x declares st g))
 
       go : (u : Used) (d : Names s ns ts i k c p u) (st : Store) → Stores ds given st → (z : Sort) → u .sort ≡ z → Shaped z k c → TakenIs (usedIn (d .ground .names) st u (from s ts at)) s ts ds′ r

@@ -28,14 +28,7 @@ fn start_of(names: &[u64], i: usize) -> usize
 }
 
 // The head of a portion whose name stands at `place` and has `count` indices; without indices there is none.
-fn head_of(
-    text: &[u8],
-    names: &[u64],
-    tokens: &[u64],
-    at: usize,
-    place: u64,
-    count: usize,
-) -> Plan
+fn head_of(text: &[u8], names: &[u64], tokens: &[u64], at: usize, place: u64, count: usize) -> Plan
     ensures { λ r. ⌜ Heads (headFor place count) (now (text .entry)) (now (names .entry)) (now (tokens .entry)) at count r ⌝ }
 {
     if count == 0 {

@@ -86,16 +86,7 @@ fn accept(
     if !suits(x.whole, v) {
         return Accepted::Refused(rules::Refusal::NotWhole, p);
     }
-    let test = evaluator::within(
-        names,
-        tokens,
-        table,
-        given,
-        x.name,
-        x.start,
-        e,
-        x.place,
-    );
+    let test = evaluator::within(names, tokens, table, given, x.name, x.start, e, x.place);
     match test {
         Passed::Inside => enter(table, given, x.name, e, p, v),
         Passed::Refused(n, q) => Accepted::Refused(n, q),

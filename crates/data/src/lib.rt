@@ -4,6 +4,7 @@ pub mod entering;
 pub mod layouts;
 pub mod running;
 pub mod sections;
+
 use sections::Section;
 use tokens::Move;
 ghost use mathlib.Core.Path.{_≡_};
@@ -17,13 +18,7 @@ pub enum Given {
 }
 
 // At most one data section, `CLOSE` and the text's end. The store starts empty.
-pub fn read(
-    text: &[u8],
-    names: &[u64],
-    tokens: &[u64],
-    table: &mut [u64; 8192],
-    at: usize,
-) -> Given
+pub fn read(text: &[u8], names: &[u64], tokens: &[u64], table: &mut [u64; 8192], at: usize) -> Given
     ensures { λ r. ⌜ ReadsData (now (text .entry)) (now (names .entry)) (now (tokens .entry)) at r (now (table .exit)) ⌝ }
 {
     let data = sections::optional_section(text, names, tokens, table, at);
