@@ -1,5 +1,5 @@
 -- What evaluation needs of the tables of a text whose structure was read. Assumes nothing.
-use mathlib.Core.Path.{_≡_, refl, sym, _∙_, ap, subst}
+use mathlib.Core.Path.{_≡_, refl, sym, _∙_, subst}
 use mathlib.Core.Bool.{Bool}
 use mathlib.Core.Option.{some}
 use mathlib.Core.List.{List, [], _∷_, _++_, append-assoc, append-nil}
@@ -15,16 +15,13 @@ use Rattle.lexer.specs.Text
 use Rattle.language.specs.Outcome.{done}
 use Rattle.language.specs.Syntax.{Name, Sort, Spans, Structure}
 use Rattle.language.specs.Syntax
-use Rattle.language.specs.Reader.{Read}
 use Rattle.language.specs.Grammar.{structure}
-use Rattle.language.specs.All.{All}
 use Rattle.language.proofs.Shapes.{AllShaped, tokens-shaped}
 use Rattle.walk.proofs.WalkedDomain.{due-reads}
-use Rattle.tokens.specs.Stored.{kindPart, placePart, payloadPart, view, from, Named, rowsOf}
+use Rattle.tokens.specs.Stored.{view, from, Named, rowsOf}
 use Rattle.scanner.specs.Table.{Holds}
-use Rattle.scanner.proofs.Calls.{holds-from}
-use Rattle.steps.specs.Names.{rowWord, Resolved, Resolves}
-use Rattle.declarations.specs.Tables.{Spanned, Declares, Told, NamesAre}
+use Rattle.steps.specs.Names.{rowWord, Resolves}
+use Rattle.declarations.specs.Tables.{Spanned, Declares, Told}
 use Rattle.parser.specs.declared.Parsed.{Parsed}
 use Rattle.parser.specs.Parsed.{StructureAt}
 use Rattle.evaluator.specs.Tables.{DomainAt, Stands}

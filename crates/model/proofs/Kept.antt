@@ -7,7 +7,7 @@ use Rattle.language.specs.Syntax
 use Rattle.language.specs.Reader.{Reader}
 use Rattle.tokens.specs.Stored.{from, Stands, rowsOf}
 use Rattle.declarations.specs.Tables.{Spanned, Declares, Told, NamesAre}
-use Rattle.constraints.specs.Rows.{SideAt, RowOf, Rows}
+use Rattle.constraints.specs.Rows.{RowOf, Rows}
 use Rattle.parser.specs.declared.Parsed.{Parsed}
 use Rattle.parser.specs.Parsed.{FormAt, StructureAt}
 

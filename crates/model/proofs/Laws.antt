@@ -16,15 +16,15 @@ use Rattle.language.specs.Data.{readData}
 use Rattle.language.specs.Model.{model, whatOf, readModel}
 use Rattle.tokens.specs.declared.Move.the-variants.{At, Refused}
 use Rattle.tokens.specs.Stored.{from, rowsOf}
-use Rattle.scanner.specs.Table.{Holds, Scanned}
+use Rattle.scanner.specs.Table.{Scanned}
 use Rattle.scanner.proofs.Calls.{table-holds, holds-from}
 use Rattle.steps.specs.Names.{Resolves}
 use Rattle.parser.specs.declared.Parsed.{Parsed}
 use Rattle.parser.specs.Parsed.{StructureAt, Parsing, ParsedAs}
 use Rattle.evaluator.specs.Ground.{Ground}
-use Rattle.model.specs.declared.Given.{Given}
-use Rattle.model.specs.declared.Given.the-variants as given
-use Rattle.model.specs.Given.{GivenIs, ReadsData}
+use Rattle.data.specs.declared.Given.{Given}
+use Rattle.data.specs.declared.Given.the-variants as given
+use Rattle.data.specs.Sections.{GivenIs, ReadsData}
 use Rattle.model.specs.declared.End.the-variants as ends
 use Rattle.model.specs.declared.Model.{Model}
 use Rattle.model.specs.ReadAs.{Scans, noModel, modelOf, Finishes, Reading, ReadAs}

@@ -13,6 +13,7 @@ use Rattle.evaluator.specs.Tables.{World}
 use Rattle.evaluator.specs.Ground.{worldOn}
 use Rattle.evaluator.specs.Cycle.{nothingBound}
 use Rattle.elements.specs.Placed.{Placed}
+use Rattle.data.proofs.Rows.{stores-given}
 use Rattle.model.specs.declared.Model.{Model}
 use Rattle.model.specs.declared.End.the-variants.{Read, Refused}
 use Rattle.model.specs.ReadAs.{ModelAt, Reading, ReadAs}
@@ -53,7 +54,7 @@ pub record Holds (s ns ts ds : List ℕ) (given : ℕ) (m : language.Model) : Ty
 pub model-holds : (s ts ns cs ds : List ℕ) (r : Model) (m : language.Model) → ModelAt s ts ns cs ds r m → Holds s (rowsOf (r .names) ns) ts ds (r .given) m
 model-holds s ts ns cs ds r m h =
     record {
-      world = worldOn (h .ground) (h .store .given);
+      world = worldOn (h .ground) (stores-given ds (r .given) (m .given .store) (h .store));
       text = refl;
       names = h .names;
       known = refl;

@@ -1,6 +1,6 @@
 -- Declared domains of at most four indices. Assumes nothing.
 use mathlib.Core.List.{List}
-use Prim.Native.Nat.{ℕ, _≤_}
+use Prim.Native.Nat.{_≤_}
 use Rattle.rules.specs.Limits.{indexLimit}
 use Rattle.language.specs.Syntax.{Sort, Name}
 use Rattle.language.specs.Syntax

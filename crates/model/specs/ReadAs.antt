@@ -16,9 +16,10 @@ use Rattle.parser.specs.declared.Parsed.{Parsed}
 use Rattle.parser.specs.Parsed.{StructureAt}
 use Rattle.evaluator.specs.Ground.{Ground}
 use Rattle.elements.specs.Placed.{Placed}
-use Rattle.model.specs.declared.Given.{Given}
-use Rattle.model.specs.declared.Given.the-variants as given
-use Rattle.model.specs.Given.{Stores, ReadsData}
+use Rattle.data.specs.declared.Given.{Given}
+use Rattle.data.specs.declared.Given.the-variants as given
+use Rattle.data.specs.Stores.{Stores}
+use Rattle.data.specs.Sections.{ReadsData}
 use Rattle.model.specs.declared.End.{End}
 use Rattle.model.specs.declared.End.the-variants.{Read, Refused}
 use Rattle.model.specs.declared.Model.{Model}

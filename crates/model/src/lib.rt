@@ -1,4 +1,5 @@
 // A model text read into tables: its tokens, its names, its constraints and its data.
+use data::Given;
 use tokens::Move;
 ghost use mathlib.Core.Path.{_≡_};
 ghost use Prim.Native.Nat.{_≤_};
@@ -6,17 +7,12 @@ ghost use lib.ListN.{length, take};
 ghost use Rattle.tokens.specs.Stored.{rowsOf};
 ghost use Rattle.steps.specs.Names.{Resolves};
 ghost use Rattle.parser.specs.Parsed.{ParsedAs};
-ghost use Rattle.model.specs.Given.{ReadsData};
+ghost use Rattle.data.specs.Sections.{ReadsData};
 ghost use Rattle.model.specs.ReadAs.{Scans, noModel, modelOf, Finishes, ReadAs};
 
 // A text is a model, or it is refused.
 pub enum End {
     Read,
-    Refused(rules::Refusal, u64),
-}
-
-pub enum Given {
-    Of(u64, u64, usize),
     Refused(rules::Refusal, u64),
 }
 
@@ -80,7 +76,8 @@ fn read_section(
     requires { ⌜ (n ≤ length (now tokens)) × (320 ≤ length (now names)) × (count ≤ 64) ⌝ }
     ensures { λ r. ⌜ ReadsData (now (text .entry)) (rowsOf count (now (names .entry))) (take n (now (tokens .entry))) at r (now (store .exit)) ⌝ }
 {
-    Given::Refused(rules::Refusal::Full, 0)
+    let k = count * 5;
+    data::read(text, &names[..k], &tokens[..n], store, at)
 }
 
 // No model.
