@@ -68,7 +68,7 @@ as-done : {A : Type 0} (o : Outcome A) (l : List Token) (a : A) (r : List Token)
 as-done (done b) l a r e = ap done (same-what e)
 as-done (refused k q) l a r e = absurd (let z : _≡_ {A = ℕ} 0 1 = cc in omega arith)
 
-only-as : {A : Type 0} (o : Outcome A) (l : List Token) → onlyOutcome (asRead o l) ≡ o
+pub only-as : {A : Type 0} (o : Outcome A) (l : List Token) → onlyOutcome (asRead o l) ≡ o
 only-as (done a) l = refl
 only-as (refused m p) l = refl
 

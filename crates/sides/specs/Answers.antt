@@ -7,6 +7,7 @@ use Prim.Native.Nat.{ℕ, _<_}
 use lib.ListN.{length}
 use lib.IntN.{ℤ}
 use Rattle.rules.specs.Limits.{nestingLimit}
+use Rattle.value.specs.declared.Value.{Value}
 use Rattle.value.specs.Decimal.{Valid}
 use Rattle.lexer.specs.Text.{Token}
 use Rattle.language.specs.Outcome.{Outcome, done, refused}
@@ -82,32 +83,39 @@ pub record BoundIs (ns ts ds : List ℕ) (given : ℕ) (xs : List ℕ) (total le
 
 -- ---- rows
 
--- m holds the row that was gathered, each coefficient under the sign b
-abbrev pub Holds : List Variable → Bool → Outcome Row → Passed → List ℤ → Type 0
-Holds vs b o passed.Inside m = (cs : Row) × ((o ≡ done cs) × RowOf vs m (map (signed b) cs))
-Holds vs b o (passed.Refused r p) m = o ≡ refused r p
+abbrev pub asIs : Row → Row
+asIs r = r
 
--- the row of the linear form at a position, from any counts m, one for each variable
-module _ (ns ts ds : List ℕ) (given : ℕ) (xs : List ℕ) (total level : ℕ) (sc : Scope) (at : ℕ) (m : List ℤ) (r : Passed) (m′ : List ℤ) where
-  pub record GatheredIs : Type 0 where
-    pub size : length m′ ≡ length m
-    pub is : (w : Model ns ts ds given xs total) → Small sc → length m ≡ total → (x : Linear) → FormAt w level at x
-        → Holds (w .variables) false (gathered (w .variables) (x .form) (under (w .world) sc)) r m′
+-- m holds what F makes of the row that was gathered
+pub record Held (vs : List Variable) (F : Row → Row) (o : Outcome Row) (m : List ℤ) : Type 0 where
+  pub coefficients : Row
+  pub is : o ≡ done coefficients
+  pub counts : RowOf vs m (F coefficients)
 
--- the row of an objective, negated for a minimum
-pub record ObjectiveIs (b : Bool) (ns ts ds : List ℕ) (given : ℕ) (xs : List ℕ) (total level : ℕ) (sc : Scope) (at : ℕ) (m : List ℤ) (r : Passed) (m′ : List ℤ) : Type 0 where
+abbrev pub Holds : List Variable → (Row → Row) → Outcome Row → Passed → List ℤ → Type 0
+Holds vs F o passed.Inside m = Held vs F o m
+Holds vs F o (passed.Refused r p) m = o ≡ refused r p
+
+-- the row of the linear form at a position, whatever the counts m were, one for each variable
+pub record GathersTo (F : Row → Row) (ns ts ds : List ℕ) (given : ℕ) (xs : List ℕ) (total level : ℕ) (sc : Scope) (at : ℕ) (m : List ℤ) (r : Passed) (m′ : List ℤ) : Type 0 where
   pub size : length m′ ≡ length m
   pub is : (w : Model ns ts ds given xs total) → Small sc → length m ≡ total → (x : Linear) → FormAt w level at x
-      → Holds (w .variables) b (gathered (w .variables) (x .form) (under (w .world) sc)) r m′
+      → Holds (w .variables) F (gathered (w .variables) (x .form) (under (w .world) sc)) r m′
 
 -- each coefficient that the counts hold comes under the sign b
 pub record Turns (b : Bool) (m m′ : List ℤ) : Type 0 where
   pub size : length m′ ≡ length m
   pub of : (vs : List Variable) (r : Row) → RowOf vs m r → RowOf vs m′ (map (signed b) r)
 
--- m holds the row's coefficients, and the right side fits
+-- m holds the row's coefficients, and the right side v fits
+pub record RowOn (vs : List Variable) (o : Outcome Fact) (v : Value) (m : List ℤ) : Type 0 where
+  pub coefficients : Row
+  pub is : o ≡ done (row coefficients v)
+  pub counts : RowOf vs m coefficients
+  pub valid : Valid v
+
 abbrev pub Rowed : List Variable → Outcome Fact → Right → List ℤ → Type 0
-Rowed vs o (right.At v) m = (cs : Row) × ((o ≡ done (row cs v)) × RowOf vs m cs × Valid v)
+Rowed vs o (right.At v) m = RowOn vs o v m
 Rowed vs o (right.Refused r p) m = o ≡ refused r p
 
 -- the row of a side that states none, under a relation that flips both sides or not

@@ -11,7 +11,9 @@ use tokens::Move;
 use tokens::Seen;
 use tokens::marks;
 use value::Value;
-ghost use Rattle.sides.specs.Answers.{IsAlone, IsBare, NumberOf, BoundIs, GatheredIs, Turns, RightIs, ObjectiveIs};
+ghost use mathlib.Core.List.{map};
+ghost use Rattle.language.specs.Numbering.{signed};
+ghost use Rattle.sides.specs.Answers.{IsAlone, IsBare, NumberOf, BoundIs, GathersTo, asIs, Turns, RightIs};
 
 // A variable's number from 0 and the right side.
 pub enum Bounded {
@@ -154,7 +156,7 @@ fn gather(
     at: usize,
     counts: &mut [i64],
 ) -> Passed
-    ensures { λ r. ⌜ GatheredIs (now (names .entry)) (now (tokens .entry)) (now (table .entry)) (cx .given) (now (variables .entry)) total (cx .level) (cx .scope) at (now (counts .entry)) r (now (counts .exit)) ⌝ }
+    ensures { λ r. ⌜ GathersTo asIs (now (names .entry)) (now (tokens .entry)) (now (table .entry)) (cx .given) (now (variables .entry)) total (cx .level) (cx .scope) at (now (counts .entry)) r (now (counts .exit)) ⌝ }
 {
     rows::clear(counts);
     let form = gatherer::gathered(names, tokens, table, variables, total, cx, at, counts);
@@ -215,7 +217,7 @@ pub fn objective_at(
     minimize: bool,
     counts: &mut [i64],
 ) -> Passed
-    ensures { λ r. ⌜ ObjectiveIs minimize (now (names .entry)) (now (tokens .entry)) (now (table .entry)) (cx .given) (now (variables .entry)) total (cx .level) (cx .scope) at (now (counts .entry)) r (now (counts .exit)) ⌝ }
+    ensures { λ r. ⌜ GathersTo (map (signed minimize)) (now (names .entry)) (now (tokens .entry)) (now (table .entry)) (cx .given) (now (variables .entry)) total (cx .level) (cx .scope) at (now (counts .entry)) r (now (counts .exit)) ⌝ }
 {
     let form = gather(names, tokens, table, variables, total, cx, at, counts);
     turn(minimize, counts);
