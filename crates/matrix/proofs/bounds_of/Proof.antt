@@ -1,94 +1,72 @@
+-- `matrix::bounds_of` meets its contract. Assumes nothing.
+use Rattle.elements.specs.Steps.{turnsLeft}
+use Rattle.matrix.proofs.Looping.{BoundsOn, next-less, bounds-start, bounds-done, bounds-stopped, bounds-refused, bounds-more}
+use borrow.Author.Needs.{needs}
 use Rattle.matrix.proofs.bounds_of.Statement.{statement}
 use Rattle.matrix.proofs.bounds_of.Tie as tie
-use Rattle.matrix.proofs.bounds_of.Reads as reads
-use Rattle.matrix.proofs.bounds_of.Lts as lts
-use Rattle.elements.proofs.first.Reads as first-reads
-use Rattle.elements.proofs.here.Here.scope.Reads as scope-reads
-use Rattle.elements.proofs.next.Reads as next-reads
-use Rattle.matrix.proofs.bound.Reads as bound-reads
-use Rattle.steps.proofs.scope.Scope.none.Reads as none-reads
 
 abbrev Inv-loop : tie.InvT-loop
-Inv-loop names tokens table given variables total parts bounds₀ cx step₀ bounds step = ?
+Inv-loop names tokens table given variables total parts bounds₀ cx step₀ bounds step = BoundsOn names tokens table given variables total parts bounds₀ bounds step
 
 abbrev μ-loop : tie.MeasureT-loop
-μ-loop names tokens table given variables total parts bounds₀ cx step₀ bounds step = ?
+μ-loop names tokens table given variables total parts bounds₀ cx step₀ bounds step = turnsLeft step
 
--- src/lib.rt:194:9
 none-requires : tie.Need-none-requires Inv-loop μ-loop
-none-requires c κs = ?
+none-requires c κs = search needs
 
--- src/lib.rt:201:9
 first-requires : tie.Need-first-requires Inv-loop μ-loop
-first-requires c κs = ?
+first-requires c κs = search needs
 
--- src/lib.rt:202:5
 loop-holds : tie.Need-loop-holds Inv-loop μ-loop
-loop-holds c = ?
+loop-holds c = search bounds-start depth 6
 
--- src/lib.rt:204:22
 enum-known-step : tie.Need-enum-known-step Inv-loop μ-loop
-enum-known-step c = ?
+enum-known-step c = search needs
 
--- src/lib.rt:213:21
 scope-requires : tie.Need-scope-requires Inv-loop μ-loop
-scope-requires c κs = ?
+scope-requires c κs = search needs
 
--- src/lib.rt:205:21
 bound-requires : tie.Need-bound-requires Inv-loop μ-loop
-bound-requires c κs = ?
+bound-requires c κs = search needs
 
--- src/lib.rt:218:25
 enum-told : tie.Need-enum-told Inv-loop μ-loop
-enum-told c = ?
+enum-told c = search needs
 
--- src/lib.rt:218:25
 next-requires : tie.Need-next-requires Inv-loop μ-loop
-next-requires c κs = ?
+next-requires c κs = search needs
 
--- src/lib.rt:202:5
 loop-less : tie.Need-loop-less Inv-loop μ-loop
-loop-less c = ?
+loop-less c = search next-less depth 5
 
--- src/lib.rt:202:5
 loop-again : tie.Need-loop-again Inv-loop μ-loop
-loop-again c = ?
+loop-again c = search bounds-more depth 10
 
--- src/lib.rt:220:37
 enum-known-r : tie.Need-enum-known-r Inv-loop μ-loop
-enum-known-r c = ?
+enum-known-r c = search needs
 
--- src/lib.rt:221:25
 same-length : tie.Need-same-length Inv-loop μ-loop
-same-length c = ?
+same-length c = search needs
 
--- src/lib.rt:221:25
 returns : tie.Need-returns Inv-loop μ-loop
-returns c = ?
+returns c = search bounds-refused depth 8
 
--- src/lib.rt:226:17
 enum-told-2 : tie.Need-enum-told-2 Inv-loop μ-loop
-enum-told-2 c = ?
+enum-told-2 c = search needs
 
--- src/lib.rt:226:17
 same-length-2 : tie.Need-same-length-2 Inv-loop μ-loop
-same-length-2 c = ?
+same-length-2 c = search needs
 
--- src/lib.rt:226:17
 returns-2 : tie.Need-returns-2 Inv-loop μ-loop
-returns-2 c = ?
+returns-2 c = search bounds-done depth 5
 
--- src/lib.rt:228:27
 enum-known-step-2 : tie.Need-enum-known-step-2 Inv-loop μ-loop
-enum-known-step-2 c = ?
+enum-known-step-2 c = search needs
 
--- src/lib.rt:229:17
 same-length-3 : tie.Need-same-length-3 Inv-loop μ-loop
-same-length-3 c = ?
+same-length-3 c = search needs
 
--- src/lib.rt:229:17
 returns-3 : tie.Need-returns-3 Inv-loop μ-loop
-returns-3 c = ?
+returns-3 c = search bounds-stopped depth 5
 
 pub bounds-of-spec : {M : Type 1} → statement M
 bounds-of-spec =
