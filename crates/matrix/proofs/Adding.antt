@@ -1,10 +1,10 @@
 -- Laws of one element of a constraint: the entry that it adds, as a row in its slot or as a bound. Assumes nothing.
 use mathlib.Core.Path.{_≡_, refl, sym, _∙_, ap, subst}
-use mathlib.Core.Bool.{Bool, true, false}
+use mathlib.Core.Bool.{Bool, true, false, not}
 use mathlib.Core.List.{List, [], _∷_, _++_}
 use Prim.Native.Nat.{ℕ, _+_, _-_, _*_, _<_, _≤_}
 use native.Mathlib.Omega.{arith}
-use borrow.Author.Tests.{lt-ltb, le-ltb, ltb-true, ltb-false}
+use borrow.Author.Tests.{lt-ltb, le-ltb, ltb-true, ltb-false, not-true, not-false}
 use borrow.Rule.Slice.PartMut.{putMid, mid-len}
 use lib.Dec.{ltb}
 use lib.ListN.{length, take, drop}
@@ -131,7 +131,7 @@ module _ (ns ts ds : List ℕ) (given : ℕ) (xs : List ℕ) (total : ℕ) where
           → RowOn (w .variables) (factOf (w .variables) (c .left) (c .relation) (c .right) (under (w .world) sc)) v q
       on w c k b sm = subst (λ z. Rowed (w .variables) (factOf (w .variables) (c .left) (c .relation) (c .right) (under (w .world) sc)) z q) i (rowed w c k b sm)
 
-      pub row-full : room ≡ false → RowAdds ns ts ds given xs total n p sc (listOf e) f t m (generated.Refused Full (p .place)) t after
+      pub row-full : not room ≡ true → RowAdds ns ts ds given xs total n p sc (listOf e) f t m (generated.Refused Full (p .place)) t after
       unfolding rowLimit
       row-full z =
           record {
@@ -139,11 +139,11 @@ module _ (ns ts ds : List ℕ) (given : ℕ) (xs : List ℕ) (total : ℕ) where
             adds = λ w c k b sm sub bs es st.
                 let x = on w c k b sm in
                 row-refused-full (w .variables) n c (under (w .world) sc) (listOf e) es (x .coefficients) v (x .is)
-                (omega (arith, counted _ _ _ _ _ es (st .rows), ltb-false (f .less + f .equal) 512 (sym hr ∙ z)))
+                (omega (arith, counted _ _ _ _ _ es (st .rows), ltb-false (f .less + f .equal) 512 (sym hr ∙ not-true room z)))
                 ∙ ap (refused Full) (k .tells .place);
           }
 
-      pub row-written : room ≡ true → 2048 ≤ length t → (g : Filled) (t′ : List ℕ) → Wrote t f (p .equal) n (listOf e) v g t′
+      pub row-written : not room ≡ false → 2048 ≤ length t → (g : Filled) (t′ : List ℕ) → Wrote t f (p .equal) n (listOf e) v g t′
           → RowAdds ns ts ds given xs total n p sc (listOf e) f t m (generated.Of g) t′ after
       unfolding rowLimit
       row-written z size g t′ wr =
@@ -151,7 +151,7 @@ module _ (ns ts ds : List ℕ) (given : ℕ) (xs : List ℕ) (total : ℕ) where
             stays = stays;
             adds = λ w c k b sm sub bs es st.
                 let x = on w c k b sm in
-                let low : f .less + f .equal < 512 = ltb-true (f .less + f .equal) 512 (sym hr ∙ z) in
+                let low : f .less + f .equal < 512 = ltb-true (f .less + f .equal) 512 (sym hr ∙ not-false room z) in
                 let entry = made n c (listOf e) (row (x .coefficients) v) in
                 let size-is : total ≡ length (w .variables) = w .held .count in
                 record {
