@@ -1,7 +1,7 @@
 -- Laws of one element of a constraint: the entry that it adds, as a row in its slot or as a bound. Assumes nothing.
 use mathlib.Core.Path.{_≡_, refl, sym, _∙_, ap, subst}
 use mathlib.Core.Bool.{Bool, true, false, not}
-use mathlib.Core.List.{List, [], _∷_, _++_}
+use mathlib.Core.List.{List, [], _∷_, _++_, map}
 use Prim.Native.Nat.{ℕ, _+_, _-_, _*_, _<_, _≤_}
 use native.Mathlib.Omega.{arith}
 use borrow.Author.Tests.{lt-ltb, le-ltb, ltb-true, ltb-false, not-true, not-false}
@@ -12,39 +12,41 @@ use lib.Seq.{take-all}
 use lib.IntN.{ℤ}
 use Rattle.rules.specs.declared.Refusal.{Refusal}
 use Rattle.rules.specs.declared.Refusal.the-variants.{Full}
-use Rattle.rules.specs.Limits.{rowLimit, nameLimit, nestingLimit}
+use Rattle.rules.specs.Limits.{rowLimit, nameLimit, nestingLimit, variableLimit}
 use Rattle.value.specs.declared.Value.{Value}
 use Rattle.value.specs.Decimal.{Valid}
 use Rattle.language.specs.Outcome.{Outcome, done, refused}
 use Rattle.language.specs.Scope.{Scope as Bindings}
-use Rattle.language.specs.Syntax.{Name, Constraint}
+use Rattle.language.specs.Syntax.{Name, Form, Constraint}
 use Rattle.language.specs.Formulas.{formulaAt}
-use Rattle.language.specs.Numbering.{Variable, Row, Fact, bound, row, Entry, isRow, keep, anyRow, factOf, rowCount, addEntry}
+use Rattle.language.specs.Linear.{Linear, linearAt}
+use Rattle.language.specs.Numbering.{Variable, Row, signed, gathered, Fact, bound, row, Entry, isRow, keep, anyRow, factOf, rowCount, addEntry}
 use Rattle.tokens.specs.Stored.{Stands}
 use Rattle.store.specs.declared.Element.{Element}
 use Rattle.store.specs.Element.{listOf, Subscripts}
 use Rattle.steps.specs.declared.scope.Scope.{Scope}
-use Rattle.steps.specs.Scopes.{Small}
+use Rattle.steps.specs.Scopes.{bindingsOf, scopeOf, Small}
+use Rattle.steps.proofs.Scopes.{small-none}
 use Rattle.evaluator.specs.declared.Passed.{Passed}
 use Rattle.evaluator.specs.declared.Passed.the-variants as passed
 use Rattle.evaluator.specs.Tables.{World}
-use Rattle.evaluator.specs.Cycle.{seenBy, under}
+use Rattle.evaluator.specs.Cycle.{seenBy, nothingBound, under}
 use Rattle.constraints.specs.Rows.{SideAt}
 use Rattle.parts.specs.declared.Parts.{Parts}
 use Rattle.rows.specs.declared.Filled.{Filled}
 use Rattle.rows.specs.Slots.{countsAt, objectiveRow, nextSlot, RowsHeld, RowPut, Wrote}
 use Rattle.rows.specs.Bounds.{BoundsHeld, boundStated}
 use Rattle.rows.proofs.Parts.{row-put}
-use Rattle.rows.proofs.Slotting.{rows-counted, next-within, row-added, bound-passed}
+use Rattle.rows.proofs.Slotting.{rows-counted, next-within, row-added, bound-passed, objective-put}
 use Rattle.rows.proofs.Bounding.{bound-added, row-passed}
 use Rattle.gatherer.specs.Cycle.{Model}
 use Rattle.sides.specs.declared.Bounded.{Bounded}
 use Rattle.sides.specs.declared.Bounded.the-variants as bounded
 use Rattle.sides.specs.declared.Right.{Right}
 use Rattle.sides.specs.declared.Right.the-variants as right
-use Rattle.sides.specs.Answers.{isBare, boundOutcome, Sound, BoundIs, RowOn, Rowed, RightIs}
+use Rattle.sides.specs.Answers.{isBare, boundOutcome, Sound, BoundIs, Holds, GathersTo, RowOn, Rowed, RightIs}
 use Rattle.matrix.specs.declared.Generated.the-variants as generated
-use Rattle.matrix.specs.Answers.{State, Added, Adds, Stays, Takes, RowAdds, BoundAdds}
+use Rattle.matrix.specs.Answers.{State, Added, Adds, Stays, Takes, RowAdds, BoundAdds, ObjectiveAdds, ObjectiveIs}
 
 -- ---- what the definition adds
 
@@ -196,3 +198,44 @@ module _ (ns ts ds : List ℕ) (given : ℕ) (xs : List ℕ) (total : ℕ) where
                     };
               };
         }
+
+-- ---- the objective
+
+-- nothing is bound in an empty scope
+pub under-none : {ns ts ds : List ℕ} {given : ℕ} (w : World ns ts ds given) (sc : Scope) → bindingsOf sc ≡ [] → under w sc ≡ nothingBound w
+unfolding scopeOf
+under-none w sc h = rw h
+
+module _ (b : Bool) (ns ts ds : List ℕ) (given : ℕ) (xs : List ℕ) (total at : ℕ) where
+  pub objective-many : (r : Passed) (m′ : List ℤ) → 512 < total → ObjectiveIs b ns ts ds given xs total at r m′
+  unfolding variableLimit
+  objective-many r m′ h = record { is = λ g. absurd (omega arith) }
+
+  module _ (m : List ℤ) (few : total ≤ 512) (slot : ℕ) (hs : slot ≡ 512) (wide : 263168 ≤ length m) (sc : Scope) (none : bindingsOf sc ≡ []) (r : Passed) (q : List ℤ)
+      (kept : length q ≡ length (take (slot * 512 + total - slot * 512) (drop (slot * 512) m)))
+      (h : GathersTo (map (signed b)) ns ts ds given xs total 64 sc at (take (slot * 512 + total - slot * 512) (drop (slot * 512) m)) r q) where
+    abbrev whole : List ℤ
+    whole = putMid (slot * 512) (slot * 512 + total - slot * 512) m q
+
+    gathers : (w : Model ns ts ds given xs total) (x : Linear) → Stands (linearAt (w .world .names) nestingLimit) (w .world .text) ts at x
+        → Holds (w .variables) (map (signed b)) (gathered (w .variables) (x .form) (nothingBound (w .world))) r q
+    gathers w x st =
+        subst (λ z. Holds (w .variables) (map (signed b)) (gathered (w .variables) (x .form) z) r q) (under-none (w .world) sc none)
+        (h .is w (small-none sc none) (mid-len (slot * 512) (slot * 512 + total) m (omega arith) ∙ omega arith) x
+        (subst (λ z. Stands (linearAt z nestingLimit) (w .world .text) ts at x) (sym (seen-all ns ts ds given xs total (w .world))) st))
+
+    pub objective-is : ObjectiveIs b ns ts ds given xs total at r whole
+    objective-is = record { is = λ g w x st. go w (x .form) r (gathers w x st) }
+      where
+        put : RowPut total m slot q whole
+        put = row-put m q total slot (slot * 512) (slot * 512 + total) refl refl few (omega arith) kept
+
+        go : (w : Model ns ts ds given xs total) (f : Form) (r : Passed) → Holds (w .variables) (map (signed b)) (gathered (w .variables) f (nothingBound (w .world))) r q
+            → ObjectiveAdds (w .variables) b (gathered (w .variables) f (nothingBound (w .world))) r whole
+        go w f passed.Inside y =
+            record {
+              coefficients = y .coefficients;
+              is = y .is;
+              held = objective-put (w .variables) m whole q slot (map (signed b) (y .coefficients)) hs (subst (λ z. RowPut z m slot q whole) (w .held .count) put) (y .counts);
+            }
+        go w f (passed.Refused n p) y = y

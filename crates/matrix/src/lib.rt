@@ -10,6 +10,7 @@ use sides::Bounded;
 use sides::Right;
 use steps::scope::Scope;
 use store::Element;
+ghost use mathlib.Core.Path.{_≡_};
 ghost use Prim.Native.Nat.{_≤_};
 ghost use lib.ListN.{length};
 ghost use Rattle.store.specs.Element.{listOf};
@@ -291,7 +292,7 @@ fn all(
     bounds: &mut [u64],
     counts: &mut [i64],
 ) -> Generated
-    requires { ⌜ (total ≤ 512) × (2048 ≤ length (now slots)) × (1024 ≤ length (now bounds)) × (263168 ≤ length (now counts)) ⌝ }
+    requires { ⌜ (total ≤ 512) × (2048 ≤ length (now slots)) × (1024 ≤ length (now bounds)) × (263168 ≤ length (now counts)) × (320 ≤ length (now constraints)) ⌝ }
     ensures { λ r. ⌜ AllAdd (now (text .entry)) (now (names .entry)) (now (tokens .entry)) (now (table .entry)) given (now (variables .entry)) total (now (constraints .entry)) count (now (bounds .entry)) (now (counts .entry)) r (now (slots .exit)) (now (bounds .exit)) (now (counts .exit)) ⌝ }
 {
     let mut f = Filled { less: 0, equal: 0 };
@@ -330,7 +331,7 @@ pub fn constraints(
     given: usize,
     variables: &[u64],
     total: usize,
-    constraints: &[u64],
+    constraints: &[u64; 320],
     count: usize,
     slots: &mut [u64; 2048],
     bounds: &mut [u64; 1024],
@@ -359,6 +360,7 @@ pub fn constraints(
 
 // ---- the objective
 
+// The objective's row of counts, behind the slots.
 fn objective_row(
     names: &[u64],
     tokens: &[u64],
@@ -368,9 +370,10 @@ fn objective_row(
     total: usize,
     at: usize,
     minimize: bool,
+    slot: usize,
     counts: &mut [i64],
 ) -> Passed
-    requires { ⌜ (total ≤ 512) × (263168 ≤ length (now counts)) ⌝ }
+    requires { ⌜ (total ≤ 512) × (slot ≡ 512) × (263168 ≤ length (now counts)) ⌝ }
     ensures { λ r. ⌜ ObjectiveIs minimize (now (names .entry)) (now (tokens .entry)) (now (table .entry)) given (now (variables .entry)) total at r (now (counts .exit)) ⌝ }
 {
     let scope = Scope::none();
@@ -380,7 +383,7 @@ fn objective_row(
         nest: rules::NESTING_LIMIT,
         scope,
     };
-    let a = rules::ROW_LIMIT * 512;
+    let a = slot * 512;
     let b = a + total;
     sides::objective_at(
         names,
@@ -421,6 +424,7 @@ pub fn objective(
         total,
         at,
         minimize,
+        rules::ROW_LIMIT,
         counts,
     )
 }
