@@ -16,7 +16,7 @@ use Rattle.value.specs.Printed.{Written}
 use Rattle.value.proofs.Writing.{written-none, written-then, written-rest}
 use Rattle.language.specs.Listing.{Line, endLine, fields}
 use Rattle.language.proofs.Parts.{wordOf}
-use Rattle.listing.specs.Shown.{shownFields, shownLine}
+use Rattle.listing.specs.Shown.{shownNatural, shownFields, shownLine, shownRefused}
 
 -- ---- a text, piece by piece
 
@@ -61,6 +61,11 @@ line-end w = w
 pub end-line : {l : List ℕ} {r : ℕ} {l′ : List ℕ} → Written l 0 (101 ∷ 110 ∷ 100 ∷ 10 ∷ []) r l′ → Written l 0 (shownLine endLine) r l′
 unfolding shownLine fields
 end-line w = w
+
+pub refused-then : (n p : ℕ) {l : List ℕ} {r : ℕ} {l′ : List ℕ} {r′ : ℕ} {l″ : List ℕ}
+    → Written l 0 (114 ∷ 101 ∷ 102 ∷ 117 ∷ 115 ∷ 101 ∷ 100 ∷ []) r l′ → Written l′ r (fields (shownNatural n ∷ shownNatural p ∷ [])) r′ l″ → Written l 0 (shownRefused n p) r′ l″
+unfolding shownRefused
+refused-then n p w v = written-then _ _ _ _ _ _ _ _ w v
 
 -- index value i, and the last
 module _ (f : ℤ → List ℕ) (e : List ℤ) (i : ℕ) {l : List ℕ} {at : ℕ} {text l′ : List ℕ} {at′ r : ℕ} {l″ : List ℕ} where

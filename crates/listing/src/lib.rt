@@ -10,7 +10,7 @@ ghost use Rattle.rules.specs.Limits.{byteLimit};
 ghost use Rattle.value.specs.Printed.{shown, Written};
 ghost use Rattle.store.specs.Element.{listOf};
 ghost use Rattle.language.specs.Listing.{lpLine, rowLine, varLine, colLine, endLine, fields};
-ghost use Rattle.listing.specs.Shown.{shownWhole, shownNatural, shownUpper, shownLine};
+ghost use Rattle.listing.specs.Shown.{shownWhole, shownNatural, shownUpper, shownLine, shownRefused};
 ghost use Rattle.listing.specs.Upper.{bound};
 
 // A variable's upper bound.
@@ -218,6 +218,16 @@ pub fn end(out: &mut [u8]) -> usize
 }
 
 // ---- a refusal's output
+
+// The line that a program writes instead of a listing.
+pub fn refused(number: usize, place: usize, out: &mut [u8]) -> usize
+    ensures { λ r. ⌜ Written (now (out .entry)) 0 (shownRefused number place) r (now (out .exit)) ⌝ }
+{
+    let at = put_text(out, 0, b"refused");
+    let at = number_field(out, at, number);
+    let at = number_field(out, at, place);
+    put(out, at, b'\n')
+}
 
 // Every byte zero.
 pub fn clear(out: &mut [u8])
