@@ -17,7 +17,7 @@ use Rattle.store.specs.Element.{listOf}
 use Rattle.steps.specs.Scopes.{boundIf, bindingsOf}
 use Rattle.elements.specs.declared.here.Level.{Level}
 use Rattle.elements.specs.declared.here.Here.{Here}
-use Rattle.elements.specs.Held.{held, one-more, no-level, numberOf, bound}
+use Rattle.elements.specs.Held.{held, one-more, no-level, numberOf, bound, scopeAt}
 
 pub map-take : {A B : Type 0} (f : A → B) (n : ℕ) (l : List A) → map f (take n l) ≡ take n (map f l)
 map-take f zero l = refl
@@ -111,6 +111,20 @@ module _ (h : Here) where
 
   -- ---- numbers and bindings
 
+  -- the scope of an element binds its runs
+  pub scope-held : bindingsOf (scopeAt h) ≡ bound (held h) []
+  unfolding bindingsOf held bound
+  scope-held = go (h .count)
+    where
+      go : (n : ℕ) → boundIf (ltb 3 n) (h .fourth .name) (h .fourth .number) (boundIf (ltb 2 n) (h .third .name) (h .third .number) (boundIf (ltb 1 n) (h .second .name) (h .second .number) (boundIf (ltb 0 n) (h .first .name) (h .first .number) []))) ≡ bound (take n (h .first ∷ h .second ∷ h .third ∷ h .fourth ∷ [])) []
+      go zero = refl
+      go (suc zero) = refl
+      go (suc (suc zero)) = refl
+      go (suc (suc (suc zero))) = refl
+      go (suc (suc (suc (suc n)))) =
+          let m = suc (suc (suc (suc n))) in
+          rw (lt-ltb 3 m (omega arith), lt-ltb 2 m (omega arith), lt-ltb 1 m (omega arith), lt-ltb 0 m (omega arith), take-nil n)
+
   module _ (a : mag (h .first .number) < 2 ^ 63) (b : mag (h .second .number) < 2 ^ 63) (c : mag (h .third .number) < 2 ^ 63) (d : mag (h .fourth .number) < 2 ^ 63) where
     pub element-is : listOf (record { count = h .count; a = toZ w64 (ofZ w64 (h .first .number)); b = toZ w64 (ofZ w64 (h .second .number)); c = toZ w64 (ofZ w64 (h .third .number)); d = toZ w64 (ofZ w64 (h .fourth .number)) })
         ≡ map numberOf (held h)
@@ -119,14 +133,4 @@ module _ (h : Here) where
 
     pub scope-is : bindingsOf (record { count = h .count; first = h .first .name; second = h .second .name; third = h .third .name; fourth = h .fourth .name; a = toZ w64 (ofZ w64 (h .first .number)); b = toZ w64 (ofZ w64 (h .second .number)); c = toZ w64 (ofZ w64 (h .third .number)); d = toZ w64 (ofZ w64 (h .fourth .number)) })
         ≡ bound (held h) []
-    unfolding bindingsOf held bound
-    scope-is = rw (back {z = h .first .number} a, back {z = h .second .number} b, back {z = h .third .number} c, back {z = h .fourth .number} d) (go (h .count))
-      where
-        go : (n : ℕ) → boundIf (ltb 3 n) (h .fourth .name) (h .fourth .number) (boundIf (ltb 2 n) (h .third .name) (h .third .number) (boundIf (ltb 1 n) (h .second .name) (h .second .number) (boundIf (ltb 0 n) (h .first .name) (h .first .number) []))) ≡ bound (take n (h .first ∷ h .second ∷ h .third ∷ h .fourth ∷ [])) []
-        go zero = refl
-        go (suc zero) = refl
-        go (suc (suc zero)) = refl
-        go (suc (suc (suc zero))) = refl
-        go (suc (suc (suc (suc n)))) =
-            let m = suc (suc (suc (suc n))) in
-            rw (lt-ltb 3 m (omega arith), lt-ltb 2 m (omega arith), lt-ltb 1 m (omega arith), lt-ltb 0 m (omega arith), take-nil n)
+    scope-is = rw (back {z = h .first .number} a, back {z = h .second .number} b, back {z = h .third .number} c, back {z = h .fourth .number} d) scope-held

@@ -11,6 +11,7 @@ use Rattle.rules.specs.Limits.{indexLimit}
 use Rattle.value.specs.Integer.{up}
 use Rattle.lexer.specs.Text.{Token}
 use Rattle.language.specs.Scope.{Binding}
+use Rattle.steps.specs.declared.scope.Scope.{Scope as HeldScope}
 use Rattle.elements.specs.declared.here.Level.{Level as HeldLevel}
 use Rattle.elements.specs.declared.here.Here.{Here as HeldHere}
 use Rattle.elements.specs.Levels.{Level}
@@ -36,6 +37,20 @@ numberOf l = l .number
 unfoldable pub bound : List HeldLevel → List Binding → List Binding
 bound [] b = b
 bound (l ∷ ls) b = bound ls (record { name = l .name; at = l .number } ∷ b)
+
+-- a scope in which the runs are bound
+abbrev pub scopeAt : HeldHere → HeldScope
+scopeAt h = record {
+  count = h .count;
+  first = h .first .name;
+  second = h .second .name;
+  third = h .third .name;
+  fourth = h .fourth .name;
+  a = h .first .number;
+  b = h .second .number;
+  c = h .third .number;
+  d = h .fourth .number;
+}
 
 -- a run of the definition: view is the tokens from a position on
 abbrev pub levelAt : (ℕ → List Token) → HeldLevel → Level

@@ -3,3 +3,4 @@ pub mod Levels
 pub mod Held
 pub mod Steps
 pub mod Loops
+pub mod Placed

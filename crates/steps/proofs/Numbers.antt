@@ -214,6 +214,9 @@ row-past ns i f h = sym (List·getD-eq-default ns 0 {n = i * 5 + f} h)
 pub row-beyond : (ns : List ℕ) (i f : ℕ) → length ns ≤ i → 0 ≡ rowWord ns i f
 row-beyond ns i f h = row-past ns i f (omega arith)
 
+pub row-wide : (ns : List ℕ) (i f : ℕ) → length ns ≤ f → 0 ≡ rowWord ns i f
+row-wide ns i f h = row-past ns i f (omega arith)
+
 module _ (ns : List ℕ) (n x : ℕ) (h : n ≡ x) where
   pub listed-none : n ≡ 0 → listed.Nothing ≡ listedOf ns x
   unfolding listedOf

@@ -4,7 +4,7 @@ use tokens::Found;
 use tokens::Seen;
 use tokens::kinds;
 ghost use mathlib.Core.Path.{_≡_};
-ghost use Prim.Native.Nat.{_<_, _≤_};
+ghost use Prim.Native.Nat.{_≤_};
 ghost use lib.ListN.{getD};
 ghost use Rattle.steps.specs.Names.{numberKept, resolvedWord, Resolves, numberPart, rowWord, listedOf, indexNumber, Heads};
 
@@ -71,18 +71,21 @@ fn number_at(tokens: &[u64], at: usize) -> u64
     tokens[at] % tokens::PLACE_UNIT / tokens::NAME_UNIT
 }
 
-// Word f of row i, 0 where there is none.
-fn word_of(names: &[u64], i: usize, f: usize) -> u64
-    requires { ⌜ f < 5 ⌝ }
+// Word f of row i of the name table, 0 past its end.
+pub fn word_of(names: &[u64], i: usize, f: usize) -> u64
     ensures { λ r. ⌜ r ≡ rowWord (now (names .entry)) i f ⌝ }
 {
-    if i < names.len() {
-        let k = i * 5 + f;
-        if k < names.len() {
-            return names[k];
-        }
+    if names.len() <= i {
+        return 0;
     }
-    0
+    if names.len() <= f {
+        return 0;
+    }
+    let k = i * 5 + f;
+    if names.len() <= k {
+        return 0;
+    }
+    names[k]
 }
 
 // The name at a position.

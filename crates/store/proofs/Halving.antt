@@ -41,14 +41,20 @@ less-not-equal e h = absurd (omega arith)
 
 module _ (h m l a b c : ℕ) (w : m < 18446744073709551616) (x : l < 18446744073709551616) (y : b < 18446744073709551616) (z : c < 18446744073709551616)
     (e : threeWords h m l ≡ threeWords a b c) where
-  same-high : h ≡ a
+  pub same-high : h ≡ a
   same-high = three h a (λ u. less-not-equal e (high-less h m l a b c u w x)) (λ u. u) (λ u. less-not-equal (sym e) (high-less a b c h m l u y z))
 
-  same-middle : m ≡ b
+  pub same-middle : m ≡ b
   same-middle = three m b
       (λ u. less-not-equal e (middle-less h m l a b c same-high u x))
       (λ u. u)
       (λ u. less-not-equal (sym e) (middle-less a b c h m l (sym same-high) u z))
+
+  pub same-low : l ≡ c
+  same-low = three l c
+      (λ u. less-not-equal e (low-less h m l a b c same-high same-middle u))
+      (λ u. u)
+      (λ u. less-not-equal (sym e) (low-less a b c h m l (sym same-high) (sym same-middle) u))
 
 -- by the last word, where the others are equal
 module _ (h m l a b c : ℕ) (p : h ≡ a) (q : m ≡ b) where

@@ -194,7 +194,7 @@ key-behind i (a ∷ b ∷ []) = regroup _ (digitOf b) 0 0
 key-behind i (a ∷ b ∷ c ∷ []) = regroup _ (digitOf b) (digitOf c) 0
 key-behind i (a ∷ b ∷ c ∷ d ∷ l) = regroup _ (digitOf b) (digitOf c) (digitOf d)
 
-name-digit : (i : ℕ) → i < nameBound → nameDigit i ≡ i
+pub name-digit : (i : ℕ) → i < nameBound → nameDigit i ≡ i
 unfolding nameDigit
 name-digit i h = rw (lt-ltb i nameBound h)
 

@@ -5,3 +5,4 @@ pub mod Halving
 pub mod Rows
 pub mod Inserting
 pub mod Held
+pub mod Back

@@ -72,18 +72,26 @@ sub-size a b = go (ltb a b) refl
     go true e = omega (arith, ltb-true a b e)
     go false e = omega (arith, ltb-false a b e)
 
-module _ (w : ℕ) (h : w < 2 ^ 64) where
-  eighth : toZ w64 (w / 8) ≡ pos (w / 8)
-  eighth = toZ-pos w64 (omega arith)
+-- a number above zero, moved down
+module _ (d : ℕ) (h : d < 2 ^ 62) where
+  unsigned : toZ w64 d ≡ pos d
+  unsigned = toZ-pos w64 (omega arith)
 
+  pub moved-fits : SFits w64 (toZ w64 d -ℤ pos 1000000000)
+  moved-fits = rw unsigned (record { sfits = omega (arith, sub-size d 1000000000) })
+
+  pub moved-is : toZ w64 (ofZ w64 (toZ w64 d -ℤ pos 1000000000)) ≡ pos d -ℤ pos 1000000000
+  moved-is = rw (toZ-ofZ moved-fits, unsigned)
+
+module _ (w : ℕ) (h : w < 2 ^ 64) where
   pub unpacked-fits : SFits w64 (toZ w64 (w / 8) -ℤ pos 1000000000)
-  unpacked-fits = rw eighth (record { sfits = omega (arith, sub-size (w / 8) 1000000000) })
+  unpacked-fits = moved-fits (w / 8) (omega arith)
 
   pub unpacked-is : _≡_ {A = Value} (record { m = toZ w64 (ofZ w64 (toZ w64 (w / 8) -ℤ pos 1000000000)); s = w % 8 }) (unpacked w)
   unfolding unpacked mantissaLimit
-  unpacked-is = rw (toZ-ofZ unpacked-fits, eighth)
+  unpacked-is = rw (moved-is (w / 8) (omega arith))
 
-moved-back : (d : ℕ) (k : ℤ) → d + down k ≡ up k + 1000000000 → pos d -ℤ pos 1000000000 ≡ k
+pub moved-back : (d : ℕ) (k : ℤ) → d + down k ≡ up k + 1000000000 → pos d -ℤ pos 1000000000 ≡ k
 moved-back d k e = by-parts (pos d -ℤ pos 1000000000) k (omega (arith, add-parts (pos d) (negsuc 999999999)))
 
 pub unpacked-packed : (v : Value) → natAbs (v .m) ≤ mantissaLimit → v .s ≤ scaleLimit → unpacked (packed v) ≡ v

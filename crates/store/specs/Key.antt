@@ -3,10 +3,11 @@
 use mathlib.Core.Bool.{cond}
 use mathlib.Core.List.{List, [], _∷_}
 use Prim.Native.Nat.{ℕ, zero, suc, _+_, _*_}
-use lib.Dec.{leb, ltb}
-use lib.IntN.{ℤ, pos, natAbs, _+ℤ_}
+use lib.Dec.{leb, ltb, eqb}
+use lib.IntN.{ℤ, pos, natAbs, _+ℤ_, _-ℤ_}
 use Rattle.rules.specs.Limits.{mantissaLimit}
 use Rattle.store.specs.declared.Key.{Key}
+use Rattle.store.specs.Element.{extended}
 
 -- a number in bounds moved above zero, from 1 to 1,999,999,999; 0 for any other
 unfoldable pub digitOf : ℤ → ℕ
@@ -17,6 +18,10 @@ unfoldable pub digitAt : List ℤ → ℕ → ℕ
 digitAt [] i = 0
 digitAt (k ∷ l) zero = digitOf k
 digitAt (k ∷ l) (suc i) = digitAt l i
+
+-- one number more, by its digit; the same where the digit is 0
+unfoldable pub withDigit : List ℤ → ℕ → List ℤ
+withDigit l d = cond (eqb d 0) l (extended l (pos d -ℤ pos (suc mantissaLimit)))
 
 -- names are told apart below 2^20
 unfoldable pub nameBound : ℕ

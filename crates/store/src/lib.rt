@@ -9,8 +9,9 @@ ghost use lib.ListN.{length, getD};
 ghost use lib.Dec.{ltb, eqb};
 ghost use lib.IntN.{pos};
 ghost use Rattle.store.specs.Element.{listOf, extended};
-ghost use Rattle.store.specs.Key.{digitOf, digitAt, nameDigit, paired, keyNumber, keyOf};
+ghost use Rattle.store.specs.Key.{digitOf, digitAt, nameDigit, paired, keyNumber, keyOf, withDigit};
 ghost use Rattle.store.specs.Table.{keyAt, wordAt, partAt, Finds, Between, PlaceIs, rowSet, appended, Moved, Inserted};
+ghost use Rattle.store.specs.Entries.{NameRead, ElementRead};
 ghost use Rattle.store.specs.Packed.{packed, unpacked};
 
 // At most four whole numbers: the first `count` of a, b, c, d.
@@ -328,6 +329,47 @@ pub fn insert(table: &mut [u64], n: usize, key: Key, word: u64) -> Insertion
     move_up(table, at * 4, n * 4);
     set_row(table, at, key, word);
     Insertion::Done
+}
+
+// ---- keys read back
+
+fn key_at(table: &[u64], i: usize) -> Key
+    ensures { λ r. ⌜ keyNumber r ≡ keyAt (now (table .entry)) i ⌝ }
+{
+    let high = part(table, i, 0);
+    let middle = part(table, i, 1);
+    let low = part(table, i, 2);
+    Key { high, middle, low }
+}
+
+// The number of the name whose key row i has.
+pub fn name_at(table: &[u64], i: usize) -> usize
+    ensures { λ r. ⌜ NameRead (now (table .entry)) i r ⌝ }
+{
+    let key = key_at(table, i);
+    (key.high / 2147483648) as usize
+}
+
+// One number more, by its digit; the same where the digit is 0.
+fn with_digit(e: Element, d: u64) -> Element
+    requires { ⌜ d < 2 ^ 31 ⌝ }
+    ensures { λ r. ⌜ listOf r ≡ withDigit (listOf e) d ⌝ }
+{
+    if d == 0 {
+        return e;
+    }
+    e.with(d as i64 - SHIFT)
+}
+
+// The element whose key row i has.
+pub fn element_at(table: &[u64], i: usize) -> Element
+    ensures { λ r. ⌜ ElementRead (now (table .entry)) i r ⌝ }
+{
+    let key = key_at(table, i);
+    let first = with_digit(Element::none(), key.high % 2147483648);
+    let second = with_digit(first, key.middle / 2147483648 % 2147483648);
+    let third = with_digit(second, key.middle % 2147483648);
+    with_digit(third, key.low % 2147483648)
 }
 
 // ---- values as words

@@ -1,5 +1,5 @@
 -- `names::word_of` meets its contract. Assumes nothing.
-use Rattle.steps.proofs.Numbers.{row-here, row-past, row-beyond}
+use Rattle.steps.proofs.Numbers.{row-here, row-past, row-beyond, row-wide}
 use borrow.Author.Needs.{needs}
 use Rattle.steps.proofs.names.word_of.Statement.{statement}
 use Rattle.steps.proofs.names.word_of.Tie as tie
@@ -8,10 +8,11 @@ pub word-of-spec : {M : Type 1} → statement M
 word-of-spec =
     tie.close
     (tie.spec
+    (λ c. search row-beyond)  -- returns
+    (λ c. search row-wide)  -- returns-2
     (λ c. search needs)  -- mul-k
     (λ c. search needs)  -- add-k
+    (λ c. search row-past)  -- returns-3
     (λ c. search needs)  -- mul-result
     (λ c. search needs)  -- shared-slice-read-result
-    (λ c. search row-here)  -- returns
-    (λ c. search row-past)  -- returns-2
-    (λ c. search row-beyond))  -- returns-3
+    (λ c. search row-here))  -- returns-4

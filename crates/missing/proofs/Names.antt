@@ -1,0 +1,124 @@
+-- Laws for the loop over the names: by the sort of a name, and name after name. Assumes nothing.
+use mathlib.Core.Path.{_≡_, refl, sym, _∙_, ap, subst}
+use mathlib.Core.Bool.{true, false, _||_}
+use mathlib.Core.Option.{some}
+use mathlib.Core.List.{List, [], _∷_}
+use Prim.Native.Nat.{ℕ, zero, suc, _+_, _*_, _/_, _<_, _≤_}
+use native.Mathlib.Omega.{arith}
+use native.Mathlib.Numerals.{add-one}
+use lib.Dec.{eqb}
+use lib.ListN.{length, drop, getElem?}
+use Rattle.rules.specs.declared.Refusal.{Refusal}
+use Rattle.language.specs.Outcome.{_>>=_}
+use Rattle.language.specs.Syntax.{Name, Sort}
+use Rattle.language.specs.Syntax
+use Rattle.language.specs.Store.{givenBy, allGiven}
+use Rattle.tokens.specs.Stored.{Shaped, Named}
+use Rattle.tokens.proofs.Tables.{false-true}
+use Rattle.steps.specs.Names.{rowWord}
+use Rattle.steps.proofs.Numbers.{row-shaped}
+use Rattle.evaluator.specs.declared.Passed.{Passed}
+use Rattle.evaluator.specs.declared.Passed.the-variants as passed
+use Rattle.evaluator.specs.Tables.{Stands, World}
+use Rattle.evaluator.specs.Cycle.{passedOutcome, seenBy, nothingBound}
+use Rattle.elements.specs.Placed.{Placed}
+use Rattle.missing.specs.Given.{DomainGiven, NameGiven, AllGiven, GivenTo}
+
+-- ---- names and their rows
+
+-- five words for each name
+five-words : (s ns : List ℕ) (names : List Name) → Named s ns names → length ns ≡ length names * 5
+five-words s [] [] h = refl
+five-words s [] (y ∷ ys) h = absurd h
+five-words s (p ∷ []) names h = absurd h
+five-words s (p ∷ n ∷ []) names h = absurd h
+five-words s (p ∷ n ∷ k ∷ []) names h = absurd h
+five-words s (p ∷ n ∷ k ∷ c ∷ []) names h = absurd h
+five-words s (p ∷ n ∷ k ∷ c ∷ q ∷ ns) [] h = absurd h
+five-words s (p ∷ n ∷ k ∷ c ∷ q ∷ ns) (y ∷ ys) h = omega (arith, five-words s ns ys (h .2))
+
+below-length : {A : Type 0} (l : List A) (i : ℕ) (x : A) → getElem? l i ≡ some x → i < length l
+below-length [] i x e = absurd (let z : _≡_ {A = ℕ} 0 1 = cc in omega arith)
+below-length (y ∷ l) zero x e = omega arith
+below-length (y ∷ l) (suc i) x e = omega (arith, below-length l i x e)
+
+-- the i-th of a list, and those behind it
+record Split (l : List Name) (i : ℕ) : Type 0 where
+  name : Name
+  here : getElem? l i ≡ some name
+  behind : drop i l ≡ name ∷ drop (suc i) l
+
+split : (l : List Name) (i : ℕ) → i < length l → Split l i
+split [] i h = absurd (omega arith)
+split (x ∷ l) zero h = record { name = x; here = refl; behind = refl }
+split (x ∷ l) (suc i) h = let r = split l i (omega arith) in record { name = r .name; here = r .here; behind = r .behind }
+
+drop-past : {A : Type 0} (l : List A) (i : ℕ) → length l ≤ i → drop i l ≡ []
+drop-past [] zero h = refl
+drop-past [] (suc i) h = refl
+drop-past (x ∷ l) zero h = absurd (omega arith)
+drop-past (x ∷ l) (suc i) h = drop-past l i (omega arith)
+
+-- ---- one name
+
+module _ (ns ts ds : List ℕ) (given i k : ℕ) (e : k ≡ rowWord ns i 2) where
+  pub name-data : (r : Passed) → (eqb k 1 || eqb k 2) ≡ true → DomainGiven ns ts ds given i r → NameGiven ns ts ds given i r
+  unfolding givenBy
+  name-data r t f = record {
+    is = λ w p x h. rw (p .at i x h) (go w (x .sort) (below-length (w .names) i x h) (row-shaped (w .text) ns (w .names) i x (w .tables .named) h) (w .tables .declared i x h));
+  }
+    where
+      wrong : {A : Type 0} (j : ℕ) → rowWord ns i 2 ≡ j → (eqb j 1 || eqb j 2) ≡ false → A
+      wrong j a b = absurd (false-true (sym b ∙ subst (λ k. (eqb k 1 || eqb k 2) ≡ true) (e ∙ a) t))
+
+      go : (w : World ns ts ds given) (y : Sort) → i < length (w .names) → Shaped y (rowWord ns i 2) (rowWord ns i 3) → Stands (w .text) ts (seenBy w i) y (rowWord ns i 4)
+          → givenBy i (rowWord ns i 0) y (nothingBound w) ≡ passedOutcome r
+      go w Syntax.index h s a = wrong 0 s refl
+      go w (Syntax.integer d) h s a = f .is w d (record { named = h; domain = a; count = s .1 })
+      go w (Syntax.real d) h s a = f .is w d (record { named = h; domain = a; count = s .1 })
+      go w (Syntax.formula g) h s a = wrong 3 s refl
+      go w (Syntax.discrete d) h s a = wrong 4 (s .0) refl
+      go w (Syntax.continuous d) h s a = wrong 5 (s .0) refl
+
+  pub name-other : (eqb k 1 || eqb k 2) ≡ false → NameGiven ns ts ds given i passed.Inside
+  unfolding givenBy
+  name-other t = record { is = λ w p x h. go w (x .place) (x .sort) (row-shaped (w .text) ns (w .names) i x (w .tables .named) h) }
+    where
+      wrong : {A : Type 0} (j : ℕ) → rowWord ns i 2 ≡ j → (eqb j 1 || eqb j 2) ≡ true → A
+      wrong j a b = absurd (false-true (sym (subst (λ k. (eqb k 1 || eqb k 2) ≡ false) (e ∙ a) t) ∙ b))
+
+      go : (w : World ns ts ds given) (p : ℕ) (y : Sort) → Shaped y (rowWord ns i 2) (rowWord ns i 3) → givenBy i p y (nothingBound w) ≡ passedOutcome passed.Inside
+      go w p Syntax.index s = refl
+      go w p (Syntax.integer d) s = wrong 1 (s .0) refl
+      go w p (Syntax.real d) s = wrong 2 (s .0) refl
+      go w p (Syntax.formula g) s = refl
+      go w p (Syntax.discrete d) s = refl
+      go w p (Syntax.continuous d) s = refl
+
+-- ---- name after name
+
+module _ (ns ts ds : List ℕ) (given : ℕ) where
+  pub given-none : GivenTo ns ts ds given 0
+  given-none = record { left = λ w p. refl }
+
+  module _ (i : ℕ) (g : GivenTo ns ts ds given i) where
+    pub given-all : length ns / 5 ≤ i → AllGiven ns ts ds given passed.Inside
+    unfolding allGiven
+    given-all h = record { is = λ w p. g .left w p ∙ rw (drop-past (w .names) i (omega (arith, five-words (w .text) ns (w .names) (w .tables .named)))) }
+
+    module _ (h : i < length ns / 5) (r : Passed) (n : NameGiven ns ts ds given i r) where
+      here : (w : World ns ts ds given) → Split (w .names) i
+      here w = split (w .names) i (omega (arith, five-words (w .text) ns (w .names) (w .tables .named)))
+
+      -- the name of number i, and then those behind it
+      by-name : (w : World ns ts ds given) → Placed ns (w .names) → allGiven 0 (w .names) (nothingBound w) ≡ (passedOutcome r >>= λ u. allGiven (suc i) (drop (suc i) (w .names)) (nothingBound w))
+      unfolding allGiven
+      by-name w p =
+          let x = here w in
+          g .left w p ∙ ap (λ l. allGiven i l (nothingBound w)) (x .behind) ∙ ap (λ o. o >>= λ u. allGiven (suc i) (drop (suc i) (w .names)) (nothingBound w)) (n .is w p (x .name) (x .here))
+
+      pub given-more : r ≡ passed.Inside → GivenTo ns ts ds given (i + 1)
+      given-more e = record { left = λ w p. by-name w p ∙ rw (e, add-one) refl }
+
+      pub given-refused : (c : Refusal) (q : ℕ) → r ≡ passed.Refused c q → AllGiven ns ts ds given (passed.Refused c q)
+      given-refused c q e = record { is = λ w p. by-name w p ∙ rw e }
