@@ -1,2 +1,1 @@
 pub mod Generated
-pub mod Problems

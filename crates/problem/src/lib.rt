@@ -1,84 +1,119 @@
 // The problem of a model, generated from the model's tables into tables of its own: all data given, the variables numbered, the
 // objective, and each constraint at each element.
-use evaluator::Context;
 use evaluator::Passed;
 use matrix::Generated;
-use steps::scope::Scope;
+use rows::Filled;
 use variables::Counted;
-ghost use mathlib.Core.Path.{_≡_};
-ghost use lib.ListN.{length};
-ghost use Rattle.problem.specs.Problem.{ObjectiveIs, GeneratesAs};
+ghost use Rattle.problem.specs.Problem.{ShapesAs, GeneratesAs};
 
-// How many variables are discrete, how many there are, how many rows are from `<=` and `>=`, and how many from `=`.
+// How many variables are discrete, how many there are, and how many rows.
 pub enum Problem {
-    Of(usize, usize, usize, usize),
+    Of(usize, usize, Filled),
     Refused(rules::Refusal, u64),
 }
 
-// The objective's coefficients, in their row behind the slots.
-fn objective(
+// The objective and the constraints of `total` variables, the first of which are discrete.
+fn shape(
+    text: &[u8],
     names: &[u64],
     tokens: &[u64],
     table: &[u64],
-    variables: &[u64],
-    total: usize,
     given: usize,
-    at: usize,
+    variables: &[u64],
+    discrete: usize,
+    total: usize,
+    aim: usize,
     minimize: bool,
-    matrix: &mut [i64],
-) -> Passed
-    requires { ⌜ length (now matrix) ≡ 263168 ⌝ }
-    ensures { λ r. ⌜ ObjectiveIs minimize (now (names .entry)) (now (tokens .entry)) (now (table .entry)) given (now (variables .entry)) total at r (now (matrix .exit)) ⌝ }
+    constraints: &[u64],
+    count: usize,
+    slots: &mut [u64; 2048],
+    bounds: &mut [u64; 1024],
+    counts: &mut [i64; 263168],
+) -> Problem
+    ensures { λ r. ⌜ ShapesAs (now (text .entry)) (now (names .entry)) (now (tokens .entry)) (now (table .entry)) given (now (variables .entry)) discrete total aim minimize (now (constraints .entry)) count (now (bounds .entry)) r (now (slots .exit)) (now (bounds .exit)) (now (counts .exit)) ⌝ }
 {
-    if rules::VARIABLE_LIMIT < total {
-        return Passed::Refused(rules::Refusal::Full, 0);
-    }
-    let scope = Scope::none();
-    let cx = Context {
-        given,
-        level: names.len() / 5,
-        nest: rules::NESTING_LIMIT,
-        scope,
-    };
-    let from = rules::ROW_LIMIT * rules::VARIABLE_LIMIT;
-    let to = from + total;
-    sides::objective_at(
+    let objective = matrix::objective(
         names,
         tokens,
         table,
+        given,
         variables,
         total,
-        cx,
-        at,
+        aim,
         minimize,
-        &mut matrix[from..to],
-    )
+        counts,
+    );
+    match objective {
+        Passed::Inside => {}
+        Passed::Refused(n, p) => {
+            return Problem::Refused(n, p);
+        }
+    }
+    let rows = matrix::constraints(
+        text,
+        names,
+        tokens,
+        table,
+        given,
+        variables,
+        total,
+        constraints,
+        count,
+        slots,
+        bounds,
+        counts,
+    );
+    match rows {
+        Generated::Of(f) => Problem::Of(discrete, total, f),
+        Generated::Refused(n, p) => Problem::Refused(n, p),
+    }
 }
 
-// Missing data, variables, the objective, constraints.
+// Missing data, variables, the objective, constraints. The form of the objective stands at `aim`, and the first `count` rows of the
+// table tell of the constraints.
 pub fn generate(
     text: &[u8],
     names: &[u64],
     tokens: &[u64],
     table: &[u64],
-    constraints: &[u64],
     given: usize,
-    minimize: bool,
     aim: usize,
+    minimize: bool,
+    constraints: &[u64],
+    count: usize,
     variables: &mut [u64; 2048],
-    rows: &mut [u64; 2048],
+    slots: &mut [u64; 2048],
     bounds: &mut [u64; 1024],
-    matrix: &mut [i64; 263168],
+    counts: &mut [i64; 263168],
 ) -> Problem
-    ensures { λ r. ⌜ GeneratesAs (now (text .entry)) (now (names .entry)) (now (tokens .entry)) (now (table .entry)) (now (constraints .entry)) given minimize aim r (now (variables .exit)) (now (rows .exit)) (now (bounds .exit)) (now (matrix .exit)) ⌝ }
+    ensures { λ r. ⌜ GeneratesAs (now (text .entry)) (now (names .entry)) (now (tokens .entry)) (now (table .entry)) given aim minimize (now (constraints .entry)) count (now (bounds .entry)) r (now (variables .exit)) (now (slots .exit)) (now (bounds .exit)) (now (counts .exit)) ⌝ }
 {
     let test = missing::all_given(names, tokens, table, given);
-    if let Passed::Refused(n, p) = test {
-        return Problem::Refused(n, p);
+    match test {
+        Passed::Inside => {}
+        Passed::Refused(n, p) => {
+            return Problem::Refused(n, p);
+        }
     }
-    let counted = variables::number(names, tokens, table, given, variables);
-    let Counted::Of(discrete, total) = counted else {
-        return refused(counted);
-    };
-    Problem::Of(discrete, total, 0, 0)
+    let numbers = variables::number(names, tokens, table, given, variables);
+    match numbers {
+        Counted::Of(discrete, total) => shape(
+            text,
+            names,
+            tokens,
+            table,
+            given,
+            variables,
+            discrete,
+            total,
+            aim,
+            minimize,
+            constraints,
+            count,
+            slots,
+            bounds,
+            counts,
+        ),
+        Counted::Refused(n, p) => Problem::Refused(n, p),
+    }
 }
