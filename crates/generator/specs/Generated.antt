@@ -4,12 +4,13 @@ use mathlib.Core.Bool.{cond}
 use mathlib.Core.List.{List}
 use Prim.Native.Nat.{ℕ, _+_}
 use lib.Dec.{ltb}
-use lib.ListN.{take}
+use lib.ListN.{replicate}
 use Rattle.rules.specs.Limits.{byteLimit}
 use Rattle.value.specs.Printed.{Written}
 use Rattle.language.specs.Outcome.{Outcome, done, refused}
 use Rattle.language.specs.Model.{Model, readModel}
 use Rattle.language.specs.Answer.{Accepted, accepted, listingOf}
+use Rattle.tokens.specs.Stored.{rowsOf}
 use Rattle.model.specs.declared.Model.{Model as Read}
 use Rattle.model.specs.ReadAs.{ModelAt}
 use Rattle.generator.specs.declared.Generated.{Generated}
@@ -26,9 +27,13 @@ Lists (refused r q) out (generated.Refused r′ p) out′ = (r ≡ r′) × (q �
 unfoldable pub behindBrace : ℕ → ℕ
 behindBrace p = cond (ltb p byteLimit) (p + 1) 0
 
--- of a text that was read into tables
-pub record ListsModel (s ts ns cs ds : List ℕ) (r : Read) (out : List ℕ) (g : Generated) (out′ : List ℕ) : Type 0 where
-  pub lists : (m : Model) → readModel s ≡ done m → ModelAt s (take (r .tokens) ts) ns cs ds r m → Lists (accepted s) out g out′
+-- of a text that was read into tables; ns are the rows of its names
+pub record ListsModel (s ns ts cs ds : List ℕ) (r : Read) (out : List ℕ) (g : Generated) (out′ : List ℕ) : Type 0 where
+  pub lists : (m : Model) → readModel s ≡ done m → (t : List ℕ) → ns ≡ rowsOf (r .names) t → ModelAt s ts t cs ds r m → Lists (accepted s) out g out′
+
+-- with tables for its problem, in which no bound is stated
+pub record ListsIn (s ns ts cs ds : List ℕ) (r : Read) (bs out : List ℕ) (g : Generated) (out′ : List ℕ) : Type 0 where
+  pub lists : bs ≡ replicate 1024 0 → ListsModel s ns ts cs ds r out g out′
 
 -- of every text
 pub record Generates (text out : List ℕ) (g : Generated) (out′ : List ℕ) : Type 0 where
