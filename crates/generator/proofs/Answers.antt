@@ -55,9 +55,6 @@ defined-means text out a out′ d = record {
       record { demand = k; bytes = d .bytes ∙ k .prints ∙ rw (sym (d .size)) };
 }
 
-both : (text out : List ℕ) (a : Answer) (out′ : List ℕ) → Defined text out a out′ → Defined text out a out′ × Meaning text out a out′
-both text out a out′ d = (d, defined-means text out a out′ d)
-
 -- ---- the answer of the code
 
 module _ (text out₀ out₁ : List ℕ) (g : Generated) (out₂ : List ℕ) (cleared : out₁ ≡ replicate (length out₀) 0) (is : Generates text out₁ g out₂) (same : length out₂ ≡ length out₁) where
@@ -65,7 +62,7 @@ module _ (text out₀ out₁ : List ℕ) (g : Generated) (out₂ : List ℕ) (cl
   size-kept = same ∙ ap length cleared ∙ length-replicate {A = ℕ} (length out₀) 0
 
   -- a refusal before the listing
-  defined-refused : (r : Refusal) (p : ℕ) → g ≡ generated.Refused r p → (a : Answer) → a ≡ record { number = refusalNumber r; place = p; length = 0 }
+  pub defined-refused : (r : Refusal) (p : ℕ) → g ≡ generated.Refused r p → (a : Answer) → a ≡ record { number = refusalNumber r; place = p; length = 0 }
       → (out₃ : List ℕ) → out₃ ≡ replicate (length out₂) 0 → Defined text out₀ a out₃
   unfolding respond
   defined-refused r p e a ea out₃ eo = go (accepted text) refl (subst (λ g. Lists (accepted text) out₁ g out₂) e (is .lists))
@@ -82,7 +79,7 @@ module _ (text out₀ out₁ : List ℕ) (g : Generated) (out₂ : List ℕ) (cl
           }
 
   -- a listing that fits
-  defined-listed : (n : ℕ) → g ≡ generated.Listed n → n ≤ length out₂ → Defined text out₀ (record { number = 0; place = 0; length = n }) out₂
+  pub defined-listed : (n : ℕ) → g ≡ generated.Listed n → n ≤ length out₂ → Defined text out₀ (record { number = 0; place = 0; length = n }) out₂
   unfolding respond
   defined-listed n e f = go (accepted text) refl (subst (λ g. Lists (accepted text) out₁ g out₂) e (is .lists))
     where
@@ -100,7 +97,7 @@ module _ (text out₀ out₁ : List ℕ) (g : Generated) (out₂ : List ℕ) (cl
       go (refused r′ q) i l = absurd l
 
   -- a listing that is too long
-  defined-long : (n : ℕ) → g ≡ generated.Listed n → length out₂ < n → (a : Answer) → a ≡ record { number = refusalNumber LongListing; place = n; length = 0 }
+  pub defined-long : (n : ℕ) → g ≡ generated.Listed n → length out₂ < n → (a : Answer) → a ≡ record { number = refusalNumber LongListing; place = n; length = 0 }
       → (out₃ : List ℕ) → out₃ ≡ replicate (length out₂) 0 → Defined text out₀ a out₃
   unfolding respond
   defined-long n e f a ea out₃ eo = go (accepted text) refl (subst (λ g. Lists (accepted text) out₁ g out₂) e (is .lists))
@@ -119,14 +116,13 @@ module _ (text out₀ out₁ : List ℕ) (g : Generated) (out₂ : List ℕ) (cl
 
   -- ---- with its meaning
 
-  pub answered-refused : (r : Refusal) (p : ℕ) → g ≡ generated.Refused r p → (a : Answer) → a ≡ record { number = refusalNumber r; place = p; length = 0 }
-      → (out₃ : List ℕ) → out₃ ≡ replicate (length out₂) 0 → Defined text out₀ a out₃ × Meaning text out₀ a out₃
-  answered-refused r p e a ea out₃ eo = both text out₀ a out₃ (defined-refused r p e a ea out₃ eo)
+  pub meant-refused : (r : Refusal) (p : ℕ) → g ≡ generated.Refused r p → (a : Answer) → a ≡ record { number = refusalNumber r; place = p; length = 0 }
+      → (out₃ : List ℕ) → out₃ ≡ replicate (length out₂) 0 → Meaning text out₀ a out₃
+  meant-refused r p e a ea out₃ eo = defined-means text out₀ a out₃ (defined-refused r p e a ea out₃ eo)
 
-  pub answered-listed : (n : ℕ) → g ≡ generated.Listed n → n ≤ length out₂
-      → Defined text out₀ (record { number = 0; place = 0; length = n }) out₂ × Meaning text out₀ (record { number = 0; place = 0; length = n }) out₂
-  answered-listed n e f = both text out₀ (record { number = 0; place = 0; length = n }) out₂ (defined-listed n e f)
+  pub meant-listed : (n : ℕ) → g ≡ generated.Listed n → n ≤ length out₂ → Meaning text out₀ (record { number = 0; place = 0; length = n }) out₂
+  meant-listed n e f = defined-means text out₀ (record { number = 0; place = 0; length = n }) out₂ (defined-listed n e f)
 
-  pub answered-long : (n : ℕ) → g ≡ generated.Listed n → length out₂ < n → (a : Answer) → a ≡ record { number = refusalNumber LongListing; place = n; length = 0 }
-      → (out₃ : List ℕ) → out₃ ≡ replicate (length out₂) 0 → Defined text out₀ a out₃ × Meaning text out₀ a out₃
-  answered-long n e f a ea out₃ eo = both text out₀ a out₃ (defined-long n e f a ea out₃ eo)
+  pub meant-long : (n : ℕ) → g ≡ generated.Listed n → length out₂ < n → (a : Answer) → a ≡ record { number = refusalNumber LongListing; place = n; length = 0 }
+      → (out₃ : List ℕ) → out₃ ≡ replicate (length out₂) 0 → Meaning text out₀ a out₃
+  meant-long n e f a ea out₃ eo = defined-means text out₀ a out₃ (defined-long n e f a ea out₃ eo)
