@@ -1,7 +1,8 @@
 /* The recipe model generator for C: link target/staticlib/libgenerator.a (x86-64 Linux; made by `rt staticlib generator`).
 
    recipe_generate reads a model text and writes its listing into the output buffer. The contract, for every text and every
-   buffer length, is that of crates/generator; docs/LANGUAGE.md has the language, docs/REFUSALS.md the refusals.
+   buffer length, is that of recipe_generate in crates/generator/src/lib.rt, and proved; docs/LANGUAGE.md has the language,
+   docs/REFUSALS.md the refusals.
 
    accepted   number 0, place 0, length the listing's; the bytes of the buffer behind the listing are zero
    refused    number 1 to 11, its place, length 0; every byte of the buffer is zero
@@ -48,7 +49,7 @@ enum recipe_refusal {
 
 struct recipe_answer {
     uint32_t number; /* 0, or a refusal */
-    size_t place;    /* the byte, from 0, of the token named; the text's end is its length */
+    size_t place;    /* the byte, from 0, of the token named; the text's end is its length; of refusal 11 the listing's length */
     size_t length;   /* of the listing; 0 if refused */
 };
 
