@@ -53,7 +53,7 @@ use Rattle.evaluator.proofs.Laws.{stop, refused-is, value-is, value-val
 
 -- ---- lists of names
 
-below-length : {A : Type 0} (l : List A) (i : ℕ) (x : A) → getElem? l i ≡ some x → i < length l
+pub below-length : {A : Type 0} (l : List A) (i : ℕ) (x : A) → getElem? l i ≡ some x → i < length l
 below-length [] i x e = absurd (let z : _≡_ {A = ℕ} 0 1 = cc in omega arith)
 below-length (y ∷ l) zero x e = omega arith
 below-length (y ∷ l) (suc i) x e = omega (arith, below-length l i x e)
@@ -68,7 +68,7 @@ as-done : {A : Type 0} (o : Outcome A) (l : List Token) (a : A) (r : List Token)
 as-done (done b) l a r e = ap done (same-what e)
 as-done (refused k q) l a r e = absurd (let z : _≡_ {A = ℕ} 0 1 = cc in omega arith)
 
-only-as : {A : Type 0} (o : Outcome A) (l : List Token) → onlyOutcome (asRead o l) ≡ o
+pub only-as : {A : Type 0} (o : Outcome A) (l : List Token) → onlyOutcome (asRead o l) ≡ o
 only-as (done a) l = refl
 only-as (refused m p) l = refl
 
@@ -189,7 +189,7 @@ module _ (ns ts ds : List ℕ) (given level : ℕ) (sc : Held) (n p at : ℕ) (x
 -- ---- a datum
 
 module _ (ns ts ds : List ℕ) (given level : ℕ) (sc : Held) (n i c q p at : ℕ) (y : Numbers) (h : SubscriptsAre n p c ns ts ds given level sc at y) where
-  numbers-at : (z : Numbers) → y ≡ z → (w : World ns ts ds given) → Small sc → (d : Spans) → DomainAt (w .text) ts (seenBy w i) d q → size d ≡ c
+  pub numbers-at : (z : Numbers) → y ≡ z → (w : World ns ts ds given) → Small sc → (d : Spans) → DomainAt (w .text) ts (seenBy w i) d q → size d ≡ c
       → walkSubscripts (walkInside (seenBy w level) n) d (under w sc) p (tokensAt w at) ≡ numbersOutcome (w .text) ts z
   numbers-at z e w g d a s = h .is w g d s (subst (λ k. k ≤ indexLimit) s (a .few)) ∙ ap (numbersOutcome (w .text) ts) e
 
@@ -198,11 +198,11 @@ module _ (ns ts ds : List ℕ) (given level : ℕ) (sc : Held) (n i c q p at : �
   datum-subscripts m o e = record { is = λ w g b d a s. stop _ _ m o (numbers-at _ e w g d a s); valid = λ w g b d a s. tt }
 
   module _ (e : Element) (a : ℕ) (f : y ≡ numbers.Element e a) (t : Passed) (k : WithinIs ns ts ds given i q e p t) where
-    small : (w : World ns ts ds given) → Small sc → (d : Spans) → DomainAt (w .text) ts (seenBy w i) d q → size d ≡ c → Subscripts (listOf e)
+    pub small : (w : World ns ts ds given) → Small sc → (d : Spans) → DomainAt (w .text) ts (seenBy w i) d q → size d ≡ c → Subscripts (listOf e)
     small w g d b s = subst SmallNumbers f (h .small w g (subst (λ k. k ≤ indexLimit) s (b .few)))
 
     -- the domain test of the tree
-    within-at : (z : Passed) → t ≡ z → (w : World ns ts ds given) → Small sc → (d : Spans) → DomainAt (w .text) ts (seenBy w i) d q → size d ≡ c
+    pub within-at : (z : Passed) → t ≡ z → (w : World ns ts ds given) → Small sc → (d : Spans) → DomainAt (w .text) ts (seenBy w i) d q → size d ≡ c
         → within d (listOf e) (unbound (under w sc)) p ≡ passedOutcome z
     unfolding unbound scopeOf
     within-at z j w g d b s =

@@ -35,7 +35,7 @@ use Rattle.evaluator.specs.Cycle.{insideIn, valueOutcome, ValidAnswer, s
 use Rattle.evaluator.proofs.Laws.{fitted-valid}
 
 -- the j-th number of a run is a value's
-nth-small : (l : code.Limits) (j : ℕ) → SmallLimits l → j < lengthOf (limitsIn l) → natAbs (l .lower +ℤ pos j) ≤ mantissaLimit
+pub nth-small : (l : code.Limits) (j : ℕ) → SmallLimits l → j < lengthOf (limitsIn l) → natAbs (l .lower +ℤ pos j) ≤ mantissaLimit
 unfolding lengthOf
 nth-small l j h b = go (l .lower) (l .upper) (l .lower +ℤ pos j) (h .low) (h .high) b (add-parts (l .lower) (pos j))
   where

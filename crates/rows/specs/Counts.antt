@@ -1,9 +1,11 @@
--- A row of counts of millionths against a row of values. Assumes nothing.
+-- A row of counts of millionths against a row of values, and its opposite. Assumes nothing.
 use mathlib.Core.Path.{_≡_}
+use mathlib.Core.Bool.{cond}
 use mathlib.Core.List.{List}
 use Prim.Native.Nat.{ℕ, _<_}
 use lib.ListN.{length, getD}
-use lib.IntN.{ℤ, pos}
+use lib.IntN.{ℤ, pos, negsuc, negℤ}
+use lib.Signed.{ltZ}
 use Rattle.value.specs.declared.Fit.the-variants.{Fits}
 use Rattle.value.specs.Decimal.{zeroValue}
 use Rattle.value.specs.Gathering.{ofMillionths}
@@ -18,3 +20,7 @@ pub record RowIs (l : List ℤ) (r : Row) : Type 0 where
 pub record RowOf (vs : List Variable) (l : List ℤ) (r : Row) : Type 0 where
   pub count : length r ≡ length vs
   pub row : RowIs l r
+
+-- the opposite of a count; what is below any count stays
+unfoldable pub opposed : ℤ → ℤ
+opposed z = cond (ltZ z (negsuc 999999999999999)) z (negℤ z)

@@ -318,7 +318,7 @@ pub record Numbered (names : List Name) (i : ℕ) (u : Used) : Type 0 where
   pub numbered : u .number ≡ i + ahead
   pub sorted : u .sort ≡ name .sort
 
-found-numbered : (l : List ℕ) (p : ℕ) (names : List Name) (i : ℕ) (u : Used) → find l names i p ≡ some u → Numbered names i u
+pub found-numbered : (l : List ℕ) (p : ℕ) (names : List Name) (i : ℕ) (u : Used) → find l names i p ≡ some u → Numbered names i u
 unfolding find
 found-numbered l p [] i u e = absurd (let z : _≡_ {A = ℕ} 0 1 = cc in omega arith)
 found-numbered l p (x ∷ xs) i u e = go (sameBytes l (x .spelling)) (found-numbered l p xs (suc i) u) e

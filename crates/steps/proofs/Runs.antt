@@ -29,7 +29,7 @@ use Rattle.steps.specs.declared.values.Bounds.{Bounds}
 use Rattle.steps.specs.declared.values.Runs.the-variants as runs
 use Rattle.steps.specs.declared.values.Tested.the-variants as tested
 use Rattle.steps.specs.Scopes.{bindingsOf, boundMore, scopeOf}
-use Rattle.steps.specs.Values.{limitsIn, SmallLimits, SmallSpan, LengthIs, runOutcome, RunIs, BindsNth, insideLimits, Tests}
+use Rattle.steps.specs.Values.{limitsIn, SmallLimits, SmallSpan, LengthIs, runOutcome, RunIs, NumberIs, BindsNth, insideLimits, Tests}
 
 -- a number as it is read back
 abbrev pub seen : ℤ → ℤ
@@ -216,16 +216,19 @@ pub nth-may : (a : ℤ) (j : ℕ) (x : Bool) → x ≡ leb (natAbs a) mantissaLi
 unfolding runLimit
 nth-may a j x e f g = (leb-true (natAbs a) mantissaLimit (sym e ∙ not-false x f), g)
 
-module _ (s : Held) (i : ℕ) (l : Limits) (j : ℕ) where
-  pub nth-wide : (x : Bool) → mag (l .lower) < 2 ^ 63 → x ≡ leb (natAbs (seen (l .lower))) mantissaLimit → not x ≡ true → BindsNth s i l j s
+module _ (l : Limits) (j : ℕ) where
+  pub nth-wide : (x : Bool) → mag (l .lower) < 2 ^ 63 → x ≡ leb (natAbs (seen (l .lower))) mantissaLimit → not x ≡ true → NumberIs l j (pos 0)
   nth-wide x m e f = record { is = λ h g. absurd (wide (l .lower) x m e f h) }
 
-  pub nth-beyond : 256 < j → BindsNth s i l j s
+  pub nth-beyond : 256 < j → NumberIs l j (pos 0)
   unfolding runLimit
   nth-beyond e = record { is = λ h g. absurd (omega arith) }
 
-  pub nth-bound : (k : ℤ) (t : Held) → mag (l .lower) < 2 ^ 63 → k ≡ seen (l .lower) +ℤ pos j → mag k < 2 ^ 63 → bindingsOf t ≡ boundMore i (seen k) (bindingsOf s) → BindsNth s i l j t
-  nth-bound k t m e n g = record { is = λ h b. g ∙ ap (λ z. boundMore i z (bindingsOf s)) (back {z = k} n ∙ e ∙ ap (λ z. z +ℤ pos j) (back {z = l .lower} m)) }
+  pub nth-number : (k : ℤ) → mag (l .lower) < 2 ^ 63 → mag k < 2 ^ 63 → k ≡ seen (l .lower) +ℤ pos j → NumberIs l j (seen k)
+  nth-number k m n e = record { is = λ h b. back {z = k} n ∙ e ∙ ap (λ z. z +ℤ pos j) (back {z = l .lower} m) }
+
+  pub nth-bound : (s : Held) (i : ℕ) (k : ℤ) (t : Held) → mag k < 2 ^ 63 → NumberIs l j k → bindingsOf t ≡ boundMore i (seen k) (bindingsOf s) → BindsNth s i l j t
+  nth-bound s i k t n e g = record { is = λ h b. g ∙ ap (λ z. boundMore i z (bindingsOf s)) (back {z = k} n ∙ e .is h b) }
 
 -- ---- the domain test of one number
 

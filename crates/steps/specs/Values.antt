@@ -96,7 +96,11 @@ pub record RunIs (l : Limits) (i : ℕ) (s : Held) (p : ℕ) (r : Runs) : Type 0
   pub short : (n : ℕ) → r ≡ runs.Count n → n ≤ runLimit
   pub room : (n : ℕ) → r ≡ runs.Count n → ltb (length (bindingsOf s)) indexLimit ≡ true
 
--- an index bound to the j-th number of a run
+-- the j-th number of a run
+pub record NumberIs (l : Limits) (j : ℕ) (k : ℤ) : Type 0 where
+  pub is : natAbs (l .lower) ≤ mantissaLimit → j ≤ runLimit → k ≡ l .lower +ℤ pos j
+
+-- an index bound to it
 pub record BindsNth (s : Held) (i : ℕ) (l : Limits) (j : ℕ) (t : Held) : Type 0 where
   pub is : natAbs (l .lower) ≤ mantissaLimit → j ≤ runLimit → bindingsOf t ≡ boundMore i (l .lower +ℤ pos j) (bindingsOf s)
 

@@ -13,7 +13,7 @@ ghost use Rattle.rules.specs.Limits.{mantissaLimit, runLimit};
 ghost use Rattle.value.specs.Integer.{up};
 ghost use Rattle.value.specs.Decimal.{zeroValue, productOf, sumOf, ifInRange};
 ghost use Rattle.store.specs.Element.{listOf, extended};
-ghost use Rattle.steps.specs.Values.{fittedAt, signedValue, wholeAnswer, boundAnswer, SmallSpan, LengthIs, RunIs, BindsNth, Tests, KnownIs};
+ghost use Rattle.steps.specs.Values.{fittedAt, signedValue, wholeAnswer, boundAnswer, SmallSpan, LengthIs, RunIs, NumberIs, BindsNth, Tests, KnownIs};
 
 // A value and the position behind it, or a refusal and its place.
 pub enum Answer {
@@ -208,18 +208,25 @@ fn nth(a: i64, j: usize) -> i64
     a + j as i64
 }
 
+// The j-th number of a run by its limits; 0 where they are no values, or the run is never so long.
+pub fn nth_number(l: Limits, j: usize) -> i64
+    ensures { λ r. ⌜ NumberIs l j r ⌝ }
+{
+    let a = l.lower;
+    if !is_small(a) {
+        return 0;
+    }
+    if rules::RUN_LIMIT < j {
+        return 0;
+    }
+    nth(a, j)
+}
+
 // An index bound to the j-th number of its run.
 pub fn bind_nth(sc: Scope, i: usize, l: Limits, j: usize) -> Scope
     ensures { λ r. ⌜ BindsNth sc i l j r ⌝ }
 {
-    let a = l.lower;
-    if !is_small(a) {
-        return sc;
-    }
-    if rules::RUN_LIMIT < j {
-        return sc;
-    }
-    let k = nth(a, j);
+    let k = nth_number(l, j);
     sc.bind(i, k)
 }
 

@@ -1,5 +1,5 @@
 -- `values::bind_nth` meets its contract. Assumes nothing.
-use Rattle.steps.proofs.Runs.{seen, nth-wide, nth-beyond, nth-may, nth-bound}
+use Rattle.steps.proofs.Runs.{nth-bound}
 use borrow.Author.Needs.{needs}
 use Rattle.steps.proofs.values.bind_nth.Statement.{statement}
 use Rattle.steps.proofs.values.bind_nth.Tie as tie
@@ -8,9 +8,6 @@ pub bind-nth-spec : {M : Type 1} → statement M
 bind-nth-spec =
     tie.close
     (tie.spec
-    (λ c κs. search needs)  -- is-small-requires
-    (λ c. search nth-wide depth 6)  -- returns
-    (λ c. search nth-beyond depth 6)  -- returns-2
-    (λ c κs. nth-may (seen (c .before .before .before .before .args .l .lower)) _ _ (c .before .before .is-small .ensures) (c .before .if1 .left) (c .if2 .left))  -- nth-requires
+    (λ c κs. search needs)  -- nth-number-requires
     (λ c κs. search needs)  -- bind-requires
-    (λ c. search nth-bound depth 7))  -- returns-3
+    (λ c. search nth-bound depth 6))  -- returns

@@ -1,0 +1,5 @@
+pub mod Declared
+pub mod Kept
+pub mod Grounds
+pub mod Laws
+pub mod Worlds

@@ -1,0 +1,5 @@
+pub mod Lists
+pub mod Marks
+pub mod Steps
+pub mod Listings
+pub mod Joined

@@ -1,0 +1,4 @@
+pub mod Few
+pub mod Entries
+pub mod Readers
+pub mod Lists

@@ -1,0 +1,20 @@
+-- `sheet::name_of` meets its contract. Assumes nothing.
+use borrow.Author.Needs.{needs}
+use Rattle.sheet.proofs.Words.{name-is}
+use Rattle.sheet.proofs.name_of.Statement.{statement}
+use Rattle.sheet.proofs.name_of.Tie as tie
+
+row-word-requires : tie.Need-row-word-requires
+row-word-requires c κs = search needs
+
+row-word-requires-2 : tie.Need-row-word-requires-2
+row-word-requires-2 c κs = search needs
+
+part-requires : tie.Need-part-requires
+part-requires c κs = search needs
+
+returns : tie.Need-returns
+returns c = name-is _ _ _ _ _ _ (c .before .before .row-word .ensures) (c .before .row-word2 .ensures) (c .part .ensures)
+
+pub name-of-spec : {M : Type 1} → statement M
+name-of-spec = tie.close (tie.spec row-word-requires row-word-requires-2 part-requires returns)

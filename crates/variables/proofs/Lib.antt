@@ -1,0 +1,4 @@
+pub mod Names
+pub mod Sorts
+pub mod Both
+pub mod Order
