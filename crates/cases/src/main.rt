@@ -6,7 +6,9 @@ use generator::Answer;
 ghost use mathlib.Core.Path.{_≡_};
 ghost use mathlib.Core.List.{[], _∷_};
 ghost use Prim.Native.Nat.{_+_, _<_, _≤_, _^_};
+ghost use lib.ListN.{length};
 ghost use Rattle.value.specs.Printed.{Written};
+ghost use Rattle.language.specs.Answer.{answer};
 ghost use Rattle.listing.specs.Shown.{shownNatural};
 ghost use Rattle.cases.specs.Told.{oneOf, nonzeroOf, told};
 
@@ -86,7 +88,10 @@ fn tell(a: Answer, out: &[u8]) -> bool {
     io::write_all(1, &text[..k]) && io::write_all(1, &out[..n])
 }
 
-fn run(text: &[u8], out: &mut [u8]) -> bool {
+// Writes the answer for a text and an output buffer, whose bytes are the definition's.
+fn run(text: &[u8], out: &mut [u8]) -> bool
+    ensures { λ _. ⌜ now (out .exit) ≡ answer (now (text .entry)) (length (now (out .entry))) .buffer ⌝ }
+{
     let a = generator::recipe_generate(text, out);
     tell(a, out)
 }

@@ -1,15 +1,17 @@
 -- The bounds that are stated for each variable, two words each: the largest lower one and the smallest upper one, 0 where none is
 -- stated. Assumes nothing.
 use mathlib.Core.Path.{_≡_}
-use mathlib.Core.Bool.{Bool}
+use mathlib.Core.Bool.{Bool, true, false, cond, _&&_}
 use mathlib.Core.List.{List, [], _∷_}
 use Prim.Native.Nat.{ℕ, _+_, _*_, _<_}
-use lib.ListN.{getD}
+use lib.Dec.{eqb}
+use lib.ListN.{getD, set}
 use Rattle.value.specs.declared.Value.{Value}
-use Rattle.value.specs.Decimal.{Valid, isAtMost}
+use Rattle.value.specs.Decimal.{Valid, isAtMost, inRange}
+use Rattle.language.specs.Syntax.{Relation, atMost, atLeast, equal}
 use Rattle.language.specs.All.{All}
 use Rattle.language.specs.Numbering.{Entry, picked, extreme, isAtLeast, lowerAt, upperAt}
-use Rattle.store.specs.Packed.{packed}
+use Rattle.store.specs.Packed.{packed, unpacked}
 
 -- what is stated for variable j, in text order
 unfoldable pub lowersOf : List Entry → ℕ → List Value
@@ -35,3 +37,33 @@ pub record BoundsHeld (b : List ℕ) (n : ℕ) (es : List Entry) : Type 0 where
   pub upper : (j : ℕ) → j < n → upperWord b j ≡ keptWord isAtLeast (uppersOf es j)
   pub validLower : (j : ℕ) → j < n → All Valid (lowersOf es j)
   pub validUpper : (j : ℕ) → j < n → All Valid (uppersOf es j)
+
+-- ---- one bound more
+
+-- does the old bound give way to the new one? Of lower bounds the larger is kept, of upper ones the smaller
+unfoldable pub givesWay : Bool → Value → Value → Bool
+givesWay true u v = cond (inRange u && inRange v) (isAtMost u v) false
+givesWay false u v = cond (inRange v && inRange u) (isAtMost v u) false
+
+-- the word after v is stated
+unfoldable pub statedWord : Bool → ℕ → Value → ℕ
+statedWord larger w v = cond (eqb w 0) (packed v) (cond (givesWay larger (unpacked w) v) (packed v) w)
+
+-- in word k, if there is a bound to state
+unfoldable pub stateWord : Bool → Bool → List ℕ → ℕ → Value → List ℕ
+stateWord larger b t k v = cond b (set t k (statedWord larger (getD t k 0) v)) t
+
+-- v stated for variable j, as a lower bound, as an upper one, or as both
+unfoldable pub boundStated : List ℕ → ℕ → Bool → Bool → Value → List ℕ
+boundStated t j lower upper v = stateWord false upper (stateWord true lower t (j * 2) v) (j * 2 + 1) v
+
+-- what a relation states
+abbrev pub statesLower : Relation → Bool
+statesLower atMost = false
+statesLower atLeast = true
+statesLower equal = true
+
+abbrev pub statesUpper : Relation → Bool
+statesUpper atMost = true
+statesUpper atLeast = false
+statesUpper equal = true

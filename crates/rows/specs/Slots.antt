@@ -3,13 +3,14 @@
 -- its key, the right side as its word) and a row of counts. The objective has a row of counts behind the slots, and one row more
 -- is spare. Assumes nothing.
 use mathlib.Core.Path.{_≡_}
-use mathlib.Core.Bool.{Bool, true, false}
+use mathlib.Core.Bool.{Bool, true, false, cond}
 use mathlib.Core.List.{List}
-use Prim.Native.Nat.{ℕ, suc, _+_, _-_, _*_, _≤_}
+use Prim.Native.Nat.{ℕ, suc, _+_, _-_, _*_, _/_, _<_, _≤_}
 use lib.Dec.{ltb}
 use lib.ListN.{length, take, drop}
 use lib.IntN.{ℤ}
 use Rattle.rules.specs.Limits.{rowLimit, variableLimit}
+use Rattle.value.specs.declared.Value.{Value}
 use Rattle.value.specs.Decimal.{Valid}
 use Rattle.language.specs.Numbering.{Variable, Row, Entry, keep, lessRow, equalRow}
 use Rattle.language.specs.Listed.{At}
@@ -18,6 +19,7 @@ use Rattle.store.specs.Key.{keyOf}
 use Rattle.store.specs.Table.{keyAt, wordAt}
 use Rattle.store.specs.Packed.{packed}
 use Rattle.store.specs.Entries.{Keyed}
+use Rattle.rows.specs.declared.Filled.{Filled}
 use Rattle.rows.specs.Counts.{RowOf}
 
 -- ---- rows of counts
@@ -67,3 +69,32 @@ pub record RowsHeld (vs : List Variable) (t : List ℕ) (m : List ℤ) (less equ
   pub room : less + equal ≤ rowLimit
   pub lessRows : (i : ℕ) (e : Entry) → At (keep lessRow es) i e → Slot vs t m (lessSlot i) e
   pub equalRows : (i : ℕ) (e : Entry) → At (keep equalRow es) i e → Slot vs t m (equalSlot i) e
+
+-- ---- one row more
+
+-- one more, as far as there are slots
+unfoldable pub oneMore : ℕ → ℕ
+oneMore n = cond (ltb n rowLimit) (n + 1) n
+
+unfoldable pub countedAs : Filled → Bool → Filled
+countedAs f true = record { less = f .less; equal = oneMore (f .equal) }
+countedAs f false = record { less = oneMore (f .less); equal = f .equal }
+
+-- row s of a table now has the key k and the word w, if it lies there, and every other row is as it was
+pub record Entered (t : List ℕ) (s k w : ℕ) (t′ : List ℕ) : Type 0 where
+  pub size : length t′ ≡ length t
+  pub key : s < length t / 4 → keyAt t′ s ≡ k
+  pub word : s < length t / 4 → wordAt t′ s ≡ w
+  pub otherKey : (p : ℕ) → (p ≡ s → ⊥) → keyAt t′ p ≡ keyAt t p
+  pub otherWord : (p : ℕ) → (p ≡ s → ⊥) → wordAt t′ p ≡ wordAt t p
+
+-- the first n counts of row s of a matrix are now p, and those of every other row as they were
+pub record RowPut (n : ℕ) (m : List ℤ) (s : ℕ) (p m′ : List ℤ) : Type 0 where
+  pub size : length m′ ≡ length m
+  pub here : countsAt m′ n s ≡ p
+  pub others : (k : ℕ) → (k ≡ s → ⊥) → countsAt m′ n k ≡ countsAt m n k
+
+-- the next row of the constraint number i at the element l, with its right side v
+pub record Wrote (t : List ℕ) (f : Filled) (b : Bool) (i : ℕ) (l : List ℤ) (v : Value) (r : Filled) (t′ : List ℕ) : Type 0 where
+  pub filled : r ≡ countedAs f b
+  pub row : Entered t (nextSlot (f .less) (f .equal) b) (keyOf i l) (packed v) t′

@@ -25,7 +25,7 @@ use Rattle.sheet.specs.Strings.{rowWord, nameAt, stringAt, titleOf}
 
 -- ---- visible bytes lie in the text
 
-visible-inside : (s : List ℕ) (i : ℕ) → Visible (getD s i 0) → i < length s
+pub visible-inside : (s : List ℕ) (i : ℕ) → Visible (getD s i 0) → i < length s
 visible-inside s i h = go (ltb i (length s)) refl
   where
     go : (t : Bool) → ltb i (length s) ≡ t → i < length s

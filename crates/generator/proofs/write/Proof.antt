@@ -1,0 +1,17 @@
+-- `generator::write` meets its contract. Assumes nothing.
+use borrow.Author.Needs.{needs}
+use Rattle.model.proofs.Laws.{rows-part}
+use Rattle.generator.proofs.Listings.{listed-rows}
+use Rattle.generator.proofs.write.Statement.{statement}
+use Rattle.generator.proofs.write.Tie as tie
+
+pub write-spec : {M : Type 1} → statement M
+write-spec =
+    tie.close
+    (tie.spec
+    (λ c. search needs)  -- mul-c
+    (λ c. search rows-part depth 5)  -- slice-aggregate-write
+    (λ c κs. search needs)  -- behind-brace-requires
+    (λ c κs. search needs)  -- write-requires
+    (λ c. search needs)  -- same-length
+    (λ c. search listed-rows depth 6))  -- returns

@@ -1,0 +1,31 @@
+-- `parts::word` meets its contract. Assumes nothing.
+use Rattle.parts.proofs.Laws.{word-past, word-end}
+use borrow.Author.Needs.{needs}
+use Rattle.parts.proofs.word.Statement.{statement}
+use Rattle.parts.proofs.word.Tie as tie
+
+mul-i : tie.Need-mul-i
+mul-i c = search needs
+
+add-i : tie.Need-add-i
+add-i c = search needs
+
+mul-result : tie.Need-mul-result
+mul-result c = search needs
+
+shared-slice-read-result : tie.Need-shared-slice-read-result
+shared-slice-read-result c = search needs
+
+returns : tie.Need-returns
+returns c = search needs
+
+returns-2 : tie.Need-returns-2
+returns-2 c = search word-end depth 3
+
+returns-3 : tie.Need-returns-3
+returns-3 c = search word-past depth 3
+
+pub word-spec : {M : Type 1} → statement M
+word-spec =
+    tie.close
+    (tie.spec mul-i add-i mul-result shared-slice-read-result returns returns-2 returns-3)

@@ -1,0 +1,119 @@
+/* A small host, as a mixer controller's program would be: it calls the generator with two buffers and tests every answer.
+   It prints a line for each group of calls, and ends with status 1 at the first answer that is not as it must be. */
+#include "recipe.h"
+
+#include <stdio.h>
+#include <stdlib.h>
+#include <string.h>
+
+static const char blend[] =
+    "OPEN {blend} index i; integer n; real p[i] (1 <= i <= n);\n"
+    "continuous x[i] (1 <= i <= n);\n"
+    "MINIMIZE: S(i, 1, n, p[i] * x[i])\n"
+    "{mass} S(i, 1, n, x[i]) = 1\n"
+    "{lime} x[1] - 2 * x[2] >= 0.5\n"
+    "{top} x[2] <= 0.75\n"
+    "INIT {today} n + 2 p[i] + 3.10 + 4 CLOSE\n";
+
+static const char listing[] =
+    "lp\t0\t2\t1\t2\tblend\ttoday\n"
+    "row\t1\tL\t-0.5\tlime\n"
+    "row\t2\tE\t1\tmass\n"
+    "var\t1\tC\t0\tinf\tx\t1\n"
+    "var\t2\tC\t0\t0.75\tx\t2\n"
+    "col\t1\t1\t-1\n"
+    "col\t1\t2\t1\n"
+    "col\t1\t3\t-3.1\n"
+    "col\t2\t1\t2\n"
+    "col\t2\t2\t1\n"
+    "col\t2\t3\t-4\n"
+    "end\n";
+
+/* The text of each refusal in two parts: the place is where the second begins. */
+static const struct {
+    uint32_t number;
+    const char *before, *rest;
+} refusals[] = {
+    {RECIPE_STRANGE_BYTE, "", "?"},
+    {RECIPE_MISPLACED, "OPEN ", "CLOSE"},
+    {RECIPE_BAD_NAME, "OPEN {a} index i, ", "i;"},
+    {RECIPE_UNFIT, "OPEN {a} continuous x; MINIMIZE: x {c} x <= 99999 ", "* 99999 CLOSE"},
+    {RECIPE_FULL, "OPEN {a} continuous x; MINIMIZE: x {c} x <= ((((((((((((", "(1))))))))))))) CLOSE"},
+    {RECIPE_BAD_INDEX, "OPEN {a} index i; real p[i] (1 <= i <= 1); continuous x; MINIMIZE: p[", "i] * x {c} x <= 1 INIT {d} p[i] + 1 CLOSE"},
+    {RECIPE_NOT_WHOLE, "OPEN {a} index i; continuous x; MINIMIZE: x {c} x <= ", "SUM(i, 1, 257, 1) CLOSE"},
+    {RECIPE_OUTSIDE, "OPEN {a} index i; integer n; real p[i] (1 <= i <= n); continuous x; MINIMIZE: ", "p[3] * x {c} x <= 1 INIT {d} n + 2 p[i] + 1 + 1 CLOSE"},
+    {RECIPE_MISSING, "OPEN {a} integer n; continuous x; MINIMIZE: x {c} x <= 1 INIT {d} n + 2 ", "+ 3 CLOSE"},
+};
+
+static uint8_t text[20000], kept[20000], out[RECIPE_BUFFER + 1];
+
+static void fail(const char *what)
+{
+    printf("wrong: %s\n", what);
+    exit(1);
+}
+
+/* Calls with a buffer of n bytes that is lent full and has a guard behind it, and tests all that an answer promises. */
+static struct recipe_answer call(size_t length, size_t n, uint32_t number, size_t place, const char *wanted)
+{
+    size_t i, size = strlen(wanted);
+    struct recipe_answer a;
+
+    memset(out, 0xaa, n);
+    out[n] = 0x55;
+    memcpy(kept, text, length);
+    a = recipe_generate(text, length, out, n);
+    if (a.number != number || a.place != place || a.length != size)
+        fail("number, place or length");
+    if (memcmp(out, wanted, size) != 0)
+        fail("the listing");
+    for (i = size; i < n; i++)
+        if (out[i] != 0)
+            fail("a byte behind the listing");
+    if (out[n] != 0x55)
+        fail("the guard behind the buffer");
+    if (memcmp(text, kept, length) != 0)
+        fail("the text was changed");
+    return a;
+}
+
+static size_t put(const char *before, const char *rest)
+{
+    return (size_t)sprintf((char *)text, "%s%s", before, rest);
+}
+
+int main(void)
+{
+    size_t i, length = put(blend, ""), size = strlen(listing);
+
+    call(length, RECIPE_BUFFER, RECIPE_ACCEPTED, 0, listing);
+    printf("blend is accepted: %zu bytes\n", size);
+
+    call(length, size, RECIPE_ACCEPTED, 0, listing);
+    call(length, size - 1, RECIPE_LONG_LISTING, size, "");
+    printf("a buffer one byte short: refused %d at %zu\n", RECIPE_LONG_LISTING, size);
+
+    for (i = 0; i <= 400; i++) {
+        if (i < size)
+            call(length, i, RECIPE_LONG_LISTING, size, "");
+        else
+            call(length, i, RECIPE_ACCEPTED, 0, listing);
+    }
+    printf("buffers of 0 to 400 bytes\n");
+
+    memset(text, ' ', RECIPE_TEXT_LIMIT + 1);
+    call(RECIPE_TEXT_LIMIT + 1, RECIPE_BUFFER, RECIPE_LONG_TEXT, RECIPE_TEXT_LIMIT, "");
+    printf("refused %d at %d\n", RECIPE_LONG_TEXT, RECIPE_TEXT_LIMIT);
+    for (i = 0; i < sizeof refusals / sizeof *refusals; i++) {
+        size_t place = strlen(refusals[i].before);
+        length = put(refusals[i].before, refusals[i].rest);
+        call(length, RECIPE_BUFFER, refusals[i].number, place, "");
+        call(length, 0, refusals[i].number, place, "");
+        printf("refused %u at %zu\n", (unsigned)refusals[i].number, place);
+    }
+
+    length = put(blend, "");
+    call(length, RECIPE_BUFFER, RECIPE_ACCEPTED, 0, listing);
+    printf("blend again: nothing was kept\n");
+    return 0;
+}

@@ -1,0 +1,129 @@
+/* Measures the stack that a call needs: it calls in threads whose stacks are found by halving, each in a process of its own.
+   The texts are document 01's case, and two that nest as deep as the language allows: formulas, each in twelve brackets around
+   the one before, and domains, each with a limit in brackets that reads the name before. It prints bytes for each, and ends with
+   status 1 if one is above RECIPE_STACK. */
+#include "recipe.h"
+
+#include <limits.h>
+#include <pthread.h>
+#include <stdio.h>
+#include <stdlib.h>
+#include <string.h>
+#include <sys/wait.h>
+#include <unistd.h>
+
+#define NAMES 60
+
+static char text[RECIPE_TEXT_LIMIT + 1];
+static uint8_t out[RECIPE_BUFFER];
+static size_t length;
+
+static void add(const char *piece)
+{
+    size_t n = strlen(piece);
+    if (length + n > RECIPE_TEXT_LIMIT)
+        abort();
+    memcpy(text + length, piece, n + 1);
+    length += n;
+}
+
+static void add_name(char letter, int number)
+{
+    char name[8];
+    sprintf(name, "%c%d", letter, number);
+    add(name);
+}
+
+static void blend(void)
+{
+    add("OPEN {blend} index i; integer n; real p[i] (1 <= i <= n); continuous x[i] (1 <= i <= n);"
+        "MINIMIZE: S(i, 1, n, p[i] * x[i]) {mass} S(i, 1, n, x[i]) = 1 {lime} x[1] - 2 * x[2] >= 0.5 {top} x[2] <= 0.75 "
+        "INIT {today} n + 2 p[i] + 3.10 + 4 CLOSE");
+}
+
+static void formulas(void)
+{
+    int i;
+    add("OPEN {a} formula f1 = 1");
+    for (i = 2; i <= NAMES; i++) {
+        add(",");
+        add_name('f', i);
+        add("=((((((((((((");
+        add_name('f', i - 1);
+        add("))))))))))))");
+    }
+    add("; continuous x; MINIMIZE: x {c} x <= ");
+    add_name('f', NAMES);
+    add(" CLOSE");
+}
+
+static void domains(void)
+{
+    int i;
+    add("OPEN {a} index i; real p1[i] (1<=i<=1)");
+    for (i = 2; i <= NAMES; i++) {
+        add(",");
+        add_name('p', i);
+        add("[i](1<=i<=((((((((((");
+        add_name('p', i - 1);
+        add("[1])))))))))))");
+    }
+    add("; continuous x; MINIMIZE: x {c} x <= ");
+    add_name('p', NAMES);
+    add("[1] INIT {d} ");
+    for (i = 1; i <= NAMES; i++) {
+        add_name('p', i);
+        add("[1]+1 ");
+    }
+    add("CLOSE");
+}
+
+static void *call(void *unused)
+{
+    struct recipe_answer a = recipe_generate((const uint8_t *)text, length, out, sizeof out);
+    (void)unused;
+    _exit(a.number == RECIPE_ACCEPTED ? 0 : 2);
+}
+
+/* Whether a call gets by with this much. */
+static int enough(size_t stack)
+{
+    int status;
+    pid_t child = fork();
+    if (child == 0) {
+        pthread_t thread;
+        pthread_attr_t attributes;
+        pthread_attr_init(&attributes);
+        if (pthread_attr_setstacksize(&attributes, stack) != 0 || pthread_create(&thread, &attributes, call, NULL) != 0)
+            _exit(3);
+        pthread_join(thread, NULL);
+    }
+    waitpid(child, &status, 0);
+    if (WIFEXITED(status) && WEXITSTATUS(status) == 2) {
+        printf("a text was refused\n");
+        exit(1);
+    }
+    return WIFEXITED(status) && WEXITSTATUS(status) == 0;
+}
+
+static int measure(const char *name, void (*write)(void))
+{
+    size_t low = 16384, high = 64 << 20;
+    length = 0;
+    write();
+    while (high - low > 1024) {
+        size_t middle = (low + high) / 2 / 16 * 16;
+        if (enough(middle))
+            high = middle;
+        else
+            low = middle;
+    }
+    printf("stack for %s: %zu bytes\n", name, high);
+    return high > RECIPE_STACK;
+}
+
+int main(void)
+{
+    setvbuf(stdout, NULL, _IONBF, 0);
+    return measure("blend", blend) | measure("formulas", formulas) | measure("domains", domains);
+}

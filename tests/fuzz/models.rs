@@ -1,0 +1,668 @@
+//! Random model texts: mostly right ones, written by the grammar, and changes that break them.
+//!
+//! Runs are short and few names depend on each other, since a text may ask for as many steps as it writes.
+
+/// Numbers from a seed (xorshift).
+pub struct Random {
+    state: u64,
+}
+
+impl Random {
+    pub fn new(seed: u64) -> Random {
+        Random {
+            state: seed.wrapping_mul(0x9e37_79b9_7f4a_7c15) | 1,
+        }
+    }
+
+    pub fn next(&mut self) -> u64 {
+        self.state ^= self.state << 13;
+        self.state ^= self.state >> 7;
+        self.state ^= self.state << 17;
+        self.state
+    }
+
+    pub fn below(&mut self, n: usize) -> usize {
+        (self.next() >> 11) as usize % n
+    }
+
+    pub fn chance(&mut self, percent: usize) -> bool {
+        self.below(100) < percent
+    }
+
+    fn of<'a>(&mut self, choices: &[&'a str]) -> &'a str {
+        choices[self.below(choices.len())]
+    }
+}
+
+/// A limit of a declared domain, of a kind whose value the writer knows.
+#[derive(Clone, Copy)]
+enum Limit {
+    Number(i64),
+    Integer(usize),
+    Earlier(usize),
+}
+
+#[derive(Clone)]
+struct Name {
+    spelling: String,
+    domain: Vec<(usize, Limit, Limit)>,
+}
+
+const INDICES: [&str; 5] = ["i", "j", "k", "l", "m1"];
+
+struct Writer<'a> {
+    random: &'a mut Random,
+    text: String,
+    indices: usize,
+    scalars: Vec<(String, i64)>,
+    integers: Vec<Name>,
+    reals: Vec<Name>,
+    formulas: usize,
+    variables: Vec<Name>,
+    bound: Vec<usize>,
+}
+
+/// A model text.
+pub fn model(random: &mut Random) -> Vec<u8> {
+    let indices = 1 + random.below(INDICES.len());
+    let mut writer = Writer {
+        random,
+        text: String::new(),
+        indices,
+        scalars: Vec::new(),
+        integers: Vec::new(),
+        reals: Vec::new(),
+        formulas: 0,
+        variables: Vec::new(),
+        bound: Vec::new(),
+    };
+    writer.model();
+    writer.text.into_bytes()
+}
+
+impl Writer<'_> {
+    fn put(&mut self, token: &str) {
+        let blank = match self.random.below(20) {
+            0 => "\n",
+            1 => "  ",
+            2 => "\t",
+            _ => " ",
+        };
+        self.text.push_str(token);
+        self.text.push_str(blank);
+    }
+
+    fn title(&mut self) {
+        let title = self
+            .random
+            .of(&["{a}", "{row of feeds}", "{b, c; 1}", "{~!}", "{S(}"]);
+        self.put(title);
+    }
+
+    fn model(&mut self) {
+        self.put("OPEN");
+        self.title();
+        self.declarations();
+        let goal = self.random.of(&["MINIMIZE", "MAXIMIZE"]);
+        self.put(goal);
+        self.put(":");
+        self.linear();
+        for _ in 0..1 + self.random.below(5) {
+            self.constraint();
+        }
+        if self.scalars.len() + self.integers.len() + self.reals.len() > 0 || self.random.chance(3)
+        {
+            self.put("INIT");
+            self.title();
+            self.data();
+        }
+        self.put("CLOSE");
+    }
+
+    // ---- declarations
+
+    fn declarations(&mut self) {
+        self.put("index");
+        for i in 0..self.indices {
+            self.comma(i);
+            self.put(INDICES[i]);
+        }
+        self.put(";");
+        for (i, name) in ["n", "t"].iter().enumerate().take(self.random.below(3)) {
+            self.put(if i == 0 { "integer" } else { "," });
+            self.put(name);
+            let value = if self.random.chance(90) {
+                2 + self.random.below(2)
+            } else {
+                self.random.below(5)
+            } as i64;
+            self.scalars.push((name.to_string(), value));
+        }
+        self.integers = self.names(
+            &["q1", "q2"],
+            if self.scalars.is_empty() {
+                "integer"
+            } else {
+                ","
+            },
+        );
+        if !self.scalars.is_empty() || !self.integers.is_empty() {
+            self.put(";");
+        }
+        self.reals = self.names(&["p", "a", "price"], "real");
+        if !self.reals.is_empty() {
+            self.put(";");
+        }
+        for i in 0..self.random.below(4) {
+            self.put(if i == 0 { "formula" } else { "," });
+            let name = format!("f{i}");
+            self.put(&name);
+            self.put("=");
+            // A declared formula may use any index: it is bound, or not, where the formula is used.
+            self.bound = (0..self.random.below(2)).collect();
+            self.formula(2);
+            self.formulas = i + 1;
+        }
+        self.bound.clear();
+        if self.formulas > 0 {
+            self.put(";");
+        }
+        for (word, spellings) in [("discrete", ["z", "y1"]), ("continuous", ["x", "y"])] {
+            let names = self.names(&spellings, word);
+            if !names.is_empty() {
+                self.put(";");
+            }
+            self.variables.extend(names);
+        }
+        if self.variables.is_empty() {
+            self.put("continuous x ;");
+            self.variables.push(Name {
+                spelling: "x".to_string(),
+                domain: Vec::new(),
+            });
+        }
+    }
+
+    fn comma(&mut self, i: usize) {
+        if i > 0 {
+            self.put(",");
+        }
+    }
+
+    fn names(&mut self, spellings: &[&str], word: &str) -> Vec<Name> {
+        let mut names = Vec::new();
+        for (i, spelling) in spellings
+            .iter()
+            .enumerate()
+            .take(self.random.below(spellings.len() + 1))
+        {
+            self.put(if i == 0 { word } else { "," });
+            self.put(spelling);
+            let domain = self.declared_domain();
+            names.push(Name {
+                spelling: spelling.to_string(),
+                domain,
+            });
+        }
+        names
+    }
+
+    fn declared_domain(&mut self) -> Vec<(usize, Limit, Limit)> {
+        let mut domain: Vec<(usize, Limit, Limit)> = Vec::new();
+        let first = self.random.below(self.indices);
+        for j in 0..self.random.below(4).min(self.indices) {
+            let lower = Limit::Number(if self.random.chance(90) {
+                1
+            } else {
+                self.random.below(4) as i64 - 1
+            });
+            let upper = match self.random.below(4) {
+                0 if !self.scalars.is_empty() => {
+                    Limit::Integer(self.random.below(self.scalars.len()))
+                }
+                1 if j > 0 && self.random.chance(40) => Limit::Earlier(self.random.below(j)),
+                _ => Limit::Number(if self.random.chance(90) {
+                    3
+                } else {
+                    self.random.below(5) as i64
+                }),
+            };
+            domain.push(((first + j) % self.indices, lower, upper));
+        }
+        if domain.is_empty() {
+            return domain;
+        }
+        self.put("[");
+        for (j, entry) in domain.iter().enumerate() {
+            self.comma(j);
+            self.put(INDICES[entry.0]);
+        }
+        self.put("]");
+        self.put("(");
+        for (j, &(index, lower, upper)) in domain.iter().enumerate() {
+            self.comma(j);
+            self.limit(lower, &domain);
+            self.put("<=");
+            self.put(INDICES[index]);
+            self.put("<=");
+            self.limit(upper, &domain);
+        }
+        self.put(")");
+        domain
+    }
+
+    fn limit(&mut self, limit: Limit, domain: &[(usize, Limit, Limit)]) {
+        let token = match limit {
+            Limit::Number(n) => n.to_string(),
+            Limit::Integer(i) => self.scalars[i].0.clone(),
+            Limit::Earlier(j) => INDICES[domain[j].0].to_string(),
+        };
+        self.put(&token);
+    }
+
+    fn value(&self, limit: Limit, element: &[i64]) -> i64 {
+        match limit {
+            Limit::Number(n) => n,
+            Limit::Integer(i) => self.scalars[i].1,
+            Limit::Earlier(j) => element[j],
+        }
+    }
+
+    fn elements(
+        &self,
+        domain: &[(usize, Limit, Limit)],
+        element: &mut Vec<i64>,
+        all: &mut Vec<Vec<i64>>,
+    ) {
+        let Some(&(_, lower, upper)) = domain.get(element.len()) else {
+            all.push(element.clone());
+            return;
+        };
+        for k in self.value(lower, element)..=self.value(upper, element) {
+            element.push(k);
+            self.elements(domain, element, all);
+            element.pop();
+        }
+    }
+
+    // ---- formulas
+
+    fn literal(&mut self) {
+        let literals = if self.random.chance(92) {
+            &["0", "1", "2", "3", "0.5", ".25", "1.50", "100"]
+        } else {
+            &[
+                "12.75",
+                "99999",
+                "0.001",
+                "999999999",
+                "0.000001",
+                "1000",
+                "0.01",
+                "7",
+            ]
+        };
+        let literal = self.random.of(literals);
+        self.put(literal);
+    }
+
+    fn formula(&mut self, depth: usize) {
+        if self.random.chance(15) {
+            let sign = self.random.of(&["+", "-"]);
+            self.put(sign);
+        }
+        for i in 0..1 + self.random.below(2) {
+            if i > 0 {
+                let sign = self.random.of(&["+", "-"]);
+                self.put(sign);
+            }
+            self.term(depth);
+        }
+    }
+
+    fn term(&mut self, depth: usize) {
+        self.primary(depth);
+        if self.random.chance(25) {
+            self.put("*");
+            self.primary(depth);
+        }
+    }
+
+    fn primary(&mut self, depth: usize) {
+        match self.random.below(if depth == 0 { 6 } else { 10 }) {
+            0 if !self.scalars.is_empty() => {
+                let name = self.scalars[self.random.below(self.scalars.len())]
+                    .0
+                    .clone();
+                self.put(&name);
+            }
+            1 if self.formulas > 0 => {
+                let name = format!("f{}", self.random.below(self.formulas));
+                self.put(&name);
+            }
+            2 | 3 if !self.bound.is_empty() => {
+                let index = self.bound[self.random.below(self.bound.len())];
+                self.put(INDICES[index]);
+            }
+            4 => self.datum(depth),
+            6 => {
+                self.put("(");
+                self.formula(depth - 1);
+                self.put(")");
+            }
+            7 => self.sum(depth),
+            8 | 9 => self.datum(depth),
+            _ => self.literal(),
+        }
+    }
+
+    fn datum(&mut self, depth: usize) {
+        let names: Vec<Name> = self.reals.iter().chain(&self.integers).cloned().collect();
+        if names.is_empty() {
+            return self.literal();
+        }
+        let name = &names[self.random.below(names.len())];
+        self.named(name, depth);
+    }
+
+    fn named(&mut self, name: &Name, depth: usize) {
+        self.put(&name.spelling);
+        if name.domain.is_empty() {
+            return;
+        }
+        self.put("[");
+        for j in 0..name.domain.len() {
+            self.comma(j);
+            if !self.bound.is_empty() && self.random.chance(70) {
+                let index = self.bound[self.random.below(self.bound.len())];
+                self.put(INDICES[index]);
+            } else if depth > 0 && self.random.chance(4) {
+                self.formula(depth - 1);
+            } else {
+                let number = self
+                    .random
+                    .of(&["1", "1", "1", "2", "1 + 1", "2 * 1", "2.0"]);
+                self.put(number);
+            }
+        }
+        self.put("]");
+    }
+
+    /// Takes an index that has no value, if there is one, and writes an index and its limits.
+    fn run(&mut self) -> usize {
+        let free: Vec<usize> = (0..self.indices)
+            .filter(|i| !self.bound.contains(i))
+            .collect();
+        let index = if free.is_empty() || self.random.chance(3) {
+            self.random.below(self.indices)
+        } else {
+            free[self.random.below(free.len())]
+        };
+        self.put(INDICES[index]);
+        self.put(",");
+        self.put("1");
+        self.put(",");
+        if !self.scalars.is_empty() && self.random.chance(40) {
+            let name = self.scalars[self.random.below(self.scalars.len())]
+                .0
+                .clone();
+            self.put(&name);
+        } else if !self.bound.is_empty() && self.random.chance(30) {
+            let index = self.bound[self.random.below(self.bound.len())];
+            self.put(INDICES[index]);
+        } else {
+            let upper = if self.random.chance(95) {
+                self.random.below(3)
+            } else {
+                self.random.below(5)
+            }
+            .to_string();
+            self.put(&upper);
+        }
+        self.put(",");
+        index
+    }
+
+    fn sum(&mut self, depth: usize) {
+        self.put("SUM");
+        self.put("(");
+        let index = self.run();
+        self.bound.push(index);
+        self.formula(depth - 1);
+        self.bound.pop();
+        self.put(")");
+    }
+
+    // ---- linear forms
+
+    fn variable(&mut self) {
+        let name = self.variables[self.random.below(self.variables.len())].clone();
+        self.named(&name, 1);
+    }
+
+    fn linear(&mut self) {
+        for i in 0..1 + self.random.below(3) {
+            if i > 0 || self.random.chance(10) {
+                let sign = self.random.of(&["+", "-"]);
+                self.put(sign);
+            }
+            while self.random.chance(35) {
+                self.primary(1);
+                self.put("*");
+            }
+            if self.random.chance(45) {
+                self.sigma();
+            } else {
+                self.variable();
+            }
+        }
+    }
+
+    fn sigma(&mut self) {
+        self.put("S");
+        self.put("(");
+        let index = self.run();
+        self.bound.push(index);
+        if self.bound.len() < 4 && self.random.chance(25) {
+            self.sigma();
+        } else {
+            for i in 0..1 + self.random.below(2) {
+                if i > 0 || self.random.chance(10) {
+                    let sign = self.random.of(&["+", "-"]);
+                    self.put(sign);
+                }
+                while self.random.chance(35) {
+                    self.primary(1);
+                    self.put("*");
+                }
+                self.variable();
+            }
+        }
+        self.bound.pop();
+        self.put(")");
+    }
+
+    fn constraint(&mut self) {
+        self.title();
+        let count = self.random.below(3).min(self.indices);
+        let first = self.random.below(self.indices);
+        let domain: Vec<usize> = (0..count).map(|j| (first + j) % self.indices).collect();
+        self.bound = domain.clone();
+        if self.random.chance(35) {
+            self.variable();
+        } else {
+            self.linear();
+        }
+        let relation = self.random.of(&["<=", ">=", "="]);
+        self.put(relation);
+        self.formula(2);
+        self.bound.clear();
+        if domain.is_empty() {
+            return;
+        }
+        self.put("(");
+        for (j, index) in domain.iter().enumerate() {
+            self.comma(j);
+            self.put("1 <=");
+            self.put(INDICES[*index]);
+            self.put("<=");
+            if j > 0 && self.random.chance(30) {
+                self.put(INDICES[domain[0]]);
+            } else {
+                let upper = if self.random.chance(95) {
+                    self.random.below(3)
+                } else {
+                    self.random.below(5)
+                }
+                .to_string();
+                self.put(&upper);
+            }
+        }
+        self.put(")");
+    }
+
+    // ---- data
+
+    fn data(&mut self) {
+        for (name, value) in self.scalars.clone() {
+            self.put(&name);
+            let number = format!("+ {value}");
+            self.put(&number);
+        }
+        for (whole, names) in [(true, self.integers.clone()), (false, self.reals.clone())] {
+            for name in names {
+                self.portions(&name, whole);
+            }
+        }
+        if self.random.chance(4) {
+            self.put("x + 1");
+        }
+    }
+
+    fn number(&mut self, whole: bool) {
+        let number = if whole {
+            self.random.of(&[
+                "+ 1", "+ 2", "+ 1.0", "+ 1", "+ 2", "+ 1", "+ 1", "- 1", "+ 0", "+ 2",
+            ])
+        } else {
+            self.random
+                .of(&["+ 1", "+ 0.5", "- 2.25", "+ 3.10", "+ 0", "+ 12", "+ 0.01"])
+        };
+        self.put(number);
+    }
+
+    fn portions(&mut self, name: &Name, whole: bool) {
+        let mut elements = Vec::new();
+        self.elements(&name.domain, &mut Vec::new(), &mut elements);
+        if elements.is_empty() && self.random.chance(50) {
+            return;
+        }
+        if name.domain.is_empty() {
+            self.put(&name.spelling);
+            self.number(whole);
+        } else if self.random.chance(25) {
+            for element in &elements {
+                self.put(&name.spelling);
+                let entries: Vec<String> = element.iter().map(i64::to_string).collect();
+                let entries = format!("[{}]", entries.join(","));
+                self.put(&entries);
+                self.number(whole);
+            }
+        } else {
+            self.put(&name.spelling);
+            let marks: Vec<&str> = (0..name.domain.len())
+                .map(|j| INDICES[j % self.indices])
+                .collect();
+            let entries = format!("[{}]", marks.join(","));
+            self.put(&entries);
+            if self.random.chance(20) {
+                let order: Vec<&str> = if self.random.chance(50) {
+                    marks.iter().rev().copied().collect()
+                } else {
+                    marks
+                };
+                let order = format!("({})", order.join(","));
+                self.put(&order);
+            }
+            let count = elements.len() + usize::from(self.random.chance(2))
+                - usize::from(!elements.is_empty() && self.random.chance(2));
+            for _ in 0..count {
+                self.number(whole);
+            }
+        }
+    }
+}
+
+/// A text with a few changes: bytes or words left out, doubled, swapped or put in, or the end cut off.
+pub fn changed(random: &mut Random, text: &[u8]) -> Vec<u8> {
+    let mut text = text.to_vec();
+    for _ in 0..1 + random.below(3) {
+        if text.is_empty() {
+            break;
+        }
+        let at = random.below(text.len());
+        match random.below(9) {
+            0 => {
+                text.remove(at);
+            }
+            1 => text[at] = random.below(256) as u8,
+            2 => text.truncate(at),
+            3 => {
+                let end = (at + 1 + random.below(12)).min(text.len());
+                text.drain(at..end);
+            }
+            4 => {
+                let end = (at + 1 + random.below(12)).min(text.len());
+                let piece = text[at..end].to_vec();
+                let to = random.below(text.len());
+                text.splice(to..to, piece);
+            }
+            _ => {
+                let words = [
+                    "+",
+                    "-",
+                    "*",
+                    ",",
+                    ";",
+                    ":",
+                    "=",
+                    "<=",
+                    ">=",
+                    "(",
+                    ")",
+                    "[",
+                    "]",
+                    "{x}",
+                    "OPEN",
+                    "CLOSE",
+                    "INIT",
+                    "SUM(i,1,2,",
+                    "S(i,1,2,",
+                    "i",
+                    "j",
+                    "x",
+                    "n",
+                    "p[1]",
+                    "0.5",
+                    "7",
+                    "99999",
+                    "1000000000",
+                    "index",
+                    "real",
+                    "integer",
+                    "formula",
+                    "discrete",
+                    "continuous",
+                    "MINIMIZE",
+                    "averylongnameindeed",
+                    "?",
+                    "SUM(k,1,257,",
+                    " ",
+                ];
+                let word = format!(" {} ", random.of(&words));
+                text.splice(at..at, word.into_bytes());
+            }
+        }
+    }
+    text
+}

@@ -1,0 +1,20 @@
+# Source document 001, example 1, second form, for GLPK.
+param a, integer;
+param b, integer;
+param c, integer;
+param d, integer;
+param e, integer;
+param f, integer;
+var x1 >= 0;
+var x2 >= 0;
+maximize z: a * x1 + b * x2;
+s.t. con1: c * x1 + d * x2 <= 3600;
+s.t. con2: e * x1 + f * x2 <= 3600;
+data;
+param a := 6;
+param b := 4;
+param c := 4;
+param d := 5;
+param e := 10;
+param f := 4;
+end;
