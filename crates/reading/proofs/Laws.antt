@@ -1,11 +1,11 @@
 -- Laws over plain variables that answer the code's needs. Assumes nothing.
 use mathlib.Core.Path.{_≡_, refl, sym, _∙_, ap, subst}
 use mathlib.Core.List.{List, []}
-use Prim.Native.Nat.{ℕ, _-_, _<_, _≤_, min}
+use Prim.Native.Nat.{ℕ, min}
 use native.Mathlib.Omega.{arith}
-use borrow.Author.Tests.{le-leb, lt-leb}
 use lib.ListN.{length, take}
 use lib.Seq.{length-take-le}
+use Rattle.frames.proofs.Laws.{part-length}
 use Rattle.rules.specs.declared.Refusal.{Refusal}
 use Rattle.rules.specs.Refusals.{refusalNumber}
 use Rattle.value.specs.Printed.{Written}
@@ -26,9 +26,7 @@ use Rattle.scanner.specs.Table.{Scanned}
 use Rattle.scanner.proofs.Calls.{table-holds, holds-from}
 use Rattle.parser.specs.declared.Parsed.{Parsed}
 use Rattle.parser.specs.Parsed.{Parsing, ParsedAs}
-use Rattle.reading.specs.declared.Given.{Given}
-use Rattle.reading.specs.declared.Given.the-variants.{Text, Nothing}
-use Rattle.reading.specs.Reading.{orClose, endingIn, upToData, SameEnd, ReadAs, told, digitOf, Within}
+use Rattle.reading.specs.Reading.{orClose, endingIn, upToData, SameEnd, ReadAs, told}
 
 -- ---- `INIT` or `CLOSE`
 
@@ -93,28 +91,6 @@ module _ (l : List ℕ) (r : ℕ) (l′ : List ℕ) (e : Move) where
 
   pub tell-refused : (n : Refusal) (p k : ℕ) → e ≡ Refused n p → k ≡ refusalNumber n → Written l 0 (shownRefused k p) r l′ → Written l 0 (told e) r l′
   tell-refused n p k i j w = rw i (rw j at w)
-
--- ---- how it is given
-
-module _ (b : ℕ) where
-  pub digit-low : b < 48 → 0 ≡ digitOf b
-  digit-low h = rw (lt-leb 48 b h)
-
-  pub digit-high : 57 < b → 0 ≡ digitOf b
-  digit-high h = rw (lt-leb b 57 h, le-leb 48 b (omega arith))
-
-  pub digit-is : 48 ≤ b → b ≤ 57 → b - 48 ≡ digitOf b
-  digit-is h g = rw (le-leb 48 b h, le-leb b 57 g)
-
-pub part-length : (k : ℕ) (l : List ℕ) → k ≤ length l → k ≡ length (take k l)
-part-length k l h = sym (length-take-le k l h)
-
-module _ (g : Given) (n : ℕ) (l : List ℕ) (e : g ≡ Text n) (h : Within g (length l)) where
-  pub text-within : n ≤ length l
-  text-within = rw e at h
-
-  pub text-part : n ≡ length (take n l)
-  text-part = part-length n l text-within
 
 pub line-part : (k m : ℕ) (l : List ℕ) → length l ≡ 64 → k ≡ min m 64 → k ≡ length (take k l)
 line-part k m l e h = part-length k l (omega arith)

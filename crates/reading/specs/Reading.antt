@@ -1,10 +1,7 @@
 -- A text read up to its data section, and the line that tells of it. Assumes nothing.
 use mathlib.Core.Path.{_≡_}
-use mathlib.Core.Bool.{cond}
-use mathlib.Core.List.{List, [], _∷_}
-use Prim.Native.Nat.{ℕ, _+_, _*_, _-_, _≤_}
-use lib.Dec.{leb}
-use lib.ListN.{getD}
+use mathlib.Core.List.{List, []}
+use Prim.Native.Nat.{ℕ}
 use Rattle.rules.specs.Refusals.{refusalNumber}
 use Rattle.lexer.specs.Marks.{initWord, closeWord}
 use Rattle.lexer.specs.Text.{tokens}
@@ -16,8 +13,6 @@ use Rattle.language.specs.Listing.{endLine}
 use Rattle.listing.specs.Shown.{shownLine, shownRefused}
 use Rattle.tokens.specs.declared.Move.{Move}
 use Rattle.tokens.specs.declared.Move.the-variants.{At, Refused}
-use Rattle.reading.specs.declared.Given.{Given}
-use Rattle.reading.specs.declared.Given.the-variants.{Text, Nothing}
 
 -- ---- what is read
 
@@ -49,16 +44,3 @@ pub record ReadAs (s : List ℕ) (r : Move) : Type 0 where
 abbrev pub told : Move → List ℕ
 told (At a) = shownLine endLine
 told (Refused n p) = shownRefused (refusalNumber n) p
-
--- ---- how a text is given: a line feed, five digits, a line feed
-
-abbrev pub digitOf : ℕ → ℕ
-digitOf b = cond (leb 48 b) (cond (leb b 57) (b - 48) 0) 0
-
-abbrev pub sizeOf : List ℕ → ℕ
-sizeOf h = digitOf (getD h 1 0) * 10000 + digitOf (getD h 2 0) * 1000 + digitOf (getD h 3 0) * 100 + digitOf (getD h 4 0) * 10 + digitOf (getD h 5 0)
-
--- a text has room in a buffer of m bytes
-abbrev pub Within : Given → ℕ → Type 0
-Within (Text n) m = n ≤ m
-Within Nothing m = Unit {0}

@@ -1,6 +1,7 @@
 -- `reading::turn` is safe and ends. Assumes nothing.
 use borrow.Author.Needs.{needs}
-use Rattle.reading.proofs.Laws.{text-within, text-part, line-part}
+use Rattle.frames.proofs.Laws.{text-within, text-part}
+use Rattle.reading.proofs.Laws.{line-part}
 use Rattle.reading.proofs.turn.Statement.{statement}
 use Rattle.reading.proofs.turn.Tie as tie
 

@@ -1,9 +1,9 @@
--- `reading::digit` meets its contract. Assumes nothing.
+-- `frames::digit` meets its contract. Assumes nothing.
 use native.Mathlib.Omega.{arith}
 use borrow.Author.Needs.{needs}
-use Rattle.reading.proofs.Laws.{digit-low, digit-high, digit-is}
-use Rattle.reading.proofs.digit.Statement.{statement}
-use Rattle.reading.proofs.digit.Tie as tie
+use Rattle.frames.proofs.Laws.{digit-low, digit-high, digit-is}
+use Rattle.frames.proofs.digit.Statement.{statement}
+use Rattle.frames.proofs.digit.Tie as tie
 
 pub digit-spec : {M : Type 1} → statement M
 digit-spec =
