@@ -185,8 +185,10 @@ module _ (s ns ts cs ds : List ℕ) (r : Tables) (few : r .constraints ≤ 64) (
       → sheet.Lists s ns ts (rowsOf (r .constraints) cs) xs t bs′ c (record { discrete = a; variables = n; less = f .less; equal = f .equal }) (r .title) (behindBrace (r .section)) (r .bytes) out k out′
       → ListsIn s ns ts cs ds r bs out (generated.Listed k) out′
   list-done a n f e k l = record {
-    lists = λ unstated. record { lists = λ m reads t₀ i h. made-listed s ts t₀ cs ds r few bs unstated m reads h xs t bs′ c out out′ a n f (generates-as (problem.Of a n f) e t₀ i) k
-        (subst (λ z. sheet.Lists s z ts (rowsOf (r .constraints) cs) xs t bs′ c (record { discrete = a; variables = n; less = f .less; equal = f .equal }) (r .title) (behindBrace (r .section)) (r .bytes) out k out′) i l) };
+    lists = λ unstated. record {
+      lists = λ m reads t₀ i h. made-listed s ts t₀ cs ds r few bs unstated m reads h xs t bs′ c out out′ a n f (generates-as (problem.Of a n f) e t₀ i) k
+          (subst (λ z. sheet.Lists s z ts (rowsOf (r .constraints) cs) xs t bs′ c (record { discrete = a; variables = n; less = f .less; equal = f .equal }) (r .title) (behindBrace (r .section)) (r .bytes) out k out′) i l);
+    };
   }
 
 -- in a table of zeros no bound is stated
