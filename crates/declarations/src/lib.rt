@@ -1,10 +1,10 @@
 // Declarations read over the stored tokens; each declared name becomes a row of the name table.
+use lexer::marks;
 use tokens::Found;
 use tokens::Known;
 use tokens::Move;
 use tokens::Seen;
 use tokens::kinds;
-use tokens::marks;
 use tokens::sorts;
 ghost use mathlib.Core.Path.{_≡_};
 ghost use mathlib.Core.Bool.{false};

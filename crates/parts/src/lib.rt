@@ -1,8 +1,8 @@
 // The parts of a constraint from its row of the table: its place, where its sides and the entries of its domain stand, and what its
 // relation says. What an answer tells is in specs/Parts.antt.
+use lexer::marks;
 use tokens::Move;
 use tokens::Seen;
-use tokens::marks;
 ghost use mathlib.Core.Path.{_≡_};
 ghost use Prim.Native.Nat.{_+_, _*_, _<_, _≤_};
 ghost use lib.ListN.{getD};
