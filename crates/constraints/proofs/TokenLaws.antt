@@ -16,21 +16,10 @@ use Rattle.tokens.specs.declared.Move.the-variants.{At, Refused}
 use Rattle.tokens.specs.declared.Seen.{Seen}
 use Rattle.tokens.specs.declared.Seen.the-variants as seen
 use Rattle.tokens.specs.Stored.{kindOf, token, from, Sees, Looks, Moves, Gives}
-use Rattle.tokens.proofs.Tables.{mark-of, mark-same, false-true}
+use Rattle.tokens.proofs.Tables.{mark-of, mark-same, false-true, no-string}
 use Rattle.tokens.proofs.Moved.{gives-at, gives-refused, next-is, look-is}
 use Rattle.constraints.specs.Readers.{titleIn, relationIn, goalIn, moreIn}
 use Rattle.constraints.specs.Rows.{relationMark, IsRelation, IsTrue}
-
--- what is no string has none
-no-string : (s : List ℕ) (k p x : ℕ) → (k ≡ 4 → ⊥) → stringOf (kindOf s k p x) ≡ none
-unfolding kindOf stringOf
-no-string s zero p x h = refl
-no-string s (suc zero) p x h = refl
-no-string s (suc (suc zero)) p x h = refl
-no-string s (suc (suc (suc zero))) p x h = refl
-no-string s (suc (suc (suc (suc zero)))) p x h = absurd (h refl)
-no-string s (suc (suc (suc (suc (suc zero))))) p x h = refl
-no-string s (suc (suc (suc (suc (suc (suc k)))))) p x h = refl
 
 is-string : (s : List ℕ) (k p x : ℕ) → isString (token s k p x) ≡ eqb k 4
 unfolding token kindOf stringOf

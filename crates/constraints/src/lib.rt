@@ -1,8 +1,8 @@
 // Relations, objectives and constraints read over the stored tokens; each constraint becomes a row of a table.
+use lexer::marks;
 use tokens::Move;
 use tokens::Seen;
 use tokens::kinds;
-use tokens::marks;
 ghost use mathlib.Core.Path.{_≡_};
 ghost use Prim.Native.Nat.{_≤_};
 ghost use lib.ListN.{length};

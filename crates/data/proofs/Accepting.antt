@@ -2,7 +2,7 @@
 use mathlib.Core.Path.{_≡_, refl, sym, _∙_, ap, subst}
 use mathlib.Core.Bool.{Bool, true, false}
 use mathlib.Core.List.{List}
-use Prim.Native.Nat.{ℕ, suc}
+use Prim.Native.Nat.{ℕ}
 use native.Mathlib.Omega.{arith}
 use lib.ListN.{take}
 use lib.IntN.{ℤ}
@@ -13,15 +13,12 @@ use Rattle.value.specs.declared.Value.{Value}
 use Rattle.value.specs.declared.Whole.{Whole}
 use Rattle.value.specs.declared.Whole.the-variants.{Number, NotWhole as noNumber}
 use Rattle.value.specs.Decimal.{Valid, wholeOf}
-use Rattle.lexer.specs.Text.{Token}
-use Rattle.language.specs.Outcome.{Outcome, done, refused, _>>=_}
-use Rattle.language.specs.Syntax.{Spans, point, span}
+use Rattle.language.specs.Outcome.{Outcome, done, refused}
 use Rattle.language.specs.Reader.{follow, asRead, lift}
 use Rattle.language.specs.Evaluation.{wholeAt, within}
 use Rattle.language.specs.Store.{Store, Portion, scopeOf, wholeIf, accept}
 use Rattle.language.specs.Data.{readNumber}
-use Rattle.tokens.specs.Stored.{from, size}
-use Rattle.walk.specs.Entries.{indexCount}
+use Rattle.tokens.specs.Stored.{from}
 use Rattle.walk.proofs.WalkedDomain.{within-walk}
 use Rattle.store.specs.declared.Element.{Element}
 use Rattle.store.specs.Element.{listOf}
@@ -29,6 +26,7 @@ use Rattle.store.specs.Key.{nameBound}
 use Rattle.evaluator.specs.declared.Passed.{Passed}
 use Rattle.evaluator.specs.declared.Passed.the-variants as passed
 use Rattle.evaluator.specs.Cycle.{passedOutcome, onlyOutcome, WithinIs}
+use Rattle.evaluator.proofs.Names.{size-count, only-as}
 use Rattle.portions.specs.declared.numbers.Numbered.{Numbered}
 use Rattle.portions.specs.declared.numbers.Numbered.the-variants as number
 use Rattle.portions.specs.Readers.{Says, numbered, Number as Signed, numberIn}
@@ -60,15 +58,6 @@ module _ (whole : Bool) (v : Value) (r : Whole) (e : whole ≡ true) (h : r ≡ 
 
 -- ---- the tests in their order
 
-same-size : (d : Spans) → size d ≡ indexCount d
-unfolding size indexCount
-same-size point = refl
-same-size (span i f g q d) = ap suc (same-size d)
-
-only-read : {A : Type 0} (o : Outcome A) (l : List Token) → onlyOutcome (asRead o l) ≡ o
-only-read (done a) l = refl
-only-read (refused n p) l = refl
-
 module _ (ns ts ds : List ℕ) (given : ℕ) (h : Worked) (e : Element) (p : ℕ) (v : Value) (b : Bool) (f : Suits (h .whole) v b) where
   pub accept-unsuited : (ds′ : List ℕ) → b ≡ false → Accepts ns ts ds given h e p v (accepted.Refused NotWhole p) ds′
   unfolding accept
@@ -82,8 +71,8 @@ module _ (ns ts ds : List ℕ) (given : ℕ) (h : Worked) (e : Element) (p : ℕ
     tested s x a st k o q =
         let d = a .portrays .domain in
         rw (a .portrays .place)
-        (sym (only-read (within (x .domain) (listOf e) (scopeOf st) (h .place)) (d .rest))
-        ∙ ap onlyOutcome (sym (within-walk (take (h .name) (a .ground .names)) (x .domain) (listOf e) (a .long ∙ same-size (x .domain)) (scopeOf st) (h .place) (from s ts (h .start)) (d .rest) (d .reads)))
+        (sym (only-as (within (x .domain) (listOf e) (scopeOf st) (h .place)) (d .rest))
+        ∙ ap onlyOutcome (sym (within-walk (take (h .name) (a .ground .names)) (x .domain) (listOf e) (a .long ∙ size-count (x .domain)) (scopeOf st) (h .place) (from s ts (h .start)) (d .rest) (d .reads)))
         ∙ g .is (world s ns ts ds given st (a .ground) k) (a .small) ∙ ap passedOutcome q)
 
     pub accept-outside : (n : Refusal) (q : ℕ) (ds′ : List ℕ) → t ≡ passed.Refused n q → Accepts ns ts ds given h e p v (accepted.Refused n q) ds′

@@ -32,7 +32,7 @@ use Rattle.portions.specs.declared.entries.Entry.the-variants.{Fixed, Marked}
 use Rattle.portions.specs.declared.entries.Entries.{Entries}
 use Rattle.portions.specs.Few.{numbersOf}
 use Rattle.portions.specs.Entries.{entryOf, entriesOf}
-use Rattle.portions.proofs.Marks.{entries-few}
+use Rattle.portions.proofs.Marks.{entries-few, entry-here}
 use Rattle.data.specs.Running.{before, SmallIf, SmallPositions, Before}
 
 -- ---- positions bound
@@ -52,9 +52,6 @@ unfolding boundOf
 bound-length [] = refl
 bound-length (fixed k ∷ l) = ap suc (bound-length l)
 bound-length (marked i ∷ l) = ap suc (bound-length l)
-
-entry-here : (l : List Entry) (k : ℕ) → k < length l → drop k l ≡ getD l k (marked 0) ∷ drop (k + 1) l
-entry-here l k h = let e : k + 1 ≡ suc k = omega arith in rw e (drop-cons l k (marked 0) h)
 
 -- ---- an element
 

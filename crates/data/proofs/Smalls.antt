@@ -11,8 +11,6 @@ use lib.IntN.{ℤ}
 use Rattle.rules.specs.declared.Refusal.the-variants.{Misplaced}
 use Rattle.value.specs.declared.Value.{Value}
 use Rattle.value.specs.Decimal.{Valid}
-use Rattle.value.proofs.Integers.{natAbs-neg}
-use Rattle.value.proofs.Operations.{negate-valid}
 use Rattle.lexer.specs.Marks.{plusSign, minusSign}
 use Rattle.lexer.specs.Text.{Token, Kind}
 use Rattle.lexer.specs.Text
@@ -21,9 +19,10 @@ use Rattle.language.specs.Outcome.{done, some-injective, none-some}
 use Rattle.language.specs.Syntax.{Name, Spans, point, span}
 use Rattle.language.specs.Reader.{Reader, Read, give, refuse, isMark}
 use Rattle.language.specs.Valid.{Small}
-use Rattle.language.specs.Data.{Entry, fixed, marked, digitsOf, withMinus, signedEntry, entryBy, readEntry, entriesOf, boundOf, valueOf, signedValue}
+use Rattle.language.specs.Data.{Entry, fixed, marked, digitsOf, signedEntry, entryBy, readEntry, entriesOf, boundOf, valueOf}
 use Rattle.language.specs.Phrases.{Reads}
 use Rattle.language.proofs.Taken.{gives, refuses, weaken, then, then-next, then-demand, then-require, then-expect, then-known}
+use Rattle.language.proofs.ValidData.{withMinus-small, signedValue-valid}
 use Rattle.tokens.specs.Stored.{kindPart, placePart, payloadPart, kindOf, token, view, from, size}
 use Rattle.portions.specs.Readers.{literalIn, numberIn}
 use Rattle.data.specs.Running.{SmallIf}
@@ -82,13 +81,9 @@ digits-small (Text.string l) z h e = absurd (none-some e)
 digits-small Text.end z h e = absurd (none-some e)
 digits-small (Text.wrong r) z h e = absurd (none-some e)
 
-minus-small : (m : Bool) (k : ℤ) → Small k → Small (withMinus m k)
-minus-small true k h = rw (natAbs-neg k) h
-minus-small false k h = h
-
 signed-small : (m : Bool) (p : ℕ) → Reads (signedEntry m) (λ e l. All Fitting l → SmallEntry e)
 unfolding signedEntry
-signed-small m p = then-next (λ t. then-demand _ _ (λ k e. gives (λ h. minus-small m k (digits-small (t .kind) k (h .0) e))))
+signed-small m p = then-next (λ t. then-demand _ _ (λ k e. gives (λ h. withMinus-small m k (digits-small (t .kind) k (h .0) e))))
 
 module _ (names : List Name) where
   by-small : (t : Token) (k : Kind) → t .kind ≡ k → Reads (entryBy names (t .place) k) (λ e l. All Fitting (t ∷ l) → SmallEntry e)
@@ -144,10 +139,6 @@ value-valid (Text.string l) v h e = absurd (none-some e)
 value-valid Text.end v h e = absurd (none-some e)
 value-valid (Text.wrong r) v h e = absurd (none-some e)
 
-signed-valid : (m : Bool) (v : Value) → Valid v → Valid (signedValue m v)
-signed-valid true v h = negate-valid v h
-signed-valid false v h = h
-
 pub number-valid : Reads numberIn (λ n l. All Fitting l → Valid (n .value))
 unfolding numberIn literalIn
-number-valid = then-next (λ t. then-require _ _ _ (λ _ e. then-next (λ u. then-demand _ _ (λ v d. gives (λ h. signed-valid (isMark minusSign t) v (value-valid (u .kind) v (h .1 .0) d))))))
+number-valid = then-next (λ t. then-require _ _ _ (λ _ e. then-next (λ u. then-demand _ _ (λ v d. gives (λ h. signedValue-valid (isMark minusSign t) v (value-valid (u .kind) v (h .1 .0) d))))))

@@ -1,9 +1,9 @@
 // A declared domain laid out: where each of its entries begins, and its index. So the limits of any position can be read by
 // themselves.
+use lexer::marks;
 use portions::few::Few;
 use tokens::Move;
 use tokens::Seen;
-use tokens::marks;
 ghost use mathlib.Core.Path.{_≡_};
 ghost use lib.ListN.{take};
 ghost use Rattle.data.specs.Layouts.{Passes, LaysOut, Lays};

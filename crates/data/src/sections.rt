@@ -1,12 +1,12 @@
 // The data section: its title, one or more portions, and `CLOSE`.
 use super::carrying::portion;
 use super::entering::Taken;
+use lexer::marks;
 use portions::ends;
 use portions::ends::Titled;
 use tokens::Move;
 use tokens::Seen;
 use tokens::kinds;
-use tokens::marks;
 ghost use mathlib.Core.Path.{_≡_};
 ghost use Rattle.language.specs.Data.{dataOf};
 ghost use Rattle.data.specs.Sections.{restIn, sectionIn, FillsAll, Sections};

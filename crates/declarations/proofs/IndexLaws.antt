@@ -26,7 +26,7 @@ use Rattle.tokens.specs.declared.Known.the-variants as known
 use Rattle.tokens.specs.Stored.{from, Sees, Looks, Named, Knowing, Knows, Moves, Gives, Stands}
 use Rattle.tokens.specs.Pieces.{expectIn, indexIn}
 use Rattle.tokens.proofs.Tables.{index-sort}
-use Rattle.tokens.proofs.Moved.{stuck, Got, gives-at, gives-refused, gives-not, gives-same, gives-stands, gives-map, got, follow-same, next-is, look-is, is-mark, index-yes, index-other, index-wrong, prefixed, prefixed-none, prefixed-one, prefixed-twice}
+use Rattle.tokens.proofs.Moved.{stuck, Got, gives-at, gives-refused, gives-not, gives-same, gives-stands, gives-map, got, follow-same, next-is, look-is, is-mark, index-yes, index-other, index-wrong, prefixed, prefixed-none, prefixed-more}
 use Rattle.declarations.specs.Readers.{jointIn, indicesIn}
 use Rattle.declarations.specs.Tables.{IsNumber, IsMore, Numbers, Indexed}
 
@@ -237,8 +237,7 @@ module _ (s ns ts : List ℕ) (at : ℕ) where
           record {
             on = λ names d.
                 three c z names d ∙ ap (λ v. prefixed (take n l) (indicesThen (4 - (n + 1)) names i v (from s ts c))) w
-                ∙ ap (prefixed (take n l)) (prefixed-one i (indicesLeft (4 - (n + 1)) names (from s ts c)))
-                ∙ prefixed-twice (take n l) (i ∷ []) (indicesLeft (4 - (n + 1)) names (from s ts c))
+                ∙ prefixed-more (take n l) i (indicesLeft (4 - (n + 1)) names (from s ts c))
                 ∙ ap (λ k. prefixed k (indicesLeft (4 - (n + 1)) names (from s ts c))) (sym taken);
             size = length-set l n i ∙ o .size;
           }

@@ -1,8 +1,8 @@
 -- Laws of one entry of a list, over plain variables. Assumes nothing.
 use mathlib.Core.Path.{_≡_, refl, sym, _∙_, ap, subst}
 use mathlib.Core.Bool.{Bool, true, false, not}
-use mathlib.Core.List.{List, [], _∷_}
-use Prim.Native.Nat.{ℕ, _*_, _/_, _<_, _≤_}
+use mathlib.Core.List.{List}
+use Prim.Native.Nat.{ℕ, _/_, _<_, _≤_}
 use native.Mathlib.Omega.{arith}
 use lib.Dec.{eqb, ltb}
 use lib.ListN.{length}
@@ -23,7 +23,7 @@ use Rattle.tokens.specs.declared.Seen.the-variants as seen
 use Rattle.tokens.specs.declared.Found.{Found}
 use Rattle.tokens.specs.declared.Found.the-variants as found
 use Rattle.tokens.specs.Stored.{nameBytes, spelling, kindOf, token, from, Sees, Looks, lookUp, Named, Gives}
-use Rattle.tokens.proofs.Tables.{no-name, declared, not-declared}
+use Rattle.tokens.proofs.Tables.{no-name, declared, not-declared, named-length}
 use Rattle.tokens.proofs.Moved.{Got, gives-at, gives-refused, got, stuck, next-is, is-mark}
 use Rattle.declarations.specs.declared.Title.{Title}
 use Rattle.declarations.specs.declared.Row.{Row}
@@ -31,16 +31,6 @@ use Rattle.declarations.specs.Readers.{newNameIn, separatorIn, entryIn, 
 use Rattle.declarations.specs.Tables.{IsMore, IsTitle, Room, TitledAt, Entered, IsRow, RowedAt}
 
 -- ---- a new name
-
-pub named-length : (s ns : List ℕ) (names : List Name) → Named s ns names → length ns ≡ length names * 5
-named-length s [] [] h = refl
-named-length s [] (y ∷ ys) h = absurd h
-named-length s (a ∷ []) ys h = absurd h
-named-length s (a ∷ b ∷ []) ys h = absurd h
-named-length s (a ∷ b ∷ c ∷ []) ys h = absurd h
-named-length s (a ∷ b ∷ c ∷ d ∷ []) ys h = absurd h
-named-length s (a ∷ b ∷ c ∷ d ∷ e ∷ ns) [] h = absurd h
-named-length s (a ∷ b ∷ c ∷ d ∷ e ∷ ns) (y ∷ ys) h = omega (arith, named-length s ns ys (h .2))
 
 module _ (s ns ts : List ℕ) (at : ℕ) (t : Seen) (l : Looks ts at t) where
   sees : (w : Seen) → t ≡ w → Sees s ts at w

@@ -1,10 +1,10 @@
 // Declarations read over the stored tokens; each declared name becomes a row of the name table.
+use lexer::marks;
 use tokens::Found;
 use tokens::Known;
 use tokens::Move;
 use tokens::Seen;
 use tokens::kinds;
-use tokens::marks;
 use tokens::sorts;
 ghost use mathlib.Core.Path.{_≡_};
 ghost use mathlib.Core.Bool.{false};
@@ -269,14 +269,8 @@ fn read_indices(text: &[u8], names: &[u64], tokens: &[u64], at: usize) -> Indice
 fn domain(text: &[u8], names: &[u64], tokens: &[u64], at: usize) -> Entry
     ensures { λ r. ⌜ Gives domainIn (Spanning (now (text .entry)) (now (tokens .entry)) (r .count) (r .position)) (now (text .entry)) (now (names .entry)) (now (tokens .entry)) at (r .end) ⌝ }
 {
-    let open = tokens::bracket(
-        text,
-        names,
-        tokens,
-        at,
-        rules::NESTING_LIMIT,
-        marks::LEFT_BRACKET,
-    );
+    let nest = rules::NESTING_LIMIT;
+    let open = tokens::bracket(text, names, tokens, at, nest, marks::LEFT_BRACKET);
     let Move::At(a) = open else {
         return Entry {
             count: 0,
@@ -295,14 +289,7 @@ fn domain(text: &[u8], names: &[u64], tokens: &[u64], at: usize) -> Entry
             end: end,
         };
     };
-    let first = tokens::bracket(
-        text,
-        names,
-        tokens,
-        b,
-        rules::NESTING_LIMIT,
-        marks::LEFT_PAREN,
-    );
+    let first = tokens::bracket(text, names, tokens, b, nest, marks::LEFT_PAREN);
     let Move::At(d) = first else {
         return Entry {
             count: 0,

@@ -19,7 +19,7 @@ use Rattle.tokens.specs.declared.Seen.{Seen}
 use Rattle.tokens.specs.declared.Seen.the-variants as seen
 use Rattle.tokens.specs.Stored.{from, Sees, Looks, Named, Matches, Moves}
 use Rattle.tokens.specs.Pieces.{expectIn, bracketIn, indexIn}
-use Rattle.tokens.proofs.Moved.{stops, goes, then-at, given, next-is, look-is, look-wrong, is-mark}
+use Rattle.tokens.proofs.Moved.{stops, goes, then-at, given, look-is, look-wrong, is-mark, next-read}
 use Rattle.formulas.specs.Cycle.{insideIn, partIn}
 use Rattle.domains.specs.Domains.{entryWith, entriesIn, domainIn, optionalIn}
 
@@ -142,14 +142,11 @@ module _ (s ns ts : List ℕ) where
       entries-end x p y b q i j g =
           turn-by x p y b false q i (ne-eqb x 44 j) (λ w names d. given (λ names. expect closes) (λ names _. spanOf w point) s ns ts a q (record { matches = g .matches }) .matches names d)
 
-      next-read : (x p y b : ℕ) → t ≡ seen.Token x p y b → Moves (λ names. next) s ns ts a (At b)
-      next-read x p y b i = record { matches = λ names d. rw (next-is s ts a x p y b (subst (Sees s ts a) i (l .sees s))) refl }
-
       pub entries-on : (x p y b : ℕ) (q : Move) → t ≡ seen.Token x p y b → x ≡ 44 → Moves (entriesIn (left - 1)) s ns ts b q → Moves (entriesIn left) s ns ts at q
       unfolding turn entriesIn
       entries-on x p y b q i j g =
           turn-by x p y b true q i (eq-eqb x 44 j)
-          (λ w names d. then-at (λ names. next) (λ names _. entriesOf (inner names) (readIndex names) (left - 1) >>= (λ d. give (spanOf w d))) s ns ts a b q (next-read x p y b i)
+          (λ w names d. then-at (λ names. next) (λ names _. entriesOf (inner names) (readIndex names) (left - 1) >>= (λ d. give (spanOf w d))) s ns ts a b q (next-read s ns ts a t l x p y b i)
           (λ _. given (λ names. entriesOf (inner names) (readIndex names) (left - 1)) (λ names d. spanOf w d) s ns ts b q (record { matches = g .matches })) .matches names d)
 
   -- ---- domains

@@ -1,7 +1,7 @@
 // A constraint's domain read over the stored tokens.
+use lexer::marks;
 use tokens::Move;
 use tokens::Seen;
-use tokens::marks;
 ghost use mathlib.Core.Path.{_≡_};
 ghost use Rattle.tokens.specs.Stored.{Moves};
 ghost use Rattle.tokens.specs.Pieces.{indexIn};

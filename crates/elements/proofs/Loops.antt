@@ -3,19 +3,18 @@
 use mathlib.Core.Path.{_≡_, refl, sym, _∙_, ap, subst, subst₂}
 use mathlib.Core.Logic.{_⊎_, inl, inr}
 use mathlib.Core.List.{List, [], _∷_, map}
-use Prim.Native.Nat.{ℕ, zero, suc, _≤_}
+use Prim.Native.Nat.{ℕ, zero, suc, _≤_, _<_}
 use native.Mathlib.Omega.{arith}
-use lib.ListN.{length, getD, length-map}
+use lib.ListN.{getD, length-map}
 use lib.IntN.{ℤ, pos, natAbs}
 use Rattle.rules.specs.declared.Refusal.{Refusal}
 use Rattle.rules.specs.Limits.{mantissaLimit, indexLimit}
 use Rattle.lexer.specs.Text.{Token}
 use Rattle.language.specs.Outcome.{Outcome, done, refused, _>>=_}
 use Rattle.language.specs.Scope.{Scope, bind}
-use Rattle.language.specs.Syntax.{Spans, point, span}
+use Rattle.language.specs.Syntax.{Spans}
 use Rattle.language.specs.Evaluation.{over}
 use Rattle.language.specs.Demand3.{Precedes}
-use Rattle.walk.specs.Entries.{indexCount}
 use Rattle.tokens.specs.Stored.{size}
 use Rattle.store.specs.declared.Element.{Element}
 use Rattle.store.specs.Element.{listOf, Subscripts}
@@ -23,14 +22,15 @@ use Rattle.steps.specs.declared.scope.Scope.{Scope as HeldScope}
 use Rattle.steps.specs.Scopes.{bindingsOf, Small}
 use Rattle.evaluator.specs.Tables.{World, DomainAt}
 use Rattle.evaluator.specs.Cycle.{seenBy, under, nothingBound, tokensAt}
+use Rattle.evaluator.proofs.Names.{size-count}
 use Rattle.elements.specs.declared.here.Level.{Level as HeldLevel}
 use Rattle.elements.specs.declared.here.Here.{Here as HeldHere}
 use Rattle.elements.specs.declared.Step.{Step}
 use Rattle.elements.specs.declared.Step.the-variants.{At, Done, Refused}
-use Rattle.elements.specs.Elements.{Walked, finished, stopped, reaches, Behind, mapped, elementsOf, folded}
+use Rattle.elements.specs.Elements.{Walked, reaches, Behind, mapped, elementsOf, folded}
 use Rattle.elements.specs.Levels.{Level, hereOf}
 use Rattle.elements.specs.Held.{held, numberOf, bound, levelAt, levelsOf}
-use Rattle.elements.specs.Steps.{SmallRuns, runsOf, entriesIn, Reached, Shows, FirstIs, NextIs}
+use Rattle.elements.specs.Steps.{SmallRuns, runsOf, entriesIn, FirstIs, NextIs, turnsLeft}
 use Rattle.elements.specs.Loops.{Remains}
 use Rattle.elements.proofs.Walks.{behind-first, behind-next, mapped-reaches, mapped-behind}
 use Rattle.elements.proofs.Folded.{over-elements}
@@ -39,12 +39,11 @@ use Rattle.elements.proofs.Rising.{behind-rises, elements-rise}
 use Rattle.elements.proofs.Held.{length-few}
 use Rattle.elements.proofs.Bound.{held-scope, held-small}
 
--- ---- the element that the caller stands at
+-- each next element is nearer to the end
+pub next-less : (ns ts ds : List ℕ) (given level : ℕ) (h : HeldHere) (r r′ : Step) → r ≡ At h → NextIs ns ts ds given level h r′ → turnsLeft r′ < turnsLeft r
+next-less ns ts ds given level h r r′ e x = subst (λ y. turnsLeft r′ < turnsLeft y) (sym e) (x .falls)
 
-size-count : (d : Spans) → size d ≡ indexCount d
-unfolding size indexCount
-size-count point = refl
-size-count (span i f g p d) = ap suc (size-count d)
+-- ---- the element that the caller stands at
 
 numbers-element : (view : ℕ → List Token) (s : Scope) (ls : List HeldLevel) → map numberOf ls ≡ hereOf s (map (levelAt view) ls) .element
 unfolding hereOf

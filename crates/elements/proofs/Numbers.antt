@@ -1,7 +1,7 @@
 -- Laws of a run's numbers: the next one fits and is small, and the run ends. Assumes nothing.
-use mathlib.Core.Path.{_≡_, refl, sym, _∙_, ap}
-use mathlib.Core.Bool.{Bool, true, false, not, cond}
-use Prim.Native.Nat.{ℕ, zero, suc, _+_, _-_, _^_, _<_, _≤_}
+use mathlib.Core.Path.{_≡_, refl, sym, _∙_}
+use mathlib.Core.Bool.{Bool, true, false, not}
+use Prim.Native.Nat.{ℕ, suc, _+_, _-_, _^_, _<_, _≤_}
 use native.Mathlib.Omega.{arith}
 use borrow.Author.Tests.{ltb-true, ltb-false, leb-false}
 use lib.IntN.{ℤ, pos, negsuc, natAbs, negℤ, _+ℤ_, _-ℤ_}
@@ -10,6 +10,7 @@ use mir.Syntax.{w64}
 use mir.Val.{SFits, toZ, ofZ}
 use Rattle.value.specs.Integer.{up, down, add-parts, neg-up, neg-down, le-of-parts}
 use Rattle.value.proofs.Integers.{back, mag-le}
+use Rattle.steps.proofs.Runs.{parts-size}
 use Rattle.elements.specs.declared.here.Level.{Level}
 use Rattle.elements.specs.Held.{stepped, wordBase, StepsUp}
 use Rattle.elements.proofs.Runs.{up-is, range-size}
@@ -59,11 +60,6 @@ mag-parts (negsuc n) = omega arith
 
 -- ---- the next number
 
--- it stays within what bounds this one and a greater one
-size-parts : (z : ℤ) → natAbs z ≡ up z + down z
-size-parts (pos n) = omega arith
-size-parts (negsuc n) = omega arith
-
 next-parts : (a : ℤ) → (up (a +ℤ pos 1) ≡ up a + 1 - down a) × (down (a +ℤ pos 1) ≡ down a - 1)
 next-parts (pos n) = (omega arith, omega arith)
 next-parts (negsuc n) =
@@ -71,13 +67,14 @@ next-parts (negsuc n) =
     let u = up-is (negsuc n +ℤ pos 1) 1 (suc n) (omega (arith, p)) in
     (omega (arith, u), omega (arith, p, u))
 
+-- it stays within what bounds this one and a greater one
 pub next-size : (a b : ℤ) {L : ℕ} → ltZ a b ≡ true → natAbs a ≤ L → natAbs b ≤ L → natAbs (a +ℤ pos 1) ≤ L
-next-size a b e h k = omega (arith, less a b e, size-parts a, size-parts b, size-parts (a +ℤ pos 1), next-parts a)
+next-size a b e h k = omega (arith, less a b e, parts-size a, parts-size b, parts-size (a +ℤ pos 1), next-parts a)
 
 next-mag : (a b : ℤ) {L : ℕ} → ltZ a b ≡ true → mag a < L → mag b < L → mag (a +ℤ pos 1) < L
 next-mag (pos a) (pos b) e h k = omega (arith, ltb-true a b e)
 next-mag (pos a) (negsuc b) e h k = absurd (let z : _≡_ {A = ℕ} 0 1 = cc in omega arith)
-next-mag (negsuc a) b e h k = omega (arith, mag-le (negsuc a +ℤ pos 1), size-parts (negsuc a +ℤ pos 1), next-parts (negsuc a))
+next-mag (negsuc a) b e h k = omega (arith, mag-le (negsuc a +ℤ pos 1), parts-size (negsuc a +ℤ pos 1), next-parts (negsuc a))
 
 -- how many numbers a run has from its own on
 abbrev pub left : Level → ℕ

@@ -6,27 +6,26 @@ use mathlib.Core.List.{List, [], _∷_}
 use Prim.Native.Nat.{ℕ, zero, suc, _<_, _≤_}
 use native.Mathlib.Omega.{arith}
 use lib.Dec.{eqb}
-use lib.ListN.{length, take, getElem?}
-use lib.IntN.{ℤ, natAbs}
+use lib.ListN.{length, getElem?, drop}
+use lib.IntN.{ℤ}
 use Rattle.rules.specs.declared.Refusal.{Refusal}
-use Rattle.rules.specs.declared.Refusal.the-variants.{Misplaced, BadName, BadIndex, Missing}
-use Rattle.rules.specs.Limits.{nestingLimit, nameLimit, indexLimit, mantissaLimit}
+use Rattle.rules.specs.declared.Refusal.the-variants.{Misplaced, BadName, Missing}
+use Rattle.rules.specs.Limits.{nestingLimit, nameLimit, indexLimit}
 use Rattle.value.specs.declared.Value.{Value}
-use Rattle.value.specs.Decimal.{Valid, ofWhole}
 use Rattle.value.proofs.Operations.{ofWhole-valid}
 use Rattle.lexer.specs.Text.{Token}
 use Rattle.language.specs.Outcome.{Outcome, done, refused, orRefuse}
 use Rattle.language.specs.Syntax.{Name, Sort, Spans, point, span}
 use Rattle.language.specs.Syntax
-use Rattle.language.specs.Reader.{Read, follow, asRead, find}
-use Rattle.language.specs.Scope.{Scope, unbound, boundTo}
+use Rattle.language.specs.Reader.{asRead}
+use Rattle.language.specs.Scope.{unbound, boundTo}
 use Rattle.language.specs.Evaluation.{eval, within}
-use Rattle.walk.specs.Walk.{walkInside, walkFound, walkNamed, walkDatum, walkSubscripts, walkWithin, inDomainWalk}
+use Rattle.walk.specs.Walk.{walkInside, walkFound, walkNamed, walkDatum, walkSubscripts}
 use Rattle.walk.specs.Entries.{read, indexCount}
 use Rattle.walk.proofs.Steps.{on, same-what}
 use Rattle.walk.proofs.Walked.{walked}
 use Rattle.walk.proofs.WalkedDomain.{within-walk, subscripts-count}
-use Rattle.tokens.specs.Stored.{from, size, Shaped}
+use Rattle.tokens.specs.Stored.{size, Shaped}
 use Rattle.tokens.proofs.Tables.{false-true}
 use Rattle.store.specs.declared.Element.{Element}
 use Rattle.store.specs.Element.{listOf, Subscripts}
@@ -40,7 +39,6 @@ use Rattle.steps.specs.declared.names.Listed.the-variants as listed
 use Rattle.steps.specs.declared.values.Answer.{Answer}
 use Rattle.steps.specs.declared.values.Answer.the-variants as answer
 use Rattle.steps.specs.Scopes.{bindingsOf, scopeOf, Small}
-use Rattle.steps.specs.Names.{rowWord}
 use Rattle.steps.specs.Values.{boundBy, boundAnswer, wordAnswer, KnownIs}
 use Rattle.steps.proofs.Scopes.{small-to}
 use Rattle.evaluator.specs.declared.Numbers.{Numbers}
@@ -49,7 +47,7 @@ use Rattle.evaluator.specs.declared.Passed.{Passed}
 use Rattle.evaluator.specs.declared.Passed.the-variants as passed
 use Rattle.evaluator.specs.Tables.{DomainAt, FormulaAt, Stands, valueIn, World}
 use Rattle.evaluator.specs.Cycle.{formulaIn, valueOutcome, ValidAnswer, numbersOutcome, SmallNumbers, passedOutcome, onlyOutcome, seenBy, under, nothingBound, tokensAt, Values, SubscriptsAre, WithinIs, KnownAs, Told, NamedIs, DatumIs}
-use Rattle.evaluator.proofs.Laws.{stop, refused-is, value-is, value-valid}
+use Rattle.evaluator.proofs.Laws.{stop}
 
 -- ---- lists of names
 
@@ -57,6 +55,17 @@ pub below-length : {A : Type 0} (l : List A) (i : ℕ) (x : A) → getElem? l i 
 below-length [] i x e = absurd (let z : _≡_ {A = ℕ} 0 1 = cc in omega arith)
 below-length (y ∷ l) zero x e = omega arith
 below-length (y ∷ l) (suc i) x e = omega (arith, below-length l i x e)
+
+-- name i, and the names behind it
+pub record Split (l : List Name) (i : ℕ) : Type 0 where
+  pub name : Name
+  pub here : getElem? l i ≡ some name
+  pub behind : drop i l ≡ name ∷ drop (suc i) l
+
+pub split : (l : List Name) (i : ℕ) → i < length l → Split l i
+split [] i h = absurd (omega arith)
+split (x ∷ l) zero h = record { name = x; here = refl; behind = refl }
+split (x ∷ l) (suc i) h = let r = split l i (omega arith) in record { name = r .name; here = r .here; behind = r .behind }
 
 -- ---- outcomes
 
@@ -72,7 +81,7 @@ pub only-as : {A : Type 0} (o : Outcome A) (l : List Token) → onlyOutcome (asR
 only-as (done a) l = refl
 only-as (refused m p) l = refl
 
-size-count : (d : Spans) → size d ≡ indexCount d
+pub size-count : (d : Spans) → size d ≡ indexCount d
 unfolding size indexCount
 size-count point = refl
 size-count (span i f g p d) = ap suc (size-count d)

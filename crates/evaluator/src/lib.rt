@@ -1,4 +1,5 @@
 // Formulas, sums, subscripts and domains evaluated over the stored tokens, which have been read before. `table` holds the data.
+use lexer::marks;
 use steps::names::Headed;
 use steps::names::Listed;
 use steps::passing;
@@ -13,7 +14,6 @@ use steps::values::Tested;
 use store::Element;
 use tokens::Seen;
 use tokens::kinds;
-use tokens::marks;
 use tokens::sorts;
 use value::Value;
 ghost use mathlib.Core.Path.{_≡_};

@@ -21,7 +21,7 @@ use Rattle.tokens.specs.declared.Seen.the-variants as seen
 use Rattle.tokens.specs.Stored.{token, from, Sees, Looks, size, Named, Matches, Moves}
 use Rattle.tokens.specs.Pieces.{expectIn, bracketIn}
 use Rattle.tokens.proofs.Tables.{mark-of, mark-own, mark-same}
-use Rattle.tokens.proofs.Moved.{stops, goes, then-at, given, next-is, look-is, look-wrong, expect-yes, is-sum}
+use Rattle.tokens.proofs.Moved.{stops, goes, then-at, given, look-is, look-wrong, expect-yes, is-sum, next-read}
 use Rattle.formulas.specs.Cycle.{primaryIn, termIn, partIn, Factors, Summands, Subscripts, Entries}
 use Rattle.formulas.proofs.Laws.{inner, primaries, terms}
 
@@ -156,15 +156,12 @@ module _ (s ns ts : List ℕ) (n at : ℕ) where
     unfolding summandTurn
     summands-end x p y b e i = o .on (At a) (summands-by k m x p y b false (At a) e i (λ f names d. refl))
 
-    next-read : (x p y b : ℕ) → t ≡ seen.Token x p y b → Moves (λ names. next) s ns ts a (At b)
-    next-read x p y b e = record { matches = λ names d. rw (next-is s ts a x p y b (subst (Sees s ts a) e (h .sees s))) refl }
-
     pub summands-refused : (x p y b : ℕ) (j : Refusal) (q : ℕ) (r : Move) → t ≡ seen.Token x p y b → (eqb x 43 || eqb x 45) ≡ true → Moves (termIn n) s ns ts b r → r ≡ Refused j q → Summands s ns ts n tokenLimit at r
     unfolding summandTurn termIn
     summands-refused x p y b j q r e i g l =
         o .on r
         (summands-by k m x p y b true r e i
-        (λ f names d. then-at (λ names. next) (λ names _. terms n names >>= summandRest n (k - 1) f (token s x p y) names) s ns ts a b r (next-read x p y b e)
+        (λ f names d. then-at (λ names. next) (λ names _. terms n names >>= summandRest n (k - 1) f (token s x p y) names) s ns ts a b r (next-read s ns ts a t h x p y b e)
         (λ w. stops (terms n) (summandRest n (k - 1) f (token s x p y)) s ns ts b r (record { matches = g .matches }) j q l) .matches names d))
 
     pub summands-on : (x p y b c : ℕ) (r : Move) → t ≡ seen.Token x p y b → (eqb x 43 || eqb x 45) ≡ true → Moves (termIn n) s ns ts b r → r ≡ At c → SummandsOn s ns ts n at (k - 1) c
@@ -174,7 +171,7 @@ module _ (s ns ts : List ℕ) (n at : ℕ) where
           on = λ z u.
               o .on z
               (summands-by k m x p y b true z e i
-              (λ f names d. then-at (λ names. next) (λ names _. terms n names >>= summandRest n (k - 1) f (token s x p y) names) s ns ts a b z (next-read x p y b e)
+              (λ f names d. then-at (λ names. next) (λ names _. terms n names >>= summandRest n (k - 1) f (token s x p y) names) s ns ts a b z (next-read s ns ts a t h x p y b e)
               (λ w. goes (terms n) (summandRest n (k - 1) f (token s x p y)) s ns ts b r (record { matches = g .matches }) c z l
               (λ v. record { matches = u .moves (plus f (negated (isMark minusSign (token s x p y)) v) (token s x p y .place)) .matches })) .matches names d));
         }

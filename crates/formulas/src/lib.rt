@@ -1,10 +1,10 @@
 // Formulas read over the stored tokens: the position after a formula, or a refusal. No tree is built. `nest`: how many brackets may
 // still open.
+use lexer::marks;
 use tokens::Found;
 use tokens::Move;
 use tokens::Seen;
 use tokens::kinds;
-use tokens::marks;
 use tokens::sorts;
 ghost use mathlib.Core.Path.{_≡_};
 ghost use Rattle.rules.specs.Limits.{tokenLimit};

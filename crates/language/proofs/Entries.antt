@@ -43,7 +43,7 @@ dot-neg [] xs = sym neg-zero
 dot-neg (v ∷ r) [] = sym neg-zero
 dot-neg (v ∷ r) (x ∷ xs) = rw (dot-neg r xs, exactly-negate, neg-mul) (sym (neg-add _ _))
 
-map-same : (r : Row) → map (signed false) r ≡ r
+pub map-same : (r : Row) → map (signed false) r ≡ r
 map-same [] = refl
 map-same (v ∷ r) = ap (λ l. v ∷ l) (map-same r)
 

@@ -90,7 +90,7 @@ unfolding printedWhole ofWhole
 whole-once j k hj hk e = ap (λ v. v .m) (printed-unique (ofWhole j) (ofWhole k) (ofWhole-valid j hj) (ofWhole-valid k hk) e)
 
 -- a natural number is printed as the whole number that it is
-natural-whole : (n : ℕ) → printedWhole (pos n) ≡ natural n
+pub natural-whole : (n : ℕ) → printedWhole (pos n) ≡ natural n
 unfolding printedWhole ofWhole printed minusSign places
 natural-whole n = append-nil (natural (n / 10 ^ 0)) ∙ ap natural (omega arith)
 

@@ -146,7 +146,7 @@ colLines-proper zero j es o a b h v = tt
 colLines-proper (suc k) j es o a b h v =
     all-append Proper (columnLines j 1 es o) _ (columnLines-proper j 1 es o (omega arith) (omega arith) h v) (colLines-proper k (suc j) es o (omega arith) b h v)
 
-kept-all : {A : Type 0} (P : A → Type 0) (f : A → Bool) (l : List A) → All P l → All P (keep f l)
+pub kept-all : {A : Type 0} (P : A → Type 0) (f : A → Bool) (l : List A) → All P l → All P (keep f l)
 unfolding keep
 kept-all {A} P f [] h = tt
 kept-all {A} P f (a ∷ l) h = go (f a) (kept-all P f l (h .1))

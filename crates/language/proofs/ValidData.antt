@@ -168,7 +168,7 @@ digits-small (Text.string l) z h e = absurd (none-some e)
 digits-small Text.end z h e = absurd (none-some e)
 digits-small (Text.wrong r) z h e = absurd (none-some e)
 
-withMinus-small : (m : Bool) (k : ℤ) → Small k → Small (withMinus m k)
+pub withMinus-small : (m : Bool) (k : ℤ) → Small k → Small (withMinus m k)
 withMinus-small true k h = rw (natAbs-neg k) h
 withMinus-small false k h = h
 
@@ -230,7 +230,7 @@ valueOf-valid (Text.string l) v h e = absurd (none-some e)
 valueOf-valid Text.end v h e = absurd (none-some e)
 valueOf-valid (Text.wrong r) v h e = absurd (none-some e)
 
-signedValue-valid : (m : Bool) (v : Value) → Valid v → Valid (signedValue m v)
+pub signedValue-valid : (m : Bool) (v : Value) → Valid v → Valid (signedValue m v)
 signedValue-valid true v h = negate-valid v h
 signedValue-valid false v h = h
 

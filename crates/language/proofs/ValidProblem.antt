@@ -73,7 +73,7 @@ picked-valid f from (e ∷ es) h = go (f e) refl (picked-valid f from es (h .1))
     go (some v) k ih = (from e v (h .0) k, ih)
     go none k ih = ih
 
-extreme-valid : (le : Value → Value → Bool) (v : Value) (l : List Value) → Valid v → All Valid l → Valid (extreme le v l)
+pub extreme-valid : (le : Value → Value → Bool) (v : Value) (l : List Value) → Valid v → All Valid l → Valid (extreme le v l)
 unfolding extreme
 extreme-valid le v [] hv h = hv
 extreme-valid le v (w ∷ l) hv h = extreme-valid le (cond (le v w) w v) l (go (le v w)) (h .1)

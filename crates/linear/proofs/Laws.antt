@@ -25,7 +25,7 @@ use Rattle.tokens.specs.declared.Found.the-variants as found
 use Rattle.tokens.specs.Stored.{spelling, nameBytes, token, kindOf, from, Sees, Looks, lookUp, Shaped, Named, Matches, Moves}
 use Rattle.tokens.specs.Pieces.{expectIn, headIn, signIn}
 use Rattle.tokens.proofs.Tables.{false-true, mark-of, mark-same, declared, not-declared}
-use Rattle.tokens.proofs.Moved.{stops, goes, then-at, given, next-is, look-is, next-wrong, look-wrong, is-sum}
+use Rattle.tokens.proofs.Moved.{stops, goes, then-at, given, next-is, look-is, next-wrong, look-wrong, is-sum, next-read}
 use Rattle.formulas.specs.Cycle.{partIn, primaryIn, Subscripts}
 use Rattle.linear.specs.Linear.{Heads, Begins, sigmasIn, termIn, sigmaIn, termsIn, formIn, bodyIn, linearIn}
 
@@ -296,16 +296,13 @@ module _ (g : Bool) (s ns ts : List ℕ) (n : ℕ) where
       unfolding joint
       terms-end x p y b e i = o .on (At a) (terms-by k m x p y b false (At a) e i (λ names d. refl))
 
-      next-read : (x p y b : ℕ) → t ≡ seen.Token x p y b → Moves (λ names. next) s ns ts a (At b)
-      next-read x p y b e = record { matches = λ names d. rw (next-is s ts a x p y b (subst (Sees s ts a) e (l .sees s))) refl }
-
       pub terms-refused : (x p y b : ℕ) (j : Refusal) (q : ℕ) (r : Move) → t ≡ seen.Token x p y b → (eqb x 43 || eqb x 45) ≡ true → Moves (termIn g n) s ns ts b r → r ≡ Refused j q
           → Moves (termsIn g n tokenLimit) s ns ts at r
       unfolding joint
       terms-refused x p y b j q r e i u z =
           o .on r
           (terms-by k m x p y b true r e i
-          (λ names d. then-at (λ names. next) (λ names _. termIn g n names >>= alsoRest (k - 1) (isMark minusSign (token s x p y)) names) s ns ts a b r (next-read x p y b e)
+          (λ names d. then-at (λ names. next) (λ names _. termIn g n names >>= alsoRest (k - 1) (isMark minusSign (token s x p y)) names) s ns ts a b r (next-read s ns ts a t l x p y b e)
           (λ _. stops (termIn g n) (alsoRest (k - 1) (isMark minusSign (token s x p y))) s ns ts b r u j q z) .matches names d))
 
       pub terms-on : (x p y b c : ℕ) (r : Move) → t ≡ seen.Token x p y b → (eqb x 43 || eqb x 45) ≡ true → Moves (termIn g n) s ns ts b r → r ≡ At c → TermsOn g s ns ts n at (k - 1) c
@@ -315,7 +312,7 @@ module _ (g : Bool) (s ns ts : List ℕ) (n : ℕ) where
             on = λ ζ η.
                 o .on ζ
                 (terms-by k m x p y b true ζ e i
-                (λ names d. then-at (λ names. next) (λ names _. termIn g n names >>= alsoRest (k - 1) (isMark minusSign (token s x p y)) names) s ns ts a b ζ (next-read x p y b e)
+                (λ names d. then-at (λ names. next) (λ names _. termIn g n names >>= alsoRest (k - 1) (isMark minusSign (token s x p y)) names) s ns ts a b ζ (next-read s ns ts a t l x p y b e)
                 (λ _. goes (termIn g n) (alsoRest (k - 1) (isMark minusSign (token s x p y))) s ns ts b r u c ζ z
                 (λ w. given (λ names. linearTerms (termIn g n names) (k - 1)) (λ names f. also (isMark minusSign (token s x p y)) w f) s ns ts c ζ (record { matches = η .matches }))) .matches names d));
           }

@@ -1,9 +1,9 @@
 // Linear forms read over the stored tokens.
+use lexer::marks;
 use tokens::Found;
 use tokens::Move;
 use tokens::Seen;
 use tokens::kinds;
-use tokens::marks;
 use tokens::sorts;
 ghost use mathlib.Core.Path.{_≡_};
 ghost use Rattle.rules.specs.Limits.{tokenLimit};

@@ -26,7 +26,7 @@ whole-most : (k : ℤ) → length (shownWhole k) ≤ 26
 unfolding shownWhole
 whole-most k = shown-most (ofWhole k)
 
-natural-most : (n : ℕ) → length (shownNatural n) ≤ 26
+pub natural-most : (n : ℕ) → length (shownNatural n) ≤ 26
 unfolding shownNatural
 natural-most n = whole-most (pos n)
 

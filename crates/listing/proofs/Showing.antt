@@ -1,7 +1,7 @@
 -- Laws of what is shown of a number or a value: how long it is, and that it is what the definition prints. Assumes nothing.
 use mathlib.Core.Path.{_≡_, refl, sym, _∙_, ap}
 use mathlib.Core.Bool.{Bool, true, false}
-use mathlib.Core.List.{List, [], _∷_, _++_, append-nil}
+use mathlib.Core.List.{List, [], _∷_, _++_}
 use Prim.Native.Nat.{ℕ, zero, suc, _+_, _/_, _^_, _<_, _≤_}
 use native.Mathlib.Omega.{arith}
 use borrow.Author.Tests.{le-leb, lt-leb}
@@ -18,6 +18,7 @@ use Rattle.value.specs.Printed.{widthFrom, natural, minusSign, places, printed,
 use Rattle.value.proofs.Ranges.{range-places}
 use Rattle.value.proofs.Writing.{length-digits, sign-short, shown-printed, shown-none}
 use Rattle.lexer.specs.View.{partOf}
+use Rattle.language.proofs.Figures.{natural-whole}
 use Rattle.listing.specs.declared.Upper.{Upper}
 use Rattle.listing.specs.declared.Upper.the-variants.{None, At}
 use Rattle.listing.specs.Shown.{shownWhole, shownNatural, shownUpper}
@@ -72,14 +73,10 @@ module _ (k : ℤ) where
   unfolding shownWhole ofWhole inRange
   whole-none h = shown-none (ofWhole k) (rw (lt-leb _ _ h))
 
-printed-natural : (n : ℕ) → printedWhole (pos n) ≡ natural n
-unfolding printedWhole ofWhole printed minusSign places
-printed-natural n = append-nil (natural (n / 10 ^ 0)) ∙ ap natural (omega arith)
-
 module _ (n : ℕ) where
   pub natural-shown : n ≤ mantissaLimit → shownNatural n ≡ natural n
   unfolding shownNatural
-  natural-shown h = whole-shown (pos n) h ∙ printed-natural n
+  natural-shown h = whole-shown (pos n) h ∙ natural-whole n
 
   -- of a number that was cast
   pub natural-read : n ≤ 999999999 → shownWhole (toZ w64 n) ≡ shownNatural n

@@ -1,31 +1,29 @@
 -- Laws of the loops over the elements of a constraint: they start, add an entry, are refused or end. Assumes nothing.
-use mathlib.Core.Path.{_≡_, refl, sym, _∙_, ap, subst}
+use mathlib.Core.Path.{_≡_, refl, sym, _∙_, subst}
 use mathlib.Core.Bool.{true, false}
 use mathlib.Core.List.{List, [], _∷_, map}
-use Prim.Native.Nat.{ℕ, _<_, _≤_}
+use Prim.Native.Nat.{ℕ, _≤_}
 use native.Mathlib.Omega.{arith}
-use lib.ListN.{length, take}
+use lib.ListN.{length}
 use lib.IntN.{ℤ}
 use Rattle.rules.specs.declared.Refusal.{Refusal}
-use Rattle.language.specs.Outcome.{Outcome, done, refused}
-use Rattle.language.specs.Scope.{Scope as Bindings}
+use Rattle.language.specs.Outcome.{Outcome}
 use Rattle.language.specs.Syntax.{Constraint}
 use Rattle.language.specs.Evaluation.{over}
-use Rattle.language.specs.Numbering.{Variable, Entry, addEntry}
-use Rattle.tokens.specs.Stored.{size}
+use Rattle.language.specs.Numbering.{Entry, addEntry}
 use Rattle.store.specs.declared.Element.{Element}
-use Rattle.store.specs.Element.{listOf, Subscripts}
+use Rattle.store.specs.Element.{listOf}
 use Rattle.steps.specs.declared.scope.Scope.{Scope}
-use Rattle.steps.specs.Scopes.{bindingsOf, Small}
+use Rattle.steps.specs.Scopes.{bindingsOf}
 use Rattle.evaluator.specs.declared.Passed.{Passed}
 use Rattle.evaluator.specs.declared.Passed.the-variants as passed
-use Rattle.evaluator.specs.Tables.{World, DomainAt}
-use Rattle.evaluator.specs.Cycle.{seenBy, nothingBound, under}
+use Rattle.evaluator.specs.Tables.{DomainAt}
+use Rattle.evaluator.specs.Cycle.{nothingBound, under}
 use Rattle.elements.specs.declared.here.Here.{Here}
 use Rattle.elements.specs.declared.Step.{Step}
 use Rattle.elements.specs.declared.Step.the-variants.{At, Done, Refused}
 use Rattle.elements.specs.Held.{held, numberOf, bound}
-use Rattle.elements.specs.Steps.{turnsLeft, FirstIs, NextIs}
+use Rattle.elements.specs.Steps.{FirstIs, NextIs}
 use Rattle.elements.specs.Loops.{Remains}
 use Rattle.elements.proofs.Held.{map-take}
 use Rattle.elements.proofs.Loops.{loop-start, loop-more, loop-refused, loop-done, loop-stopped, loop-small, loop-subscripts}
@@ -35,12 +33,8 @@ use Rattle.gatherer.specs.Cycle.{Model}
 use Rattle.sides.specs.Answers.{isBare}
 use Rattle.matrix.specs.declared.Generated.{Generated}
 use Rattle.matrix.specs.declared.Generated.the-variants as generated
-use Rattle.matrix.specs.Answers.{State, Added, Adds, AddsBounds, Stays, Takes, RowAdds, RowsAdd, BoundAdds, BoundsAdd}
+use Rattle.matrix.specs.Answers.{State, Adds, AddsBounds, Stays, Takes, RowAdds, RowsAdd, BoundAdds, BoundsAdd}
 use Rattle.matrix.proofs.Adding.{seen-all}
-
--- each next element is nearer to the end
-pub next-less : (ns ts ds : List ℕ) (given level : ℕ) (h : Here) (r r′ : Step) → r ≡ At h → NextIs ns ts ds given level h r′ → turnsLeft r′ < turnsLeft r
-next-less ns ts ds given level h r r′ e x = subst (λ y. turnsLeft r′ < turnsLeft y) (sym e) (x .falls)
 
 -- the numbers of an element, where the step doesn't ask for them
 abbrev numbers : Here → Element

@@ -126,12 +126,8 @@ fn rows_of(
                 f = g;
                 step = elements::next(names, tokens, table, cx, h);
             }
-            Step::Done => {
-                return Generated::Of(f);
-            }
-            Step::Refused(n, p) => {
-                return Generated::Refused(n, p);
-            }
+            Step::Done => return Generated::Of(f),
+            Step::Refused(n, p) => return Generated::Refused(n, p),
         }
     }
 }
@@ -223,12 +219,8 @@ fn bounds_of(
                     }
                 }
             }
-            Step::Done => {
-                return Passed::Inside;
-            }
-            Step::Refused(n, p) => {
-                return Passed::Refused(n, p);
-            }
+            Step::Done => return Passed::Inside,
+            Step::Refused(n, p) => return Passed::Refused(n, p),
         }
     }
 }

@@ -32,7 +32,7 @@ use Rattle.elements.specs.declared.here.Here.{Here}
 use Rattle.elements.specs.declared.Step.{Step}
 use Rattle.elements.specs.declared.Step.the-variants.{At, Done, Refused}
 use Rattle.elements.specs.Held.{held, numberOf, scopeAt}
-use Rattle.elements.specs.Steps.{turnsLeft, FirstIs, NextIs}
+use Rattle.elements.specs.Steps.{FirstIs, NextIs}
 use Rattle.elements.proofs.Numbers.{not-true, not-false}
 use Rattle.elements.proofs.Held.{scope-held}
 use Rattle.elements.proofs.Loops.{loop-start, loop-more, loop-refused, loop-done, loop-stopped, loop-subscripts}
@@ -99,7 +99,3 @@ module _ (ns ts ds : List ℕ) (given i : ℕ) where
             loop-refused w i _ _ _ h tt _ (asking .left w d D) (scopeAt h) (scope-held h) e q Missing p
             (step-at w d D ∙ ap (check Missing (rowWord ns i 0)) (not-true b n) ∙ ap (refused Missing) (sym o));
       }
-
--- each next element is nearer to the end
-pub turns-fall : {ns ts ds : List ℕ} {given level : ℕ} (x z : Step) (h : Here) → x ≡ At h → NextIs ns ts ds given level h z → turnsLeft z < turnsLeft x
-turns-fall x z h y f = rw y (f .falls)

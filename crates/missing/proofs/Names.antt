@@ -1,63 +1,28 @@
 -- Laws for the loop over the names: by the sort of a name, and name after name. Assumes nothing.
 use mathlib.Core.Path.{_≡_, refl, sym, _∙_, ap, subst}
 use mathlib.Core.Bool.{true, false, _||_}
-use mathlib.Core.Option.{some}
-use mathlib.Core.List.{List, [], _∷_}
-use Prim.Native.Nat.{ℕ, zero, suc, _+_, _*_, _/_, _<_, _≤_}
+use mathlib.Core.List.{List}
+use Prim.Native.Nat.{ℕ, suc, _+_, _/_, _<_, _≤_}
 use native.Mathlib.Omega.{arith}
 use native.Mathlib.Numerals.{add-one}
 use lib.Dec.{eqb}
-use lib.ListN.{length, drop, getElem?}
+use lib.ListN.{length, drop, drop-of-length-le}
 use Rattle.rules.specs.declared.Refusal.{Refusal}
 use Rattle.language.specs.Outcome.{_>>=_}
-use Rattle.language.specs.Syntax.{Name, Sort}
+use Rattle.language.specs.Syntax.{Sort}
 use Rattle.language.specs.Syntax
 use Rattle.language.specs.Store.{givenBy, allGiven}
-use Rattle.tokens.specs.Stored.{Shaped, Named}
-use Rattle.tokens.proofs.Tables.{false-true}
+use Rattle.tokens.specs.Stored.{Shaped}
+use Rattle.tokens.proofs.Tables.{false-true, named-length}
 use Rattle.steps.specs.Names.{rowWord}
 use Rattle.steps.proofs.Numbers.{row-shaped}
 use Rattle.evaluator.specs.declared.Passed.{Passed}
 use Rattle.evaluator.specs.declared.Passed.the-variants as passed
 use Rattle.evaluator.specs.Tables.{Stands, World}
 use Rattle.evaluator.specs.Cycle.{passedOutcome, seenBy, nothingBound}
+use Rattle.evaluator.proofs.Names.{below-length, Split, split}
 use Rattle.elements.specs.Placed.{Placed}
 use Rattle.missing.specs.Given.{DomainGiven, NameGiven, AllGiven, GivenTo}
-
--- ---- names and their rows
-
--- five words for each name
-five-words : (s ns : List ℕ) (names : List Name) → Named s ns names → length ns ≡ length names * 5
-five-words s [] [] h = refl
-five-words s [] (y ∷ ys) h = absurd h
-five-words s (p ∷ []) names h = absurd h
-five-words s (p ∷ n ∷ []) names h = absurd h
-five-words s (p ∷ n ∷ k ∷ []) names h = absurd h
-five-words s (p ∷ n ∷ k ∷ c ∷ []) names h = absurd h
-five-words s (p ∷ n ∷ k ∷ c ∷ q ∷ ns) [] h = absurd h
-five-words s (p ∷ n ∷ k ∷ c ∷ q ∷ ns) (y ∷ ys) h = omega (arith, five-words s ns ys (h .2))
-
-below-length : {A : Type 0} (l : List A) (i : ℕ) (x : A) → getElem? l i ≡ some x → i < length l
-below-length [] i x e = absurd (let z : _≡_ {A = ℕ} 0 1 = cc in omega arith)
-below-length (y ∷ l) zero x e = omega arith
-below-length (y ∷ l) (suc i) x e = omega (arith, below-length l i x e)
-
--- the i-th of a list, and those behind it
-record Split (l : List Name) (i : ℕ) : Type 0 where
-  name : Name
-  here : getElem? l i ≡ some name
-  behind : drop i l ≡ name ∷ drop (suc i) l
-
-split : (l : List Name) (i : ℕ) → i < length l → Split l i
-split [] i h = absurd (omega arith)
-split (x ∷ l) zero h = record { name = x; here = refl; behind = refl }
-split (x ∷ l) (suc i) h = let r = split l i (omega arith) in record { name = r .name; here = r .here; behind = r .behind }
-
-drop-past : {A : Type 0} (l : List A) (i : ℕ) → length l ≤ i → drop i l ≡ []
-drop-past [] zero h = refl
-drop-past [] (suc i) h = refl
-drop-past (x ∷ l) zero h = absurd (omega arith)
-drop-past (x ∷ l) (suc i) h = drop-past l i (omega arith)
 
 -- ---- one name
 
@@ -104,11 +69,11 @@ module _ (ns ts ds : List ℕ) (given : ℕ) where
   module _ (i : ℕ) (g : GivenTo ns ts ds given i) where
     pub given-all : length ns / 5 ≤ i → AllGiven ns ts ds given passed.Inside
     unfolding allGiven
-    given-all h = record { is = λ w p. g .left w p ∙ rw (drop-past (w .names) i (omega (arith, five-words (w .text) ns (w .names) (w .tables .named)))) }
+    given-all h = record { is = λ w p. g .left w p ∙ rw (drop-of-length-le (w .names) {i = i} (omega (arith, named-length (w .text) ns (w .names) (w .tables .named)))) }
 
     module _ (h : i < length ns / 5) (r : Passed) (n : NameGiven ns ts ds given i r) where
       here : (w : World ns ts ds given) → Split (w .names) i
-      here w = split (w .names) i (omega (arith, five-words (w .text) ns (w .names) (w .tables .named)))
+      here w = split (w .names) i (omega (arith, named-length (w .text) ns (w .names) (w .tables .named)))
 
       -- the name of number i, and then those behind it
       by-name : (w : World ns ts ds given) → Placed ns (w .names) → allGiven 0 (w .names) (nothingBound w) ≡ (passedOutcome r >>= λ u. allGiven (suc i) (drop (suc i) (w .names)) (nothingBound w))

@@ -18,7 +18,8 @@ use Rattle.language.specs.Syntax
 use Rattle.language.specs.Grammar.{structure}
 use Rattle.language.proofs.Shapes.{AllShaped, tokens-shaped}
 use Rattle.walk.proofs.WalkedDomain.{due-reads}
-use Rattle.tokens.specs.Stored.{view, from, Named, rowsOf}
+use Rattle.tokens.specs.Stored.{view, from, rowsOf}
+use Rattle.tokens.proofs.Tables.{named-length}
 use Rattle.scanner.specs.Table.{Holds}
 use Rattle.steps.specs.Names.{rowWord, Resolves}
 use Rattle.declarations.specs.Tables.{Spanned, Declares, Told}
@@ -32,16 +33,6 @@ use Rattle.model.proofs.Declared.{few-written}
 use Rattle.model.proofs.Kept.{structure-kept}
 
 -- ---- rows of names
-
-named-length : (s ns : List ℕ) (names : List Name) → Named s ns names → length ns ≡ length names * 5
-named-length s [] [] h = refl
-named-length s [] (y ∷ ys) h = absurd h
-named-length s (p ∷ []) ys h = absurd h
-named-length s (p ∷ n ∷ []) ys h = absurd h
-named-length s (p ∷ n ∷ k ∷ []) ys h = absurd h
-named-length s (p ∷ n ∷ k ∷ c ∷ []) ys h = absurd h
-named-length s (p ∷ n ∷ k ∷ c ∷ q ∷ ns) [] h = absurd h
-named-length s (p ∷ n ∷ k ∷ c ∷ q ∷ ns) (y ∷ ys) h = omega (arith, named-length s ns ys (h .2))
 
 -- what a row tells of its name
 record ToldAt (s ts ns : List ℕ) (before : List Name) (i : ℕ) (x : Name) : Type 0 where

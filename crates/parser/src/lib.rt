@@ -1,6 +1,6 @@
 // A model up to its data section, read over the stored tokens into a table of names and a table of constraints.
+use lexer::marks;
 use tokens::Move;
-use tokens::marks;
 ghost use mathlib.Core.Path.{_≡_};
 ghost use mathlib.Core.Bool.{false};
 ghost use Prim.Native.Nat.{_≤_};

@@ -1,23 +1,22 @@
 -- Laws over plain variables that answer the code's needs. Assumes nothing.
 use mathlib.Core.Path.{_≡_, refl, sym, _∙_, ap, subst}
 use mathlib.Core.Bool.{Bool, true, false, not}
-use mathlib.Core.List.{List, [], _∷_}
-use Prim.Native.Nat.{ℕ, zero, suc, _+_, _-_, _*_, _<_, _≤_}
+use mathlib.Core.List.{List}
+use Prim.Native.Nat.{ℕ, suc, _+_, _-_, _<_, _≤_}
 use native.Mathlib.Omega.{arith}
 use lib.Dec.{eqb}
-use lib.ListN.{length, getD, List·getD-eq-default}
 use borrow.Author.Tests.{eq-eqb, ne-eqb}
 use Rattle.rules.specs.declared.Refusal.{Refusal}
 use Rattle.rules.specs.Limits.{nestingLimit, indexLimit}
 use Rattle.lexer.specs.Text.{Token}
 use Rattle.lexer.specs.Marks.{opens, closes, comma}
-use Rattle.language.specs.Outcome.{done, refused, refused-done}
-use Rattle.language.specs.Syntax.{Name, Spans, point, Relation, atMost, atLeast, equal, Constraint}
+use Rattle.language.specs.Outcome.{refused-done}
+use Rattle.language.specs.Syntax.{Name, Spans, point, Relation, atMost, atLeast, equal}
 use Rattle.language.specs.Reader.{Reader, Titled, follow, _>>=_, give, next, look, demand, stringOf, isMark, expect, bracket, readString, readIndex}
 use Rattle.language.specs.Formulas.{Entry, inDomain, entryOf, spanOf, entriesOf, domainOf, optionalDomain, formulaAt}
 use Rattle.language.specs.Numbering.{flips, isEqual}
 use Rattle.walk.specs.Entries.{read}
-use Rattle.walk.proofs.Steps.{after-read, same-what, same-rest, bracket-is, expect-is, next-is as next-reads}
+use Rattle.walk.proofs.Steps.{after-read, same-what, same-rest, bracket-is, expect-is}
 use Rattle.walk.proofs.WalkedDomain.{entries-read}
 use Rattle.tokens.specs.declared.Move.{Move}
 use Rattle.tokens.specs.declared.Move.the-variants.{At, Refused}
@@ -28,19 +27,11 @@ use Rattle.tokens.specs.Pieces.{indexIn}
 use Rattle.tokens.proofs.Moved.{stood, stuck, next-is, look-is, is-mark}
 use Rattle.domains.specs.Domains.{entryWith}
 use Rattle.evaluator.specs.Tables.{DomainAt}
-use Rattle.constraints.specs.Rows.{relationMark, SideAt, RowOf}
+use Rattle.constraints.specs.Rows.{relationMark, SideAt}
 use Rattle.rows.specs.Bounds.{statesLower, statesUpper}
-use Rattle.parts.specs.declared.Parts.{Parts}
+use Rattle.steps.specs.Names.{rowWord}
 use Rattle.parts.specs.declared.Extent.{Extent}
-use Rattle.parts.specs.Parts.{PlaceIs, EntriesAre, ExtentIs, Tells, rowAt, PartsAre}
-
--- ---- words
-
-pub word-past : (t : List ℕ) (k f : ℕ) → length t ≤ k → 0 ≡ getD t (k * 5 + f) 0
-word-past t k f h = sym (List·getD-eq-default t 0 (omega arith))
-
-pub word-end : (t : List ℕ) (i : ℕ) → length t ≤ i → 0 ≡ getD t i 0
-word-end t i h = sym (List·getD-eq-default t 0 h)
+use Rattle.parts.specs.Parts.{PlaceIs, EntriesAre, ExtentIs, PartsAre}
 
 -- ---- places
 
@@ -290,9 +281,9 @@ module _ (r : Relation) (m : ℕ) (h : relationMark r ≡ m) where
       go atLeast = refl
       go equal = refl
 
-pub parts-are : (s ns ts t : List ℕ) (k p a b m e : ℕ) (x : Extent) → p ≡ getD t (k * 5 + 0) 0 → (q : ℕ) → PlaceIs ts p q → a ≡ getD t (k * 5 + 1) 0 → m ≡ getD t (k * 5 + 2) 0 → b ≡ getD t (k * 5 + 3) 0
-    → e ≡ getD t (k * 5 + 4) 0 → ExtentIs s ns ts e x
+pub parts-are : (s ns ts t : List ℕ) (k p a b m e : ℕ) (x : Extent) → p ≡ rowWord t k 0 → (q : ℕ) → PlaceIs ts p q → a ≡ rowWord t k 1 → m ≡ rowWord t k 2 → b ≡ rowWord t k 3 → e ≡ rowWord t k 4 → ExtentIs s ns ts e x
     → PartsAre s ns ts t k (record { place = q; left = a; right = b; at = x .at; count = x .count; flips = eqb m 62; equal = eqb m 61; lower = not (eqb m 60); upper = not (eqb m 62) })
+unfolding rowWord
 parts-are s ns ts t k p a b m e x hp q pl ha hm hb he ex =
     record {
       is = λ names o c row.

@@ -1,11 +1,10 @@
 // The parts of a constraint from its row of the table: its place, where its sides and the entries of its domain stand, and what its
 // relation says. What an answer tells is in specs/Parts.antt.
+use lexer::marks;
+use steps::names;
 use tokens::Move;
 use tokens::Seen;
-use tokens::marks;
 ghost use mathlib.Core.Path.{_≡_};
-ghost use Prim.Native.Nat.{_+_, _*_, _<_, _≤_};
-ghost use lib.ListN.{getD};
 ghost use Rattle.parts.specs.Parts.{PlaceIs, EntriesAre, ExtentIs, PartsAre};
 
 // A constraint's place, the positions of its sides and of the first entry of its domain, and how many entries there are. `flips`:
@@ -26,20 +25,6 @@ pub struct Parts {
 struct Extent {
     at: usize,
     count: usize,
-}
-
-// Word f of row k, 0 where there is none.
-fn word(table: &[u64], k: usize, f: usize) -> u64
-    requires { ⌜ f < 5 ⌝ }
-    ensures { λ r. ⌜ r ≡ getD (now (table .entry)) (k * 5 + f) 0 ⌝ }
-{
-    if k < table.len() {
-        let i = k * 5 + f;
-        if i < table.len() {
-            return table[i];
-        }
-    }
-    0
 }
 
 // The place of the string at a position.
@@ -100,11 +85,16 @@ fn extent_at(text: &[u8], names: &[u64], tokens: &[u64], at: usize) -> Extent
 pub fn read(text: &[u8], names: &[u64], tokens: &[u64], constraints: &[u64], k: usize) -> Parts
     ensures { λ r. ⌜ PartsAre (now (text .entry)) (now (names .entry)) (now (tokens .entry)) (now (constraints .entry)) k r ⌝ }
 {
-    let place = place_at(tokens, word(constraints, k, 0) as usize);
-    let left = word(constraints, k, 1) as usize;
-    let mark = word(constraints, k, 2);
-    let right = word(constraints, k, 3) as usize;
-    let domain = extent_at(text, names, tokens, word(constraints, k, 4) as usize);
+    let place = place_at(tokens, names::word_of(constraints, k, 0) as usize);
+    let left = names::word_of(constraints, k, 1) as usize;
+    let mark = names::word_of(constraints, k, 2);
+    let right = names::word_of(constraints, k, 3) as usize;
+    let domain = extent_at(
+        text,
+        names,
+        tokens,
+        names::word_of(constraints, k, 4) as usize,
+    );
     Parts {
         place,
         left,

@@ -1,7 +1,7 @@
 -- Laws of a portion's entries, its order and its head over plain variables. Assumes nothing.
 use mathlib.Core.Path.{_≡_, refl, sym, _∙_, ap, subst}
 use mathlib.Core.Bool.{Bool, true, false, _&&_}
-use mathlib.Core.List.{List, [], _∷_, _++_, append-assoc, append-nil}
+use mathlib.Core.List.{List, [], _∷_, _++_, append-nil}
 use Prim.Native.Nat.{ℕ, zero, suc, _+_, _-_, _<_, _≤_}
 use native.Mathlib.Omega.{arith}
 use borrow.Author.Tests.{eqb-true, eq-eqb, ne-eqb}
@@ -23,7 +23,7 @@ use Rattle.tokens.specs.declared.Seen.the-variants as seen
 use Rattle.tokens.specs.Stored.{token, from, markNumber, Sees, Looks, Named, Moves}
 use Rattle.tokens.specs.Pieces.{expectIn, bracketIn}
 use Rattle.tokens.proofs.Tables.{false-true, mark-of, mark-same}
-use Rattle.tokens.proofs.Moved.{next-is, look-is, expect-is, expect-not, stood, stuck}
+use Rattle.tokens.proofs.Moved.{next-is, look-is, expect-is, expect-not, stood, stuck, prefixed, prefixed-none, prefixed-more}
 use Rattle.portions.specs.declared.few.Few.{Few}
 use Rattle.portions.specs.declared.entries.Entry.{Entry as Held}
 use Rattle.portions.specs.declared.entries.Entries.{Entries}
@@ -73,33 +73,19 @@ separator-more (suc (suc n)) e = refl
 
 -- ---- entries
 
--- what is read behind what is there already
-pub behind : {A : Type 0} → List A → Outcome (Read (List A)) → Outcome (Read (List A))
-behind l o = follow o (λ m. give (l ++ m))
-
-behind-none : {A : Type 0} (o : Outcome (Read (List A))) → o ≡ behind [] o
-unfolding behind
-behind-none (done x) = refl
-behind-none (refused n p) = refl
-
-behind-more : {A : Type 0} (l : List A) (x : A) (o : Outcome (Read (List A))) → behind l (follow o (λ m. give (x ∷ m))) ≡ behind (l ++ (x ∷ [])) o
-unfolding behind
-behind-more l x (done y) = ap (λ m. done (record { what = m; rest = y .rest })) (sym (append-assoc l (x ∷ []) (y .what)))
-behind-more l x (refused n p) = refl
-
 -- the entries so far, and as many more as are left
 pub record Listing (s ns ts : List ℕ) (at n : ℕ) (e : Entries) (a left : ℕ) : Type 0 where
-  pub is : (names : List Name) → Named s ns names → n ≤ 4 → (length (entriesOf e) + left ≡ n) × (listIn n names (from s ts at) ≡ behind (entriesOf e) (listIn left names (from s ts a)))
+  pub is : (names : List Name) → Named s ns names → n ≤ 4 → (length (entriesOf e) + left ≡ n) × (listIn n names (from s ts at) ≡ prefixed (entriesOf e) (listIn left names (from s ts a)))
 
 module _ (s ns ts : List ℕ) (at n : ℕ) where
   pub listing-start : (e : Entries) → entriesOf e ≡ [] → Listing s ns ts at n e at n
-  listing-start e i = record { is = λ names d h. rw i (omega arith, behind-none (listIn n names (from s ts at))) }
+  listing-start e i = record { is = λ names d h. rw i (omega arith, prefixed-none (listIn n names (from s ts at))) }
 
   pub listing-end : (e : Entries) (a left : ℕ) → Listing s ns ts at n e a left → left ≤ 0 → Lists s ns ts at n (list.Of e a)
-  unfolding listIn behind
+  unfolding listIn prefixed
   listing-end e a left l h = record { is = λ names d g. l .is names d g .1 ∙ go left h names }
     where
-      go : (k : ℕ) → k ≤ 0 → (names : List Name) → behind (entriesOf e) (listIn k names (from s ts a)) ≡ leaves (entriesOf e) s ts a
+      go : (k : ℕ) → k ≤ 0 → (names : List Name) → prefixed (entriesOf e) (listIn k names (from s ts a)) ≡ leaves (entriesOf e) s ts a
       go zero h names = ap (λ m. leaves m s ts a) (append-nil (entriesOf e))
       go (suc k) h names = absurd (omega arith)
 
@@ -108,11 +94,11 @@ module _ (s ns ts : List ℕ) (at n : ℕ) where
     item-is names d = subst (λ c. itemIn c names (from s ts a) ≡ entered s ts q) i (g .is names d)
 
     pub listing-wrong : (m : Refusal) (p : ℕ) → q ≡ entry.Refused m p → Lists s ns ts at n (list.Refused m p)
-    unfolding listIn behind
+    unfolding listIn prefixed
     listing-wrong m p j = record { is = λ names d f. l .is names d f .1 ∙ go left h (λ names d. item-is names d) names d }
       where
         go : (k : ℕ) → 0 < k → ((names : List Name) → Named s ns names → itemIn (separatorOf k) names (from s ts a) ≡ entered s ts q) → (names : List Name) → Named s ns names
-            → behind (entriesOf e) (listIn k names (from s ts a)) ≡ refused m p
+            → prefixed (entriesOf e) (listIn k names (from s ts a)) ≡ refused m p
         go zero h f names d = absurd (omega arith)
         go (suc k) h f names d = rw (f names d, j) refl
 
@@ -124,15 +110,15 @@ module _ (s ns ts : List ℕ) (at n : ℕ) where
               let (count, same) = l .is names d f in
               let grown : entriesOf e′ ≡ entriesOf e ++ (entryOf x ∷ []) = w .grows (omega arith) in
               let longer : length (entriesOf e ++ (entryOf x ∷ [])) ≡ length (entriesOf e) + 1 = length-append (entriesOf e) (entryOf x ∷ []) in
-              (rw grown (omega arith), same ∙ go left h (λ names d. item-is names d) names d ∙ ap (λ m. behind m (listIn (left - 1) names (from s ts b))) (sym grown));
+              (rw grown (omega arith), same ∙ go left h (λ names d. item-is names d) names d ∙ ap (λ m. prefixed m (listIn (left - 1) names (from s ts b))) (sym grown));
         }
       where
         go : (k : ℕ) → 0 < k → ((names : List Name) → Named s ns names → itemIn (separatorOf k) names (from s ts a) ≡ entered s ts q) → (names : List Name) → Named s ns names
-            → behind (entriesOf e) (listIn k names (from s ts a)) ≡ behind (entriesOf e ++ (entryOf x ∷ [])) (listIn (k - 1) names (from s ts b))
+            → prefixed (entriesOf e) (listIn k names (from s ts a)) ≡ prefixed (entriesOf e ++ (entryOf x ∷ [])) (listIn (k - 1) names (from s ts b))
         go zero h f names d = absurd (omega arith)
         go (suc k) h f names d =
             let z : suc k - 1 ≡ k = omega arith in
-            rw (f names d, j, z) (behind-more (entriesOf e) (entryOf x) (listIn k names (from s ts b)))
+            rw (f names d, j, z) (prefixed-more (entriesOf e) (entryOf x) (listIn k names (from s ts b)))
 
 -- ---- an order
 
@@ -218,7 +204,7 @@ order-step names n ts = go (readIndex names ts)
 pub record OrderSo (names : List Name) (s ts : List ℕ) (at : ℕ) (f : Few) (a left : ℕ) : Type 0 where
   pub shown : List ℕ
   pub keeps : Keeps f shown
-  pub same : orderFrom names byteLimit (from s ts at) ≡ behind shown (orderFrom names left (from s ts a))
+  pub same : orderFrom names byteLimit (from s ts at) ≡ prefixed shown (orderFrom names left (from s ts a))
 
 pub record OrderOn (s ns ts : List ℕ) (at : ℕ) (f : Few) (a left : ℕ) : Type 0 where
   pub on : (names : List Name) → Named s ns names → OrderSo names s ts at f a left
@@ -226,14 +212,14 @@ pub record OrderOn (s ns ts : List ℕ) (at : ℕ) (f : Few) (a left : ℕ) : Ty
 module _ (s ns ts : List ℕ) (at : ℕ) where
   pub order-start : (f : Few) → Keeps f [] → OrderOn s ns ts at f at 16384
   unfolding byteLimit
-  order-start f k = record { on = λ names d. record { shown = []; keeps = k; same = behind-none (orderFrom names 16384 (from s ts at)) } }
+  order-start f k = record { on = λ names d. record { shown = []; keeps = k; same = prefixed-none (orderFrom names 16384 (from s ts at)) } }
 
   pub order-out : (f : Few) (a left : ℕ) → OrderOn s ns ts at f a left → left ≤ 0 → Ordered s ns ts at (order.Refused Full 0)
-  unfolding orderFrom behind
+  unfolding orderFrom prefixed
   order-out f a left o h =
       record { is = λ names d. subst (λ r. OrderIs r s ts (order.Refused Full 0)) (sym (o .on names d .same ∙ go left h names (o .on names d .shown))) (refl, refl) }
     where
-      go : (k : ℕ) → k ≤ 0 → (names : List Name) (l : List ℕ) → behind l (orderFrom names k (from s ts a)) ≡ refused Full 0
+      go : (k : ℕ) → k ≤ 0 → (names : List Name) (l : List ℕ) → prefixed l (orderFrom names k (from s ts a)) ≡ refused Full 0
       go zero h names l = refl
       go (suc k) h names l = absurd (omega arith)
 
@@ -249,19 +235,19 @@ module _ (s ns ts : List ℕ) (at : ℕ) where
             rw z (order-step names k (from s ts a) ∙ ap (λ o. follow o (orderRest names k)) (g .is names d ∙ ap (turned s ts) e))
 
     pub order-wrong : (n : Refusal) (p : ℕ) → q ≡ turn.Refused n p → Ordered s ns ts at (order.Refused n p)
-    unfolding behind
+    unfolding prefixed
     order-wrong n p e =
         record {
           is = λ names d. let x = o .on names d in
-              subst (λ r. OrderIs r s ts (order.Refused n p)) (sym (x .same ∙ ap (behind (x .shown)) (step names d (turn.Refused n p) e))) (refl, refl);
+              subst (λ r. OrderIs r s ts (order.Refused n p)) (sym (x .same ∙ ap (prefixed (x .shown)) (step names d (turn.Refused n p) e))) (refl, refl);
         }
 
     pub order-last : (i b : ℕ) (f′ : Few) → q ≡ turn.Last i b → Adds f i f′ → Ordered s ns ts at (order.Of f′ b)
-    unfolding behind orderRest
+    unfolding prefixed orderRest
     order-last i b f′ e w =
         record {
           is = λ names d. let x = o .on names d in
-              subst (λ r. OrderIs r s ts (order.Of f′ b)) (sym (x .same ∙ ap (behind (x .shown)) (step names d (turn.Last i b) e))) (refl, w .adds (x .shown) (x .keeps));
+              subst (λ r. OrderIs r s ts (order.Of f′ b)) (sym (x .same ∙ ap (prefixed (x .shown)) (step names d (turn.Last i b) e))) (refl, w .adds (x .shown) (x .keeps));
         }
 
     pub order-more : (i b : ℕ) (f′ : Few) → q ≡ turn.More i b → Adds f i f′ → OrderOn s ns ts at f′ b (left - 1)
@@ -272,7 +258,7 @@ module _ (s ns ts : List ℕ) (at : ℕ) where
               record {
                 shown = x .shown ++ (i ∷ []);
                 keeps = w .adds (x .shown) (x .keeps);
-                same = x .same ∙ ap (behind (x .shown)) (step names d (turn.More i b) e) ∙ behind-more (x .shown) i (orderFrom names (left - 1) (from s ts b));
+                same = x .same ∙ ap (prefixed (x .shown)) (step names d (turn.More i b) e) ∙ prefixed-more (x .shown) i (orderFrom names (left - 1) (from s ts b));
               };
         }
 

@@ -138,7 +138,7 @@ fix-bound e r j k f d = ap boundOf (d ∙ ap (λ z. set (entriesOf e) j (fixed z
 
 -- ---- marks
 
-entry-here : (l : List Entry) (k : ℕ) → k < length l → drop k l ≡ getD l k (marked 0) ∷ drop (k + 1) l
+pub entry-here : (l : List Entry) (k : ℕ) → k < length l → drop k l ≡ getD l k (marked 0) ∷ drop (k + 1) l
 entry-here l k h = let e : k + 1 ≡ suc k = omega arith in rw e (drop-cons l k (marked 0) h)
 
 -- the marks before position k are kept

@@ -20,14 +20,14 @@ use Rattle.lexer.specs.Text.{Token, sameBytes}
 use Rattle.language.specs.Outcome.{Outcome, done, refused, some-injective, none-some}
 use Rattle.language.specs.Syntax.{Name, Sort}
 use Rattle.language.specs.Reader.{Reader, Read, follow, give, next, nameOf, stringOf, demand, require, readString, Used, find, found, known, readKnown, isIndex, readIndex}
-use Rattle.language.specs.Data.{fixed, marked, digitsOf, withMinus, signedEntry, entryBy, readEntry, valueOf, signedValue, readClose, isEnd, readEnd}
+use Rattle.language.specs.Data.{marked, digitsOf, withMinus, signedEntry, entryBy, readEntry, valueOf, signedValue, readClose, isEnd, readEnd}
 use Rattle.tokens.specs.declared.Move.the-variants as move
 use Rattle.tokens.specs.declared.Seen.{Seen}
 use Rattle.tokens.specs.declared.Seen.the-variants as seen
 use Rattle.tokens.specs.declared.Known.{Known}
 use Rattle.tokens.specs.declared.Known.the-variants as Known
 use Rattle.tokens.specs.Stored.{nameBytes, spelling, kindOf, token, from, Sees, Looks, Shaped, Named, Knowing, Knows}
-use Rattle.tokens.proofs.Tables.{false-true, mark-of, mark-same, index-sort, other-sort}
+use Rattle.tokens.proofs.Tables.{false-true, mark-of, mark-same, index-sort, other-sort, no-string}
 use Rattle.tokens.proofs.Moved.{next-is}
 use Rattle.portions.specs.declared.heads.Indexed.{Indexed}
 use Rattle.portions.specs.declared.heads.Indexed.the-variants as index
@@ -40,16 +40,6 @@ use Rattle.portions.specs.declared.ends.Titled.the-variants as title
 use Rattle.portions.specs.Readers.{Answers, Says, leaves, indexed, indexIn, entered, markIn, numbered, literalIn, numberIn, passed, titled}
 
 -- ---- kinds
-
-no-string : (s : List ℕ) (k p x : ℕ) → (k ≡ 4 → ⊥) → stringOf (kindOf s k p x) ≡ none
-unfolding kindOf stringOf
-no-string s zero p x h = refl
-no-string s (suc zero) p x h = refl
-no-string s (suc (suc zero)) p x h = refl
-no-string s (suc (suc (suc zero))) p x h = refl
-no-string s (suc (suc (suc (suc zero)))) p x h = absurd (h refl)
-no-string s (suc (suc (suc (suc (suc zero))))) p x h = refl
-no-string s (suc (suc (suc (suc (suc (suc k)))))) p x h = refl
 
 no-end : (s : List ℕ) (k p x : ℕ) → (k ≡ 0 → ⊥) → isEnd (kindOf s k p x) ≡ false
 unfolding kindOf

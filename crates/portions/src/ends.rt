@@ -1,8 +1,8 @@
 // The data section's title, its `CLOSE`, and the text's end.
+use lexer::marks;
 use tokens::Move;
 use tokens::Seen;
 use tokens::kinds;
-use tokens::marks;
 ghost use mathlib.Core.Path.{_≡_};
 ghost use Rattle.language.specs.Reader.{readString};
 ghost use Rattle.language.specs.Data.{readClose, readEnd};

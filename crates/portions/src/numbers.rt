@@ -1,7 +1,7 @@
 // A number's sign and literal.
+use lexer::marks;
 use tokens::Seen;
 use tokens::kinds;
-use tokens::marks;
 ghost use mathlib.Core.Path.{_≡_};
 ghost use Prim.Native.Nat.{_/_};
 ghost use lib.IntN.{pos};

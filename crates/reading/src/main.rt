@@ -1,8 +1,8 @@
 // Reads the texts of its standard input up to their data sections, and writes for each a line: `end`, or `refused`, number and
 // place. tests/reading/make writes the input, in frames, and what must come out, from the stored cases.
 use frames::Given;
+use lexer::marks;
 use tokens::Move;
-use tokens::marks;
 ghost use mathlib.Core.List.{[]};
 ghost use Rattle.value.specs.Printed.{Written};
 ghost use Rattle.tokens.specs.Stored.{Moves};

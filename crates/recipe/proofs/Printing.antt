@@ -1,32 +1,24 @@
 -- What the program prints is the listing, or the refusal's line. Assumes nothing.
 use mathlib.Core.Path.{_≡_, refl, sym, _∙_, ap, subst}
-use mathlib.Core.Bool.{Bool, true, false, cond}
+use mathlib.Core.Bool.{cond}
 use mathlib.Core.List.{List, [], _∷_, _++_}
-use Prim.Native.Nat.{ℕ, zero, suc, _+_, _-_, _≤_}
+use Prim.Native.Nat.{ℕ, _+_, _-_, _≤_}
 use native.Mathlib.Omega.{arith}
 use borrow.Author.Tests.{eq-eqb, ne-eqb}
-use lib.Dec.{eqb}
-use lib.ListN.{length, take, replicate, length-append, length-replicate}
+use lib.ListN.{length, take, replicate, length-append}
 use lib.Seq.{take-at, length-take-le}
-use lib.IntN.{pos}
-use Rattle.rules.specs.declared.Refusal.{Refusal}
-use Rattle.value.specs.Decimal.{ofWhole}
 use Rattle.value.specs.Printed.{Written}
 use Rattle.language.specs.Outcome.{Outcome, done, refused}
 use Rattle.language.specs.Listing.{fields}
 use Rattle.language.specs.Answer.{listing, respond, answer}
-use Rattle.listing.specs.Shown.{shownWhole, shownNatural, shownRefused}
-use Rattle.listing.proofs.Showing.{shown-most}
+use Rattle.listing.specs.Shown.{shownNatural, shownRefused}
 use Rattle.listing.proofs.Lines.{written-zeros}
+use Rattle.listing.proofs.Lengths.{natural-most}
 use Rattle.generator.specs.declared.Answer.{Answer}
 use Rattle.generator.specs.Contract.{Defined}
 use Rattle.recipe.specs.Printed.{printedOf, Prints}
 
 -- ---- a refusal's line is short
-
-natural-most : (n : ℕ) → length (shownNatural n) ≤ 26
-unfolding shownNatural shownWhole
-natural-most n = shown-most (ofWhole (pos n))
 
 line-most : (n p : ℕ) → length (shownRefused n p) ≤ 64
 unfolding shownRefused fields

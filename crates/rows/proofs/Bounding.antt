@@ -2,21 +2,20 @@
 use mathlib.Core.Path.{_≡_, refl, sym, _∙_, ap}
 use mathlib.Core.Bool.{Bool, true, false, cond, _&&_}
 use mathlib.Core.Option.{Option, none, some}
-use mathlib.Core.List.{List, [], _∷_, _++_, append-nil}
-use Prim.Native.Nat.{ℕ, zero, suc, _+_, _*_, _<_, _≤_}
+use mathlib.Core.List.{List, [], _∷_, _++_}
+use Prim.Native.Nat.{ℕ, _+_, _*_, _<_, _≤_}
 use native.Mathlib.Omega.{arith}
 use native.Mathlib.Decide.{ℕ-discrete}
 use borrow.Author.Tests.{eq-eqb, ne-eqb}
-use lib.Dec.{eqb}
-use lib.ListN.{length, getD, set, replicate, length-set}
+use lib.ListN.{length, getD, set, length-set}
 use lib.Seq.{getD-set-same, getD-set-other, set-out}
-use Rattle.rules.specs.Limits.{mantissaLimit, scaleLimit}
+use Rattle.rules.specs.Limits.{scaleLimit}
 use Rattle.value.specs.declared.Value.{Value}
 use Rattle.value.specs.Decimal.{Valid, isAtMost, inRange}
 use Rattle.value.proofs.Operations.{valid-at-most}
 use Rattle.language.specs.Syntax.{Relation, atMost, atLeast, equal}
 use Rattle.language.specs.All.{All, all-with}
-use Rattle.language.specs.Numbering.{Source, Fact, bound, row, Entry, isRow, picked, extreme, isAtLeast, boundAt, lowerAt, upperAt}
+use Rattle.language.specs.Numbering.{Fact, bound, row, Entry, isRow, picked, extreme, isAtLeast, boundAt, lowerAt, upperAt}
 use Rattle.store.specs.Packed.{packed, unpacked}
 use Rattle.store.proofs.Keys.{digit-above}
 use Rattle.store.proofs.Words.{unpacked-packed, packed-in}
@@ -24,6 +23,7 @@ use Rattle.rows.specs.Bounds.{lowersOf, uppersOf, keptWord, lowerWord, u
 
 -- ---- words
 
+-- the word of a valid value is not 0
 pub packed-above : (v : Value) → Valid v → packed v ≡ 0 → ⊥
 unfolding scaleLimit
 packed-above v h e = omega (arith, packed-in v _ refl (h .places), digit-above (v .m) (h .small))
@@ -277,14 +277,6 @@ row-passed b n es e h z = held-of b b n es e h (λ i g. lower-same b b n es e h 
 pub bounds-none : (b : List ℕ) (n : ℕ) → ((k : ℕ) → getD b k 0 ≡ 0) → BoundsHeld b n []
 unfolding lowersOf uppersOf picked keptWord
 bounds-none b n z = record { lower = λ j g. z (j * 2); upper = λ j g. z (j * 2 + 1); validLower = λ j g. tt; validUpper = λ j g. tt }
-
-pub bounds-zeros : (k n : ℕ) → BoundsHeld (replicate k 0) n []
-bounds-zeros k n = bounds-none (replicate k 0) n (at k)
-  where
-    at : (k i : ℕ) → _≡_ {A = ℕ} (getD (replicate k 0) i 0) 0
-    at zero i = refl
-    at (suc k) zero = refl
-    at (suc k) (suc i) = at k i
 
 -- ---- what the code of bounds answers
 

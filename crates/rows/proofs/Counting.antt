@@ -1,15 +1,14 @@
 -- Laws of rows of counts: zeros, opposites, and a function at every count. Assumes nothing.
 use mathlib.Core.Path.{_≡_, refl, sym, _∙_, ap}
-use mathlib.Core.Bool.{Bool, true, false}
+use mathlib.Core.Bool.{true, false}
 use mathlib.Core.List.{List, [], _∷_, map}
 use Prim.Native.Nat.{ℕ, zero, suc, _+_, _^_, _<_, _≤_}
 use native.Mathlib.Omega.{arith}
 use native.Mathlib.Decide.{ℕ-discrete}
-use borrow.Author.Tests.{ltb-true, ltb-false, le-ltb}
-use lib.Dec.{ltb}
+use borrow.Author.Tests.{ltb-false, le-ltb}
 use lib.ListN.{length, getD, set, replicate, length-set, length-map, length-replicate, getD-replicate, List·getD-map}
 use lib.Seq.{getD-set-same, getD-set-other, ext-getD}
-use lib.IntN.{ℤ, pos, negsuc, negℤ, natAbs, _-ℤ_, _*ℤ_, +ℤ-idl}
+use lib.IntN.{ℤ, pos, negsuc, negℤ, natAbs, _-ℤ_, +ℤ-idl}
 use lib.Signed.{mag, ltZ}
 use mir.Syntax.{w64}
 use mir.Val.{SFits}
@@ -18,13 +17,14 @@ use Rattle.value.specs.declared.Value.{Value}
 use Rattle.value.specs.declared.Fit.the-variants.{Fits}
 use Rattle.value.specs.Fraction.{_≈_, opposite}
 use Rattle.value.specs.FractionLaws.{opposite-cong}
-use Rattle.value.specs.Decimal.{zeroValue, tenths, frac, negate}
+use Rattle.value.specs.Decimal.{zeroValue, tenths, negate}
 use Rattle.value.specs.Gathering.{millionths, ofMillionths, countLimit}
-use Rattle.value.proofs.Integers.{sfits, opposite-fits}
+use Rattle.value.proofs.Integers.{opposite-fits}
 use Rattle.value.proofs.Fitting.{fitOf-exact, fitOf-valid, fitOf-≈}
 use Rattle.value.proofs.Operations.{zero-valid, negate-valid, negate-exact}
 use Rattle.value.proofs.Gathering.{count-small, ofMillionths-own}
 use Rattle.language.specs.Numbering.{Variable, Row, signed}
+use Rattle.language.proofs.Entries.{map-same}
 use Rattle.rows.specs.Counts.{RowIs, RowOf, opposed}
 
 -- ---- a function at the first i counts, the others as they were
@@ -151,12 +151,8 @@ row-opposed l r h =
 pub row-negated : (l : List ℤ) (r : Row) → RowIs l r → RowIs (map opposed l) (map (signed true) r)
 row-negated l r h = row-opposed l r h
 
-pub signed-same : (r : Row) → map (signed false) r ≡ r
-signed-same [] = refl
-signed-same (v ∷ r) = ap (λ (m : Row). v ∷ m) (signed-same r)
-
 pub row-kept : (l : List ℤ) (r : Row) → RowIs l r → RowIs l (map (signed false) r)
-row-kept l r h = rw (signed-same r) h
+row-kept l r h = rw (map-same r) h
 
 module _ (vs : List Variable) (l : List ℤ) (r : Row) (h : RowOf vs l r) where
   pub of-negated : RowOf vs (map opposed l) (map (signed true) r)

@@ -6,16 +6,14 @@ use mathlib.Core.Logic.{_⊎_, inl, inr}
 use mathlib.Core.List.{List, [], _∷_}
 use Prim.Native.Nat.{ℕ, zero, suc, _+_, _<_, _≤_}
 use native.Mathlib.Omega.{arith}
-use native.Mathlib.Numerals.{add-one}
-use lib.ListN.{length, getD, take, drop, drop-of-length-le}
-use lib.Seq.{drop-cons}
+use lib.ListN.{length, getD, take, drop}
 use Rattle.rules.specs.Limits.{byteLimit, nameLength}
 use Rattle.value.specs.Decimal.{Valid}
 use Rattle.lexer.specs.Text.{Token, tokens}
 use Rattle.lexer.specs.View.{isLast}
 use Rattle.tokens.specs.declared.Seen.the-variants as seen
 use Rattle.tokens.specs.Stored.{kindPart, placePart, payloadPart, nameBytes, bytesFrom, spelling, kindOf, token, view, from, Looks}
-use Rattle.tokens.proofs.Tables.{false-true}
+use Rattle.tokens.proofs.Tables.{false-true, view-here, view-end}
 use Rattle.scanner.specs.Table.{tableSize, valueOf, Holds, Scanned}
 use Rattle.scanner.proofs.Proper.{Held, Proper, last, more, proper-first, tokens-proper}
 
@@ -75,20 +73,11 @@ proper-ends : {t : Token} → Proper (t ∷ []) → isLast (t .kind) ≡ true
 proper-ends (last h e) = e
 proper-ends (more h e r) = absurd (proper-some r refl)
 
-view-past : (s ts : List ℕ) (at : ℕ) → length ts ≤ at → view s (drop at ts) ≡ []
-unfolding view
-view-past s ts at h = rw (drop-of-length-le ts {i = at} h) refl
-
-view-here : (s ts : List ℕ) (at : ℕ) → at < length ts
-    → view s (drop at ts) ≡ token s (kindPart (getD ts at 0)) (placePart (getD ts at 0)) (payloadPart (getD ts at 0)) ∷ view s (drop (at + 1) ts)
-unfolding view
-view-here s ts at h = rw (add-one at, drop-cons ts at 0) refl
-
 proper-from : (s ts : List ℕ) (at : ℕ) (t : Token) (l : List Token) → view s (drop at ts) ≡ t ∷ l → Proper (view s ts) → Proper (t ∷ l)
 unfolding view
 proper-from s ts zero t l e p = subst Proper e p
 proper-from s [] (suc at) t l e p = absurd (cons-nil (sym e))
-proper-from s (w ∷ []) (suc at) t l e p = absurd (cons-nil (sym e ∙ view-past s [] at (omega arith)))
+proper-from s (w ∷ []) (suc at) t l e p = absurd (cons-nil (sym e ∙ view-end s [] at (omega arith)))
 proper-from s (w ∷ v ∷ ts) (suc at) t l e p = proper-from s (v ∷ ts) at t l e (proper-tail p)
 
 -- ---- the words of a text
@@ -152,7 +141,7 @@ module _ (s ts : List ℕ) (h : Holds s ts) where
     unfolding token
     last-word e =
         kind-ends s (placePart w) (payloadPart w) (kindPart w)
-        (proper-ends (rw (view-past s ts (i + 1) (omega arith)) at proper-here))
+        (proper-ends (rw (view-end s ts (i + 1) (omega arith)) at proper-here))
 
     pub other-word : i + 1 < length ts → (kindPart w ≡ 0 → ⊥) × (kindPart w ≡ 5 → ⊥)
     unfolding token

@@ -18,6 +18,7 @@ use Rattle.language.specs.Model.{Model}
 use Rattle.language.specs.Numbering.{Entry, Lp, keep, lessRow, equalRow, lessRows, equalRows, rows}
 use Rattle.language.specs.Listing.{Line, lpLine, endLine, rightOf, coefficientsOf, rowLines, varLines, colLines, linesOf}
 use Rattle.language.specs.Proper.{Proper}
+use Rattle.language.proofs.ProperText.{kept-all}
 use Rattle.listing.specs.Shown.{shownLine, shownLines}
 use Rattle.listing.proofs.Lines.{lines-append}
 use Rattle.store.specs.Table.{wordAt}
@@ -46,15 +47,6 @@ line-join : (k : Line) (ls : List Line) {l : List ℕ} {at r : ℕ} {l′ : List
     → Written l at (shownLines (k ∷ ls)) r′ l″
 unfolding shownLines
 line-join k ls w v = written-then _ _ _ _ _ _ _ _ w v
-
-kept-all : {A : Type 0} (P : A → Type 0) (f : A → Bool) (l : List A) → All P l → All P (keep f l)
-unfolding keep
-kept-all P f [] h = tt
-kept-all {A} P f (a ∷ l) h = go (f a) (kept-all P f l (h .1))
-  where
-    go : (t : Bool) → All P (keep f l) → All P (elim t [ true ↦ a ∷ keep f l | false ↦ keep f l ])
-    go true k = (h .0, k)
-    go false k = k
 
 -- ---- the lines of a problem, and what the tables tell of them
 

@@ -21,7 +21,8 @@ use Rattle.language.specs.Proper as Proper
 use Rattle.tokens.specs.Stored.{placePart, payloadPart, bytesFrom, spelling, kindOf, token, from, Named, Stands}
 use Rattle.tokens.proofs.Tables.{view-here, view-end}
 use Rattle.constraints.specs.Rows.{Rows}
-use Rattle.sheet.specs.Strings.{rowWord, nameAt, stringAt, titleOf}
+use Rattle.steps.specs.Names.{rowWord}
+use Rattle.sheet.specs.Strings.{nameAt, stringAt, titleOf}
 
 -- ---- visible bytes lie in the text
 

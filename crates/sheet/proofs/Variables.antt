@@ -1,6 +1,5 @@
 -- Laws of the variables of a problem: the line of a number, its bounds and its name. Assumes nothing.
 use mathlib.Core.Path.{_≡_, refl, sym, _∙_, ap}
-use mathlib.Core.Bool.{Bool, true, false, cond}
 use mathlib.Core.Option.{some}
 use mathlib.Core.List.{List, [], _∷_}
 use Prim.Native.Nat.{ℕ, zero, suc, _+_}
@@ -8,7 +7,6 @@ use native.Mathlib.Omega.{arith}
 use borrow.Author.Tests.{ne-eqb}
 use lib.Dec.{ltb}
 use lib.ListN.{length, getD}
-use Rattle.rules.specs.Limits.{scaleLimit}
 use Rattle.value.specs.declared.Value.{Value}
 use Rattle.value.specs.Decimal.{Valid, isAtMost}
 use Rattle.language.specs.All.{All}
@@ -17,45 +15,32 @@ use Rattle.language.specs.Syntax.{Name}
 use Rattle.language.specs.Syntax
 use Rattle.language.specs.Numbering.{Variable, Entry, Lp, extreme, isAtLeast, largest, smallest, lowerOf, upperOf}
 use Rattle.language.specs.Listing.{Line, varLine, varLines}
-use Rattle.store.specs.Key.{digitOf}
+use Rattle.language.proofs.ValidProblem.{extreme-valid}
 use Rattle.store.specs.Packed.{packed, unpacked}
-use Rattle.store.proofs.Keys.{digit-above}
-use Rattle.store.proofs.Words.{packed-in, unpacked-packed}
+use Rattle.store.proofs.Words.{unpacked-packed}
 use Rattle.rows.specs.Bounds.{lowersOf, uppersOf, keptWord}
+use Rattle.rows.proofs.Bounding.{packed-above}
 use Rattle.sheet.specs.Strings.{lowerIn, upperIn}
 
 -- ---- bounds
 
--- a valid value comes back from its word, which is not 0
+-- a valid value comes back from its word
 pub word-back : (v : Value) → Valid v → unpacked (packed v) ≡ v
 word-back v h = unpacked-packed v (h .small) (h .places)
-
-word-some : (v : Value) → Valid v → packed v ≡ 0 → ⊥
-unfolding scaleLimit
-word-some v h e = omega (arith, packed-in v (digitOf (v .m)) refl (h .places), digit-above (v .m) (h .small))
-
-extreme-valid : (le : Value → Value → Bool) (v : Value) (l : List Value) → Valid v → All Valid l → Valid (extreme le v l)
-unfolding extreme
-extreme-valid le v [] h k = h
-extreme-valid le v (w ∷ l) h k = extreme-valid le (cond (le v w) w v) l (go (le v w)) (k .1)
-  where
-    go : (t : Bool) → Valid (cond t w v)
-    go true = k .0
-    go false = h
 
 lower-back : (l : List Value) → All Valid l → lowerIn (keptWord isAtMost l) ≡ largest l
 unfolding lowerIn keptWord largest
 lower-back [] h = refl
 lower-back (v ∷ l) h =
     let x = extreme-valid isAtMost v l (h .0) (h .1) in
-    rw (ne-eqb (packed (extreme isAtMost v l)) 0 (word-some _ x)) (word-back _ x)
+    rw (ne-eqb (packed (extreme isAtMost v l)) 0 (packed-above _ x)) (word-back _ x)
 
 upper-back : (l : List Value) → All Valid l → upperIn (keptWord isAtLeast l) ≡ smallest l
 unfolding upperIn keptWord smallest
 upper-back [] h = refl
 upper-back (v ∷ l) h =
     let x = extreme-valid isAtLeast v l (h .0) (h .1) in
-    rw (ne-eqb (packed (extreme isAtLeast v l)) 0 (word-some _ x)) (ap some (word-back _ x))
+    rw (ne-eqb (packed (extreme isAtLeast v l)) 0 (packed-above _ x)) (ap some (word-back _ x))
 
 module _ (es : List Entry) (j w : ℕ) where
   pub lower-told : w ≡ keptWord isAtMost (lowersOf es j) → All Valid (lowersOf es j) → lowerIn w ≡ lowerOf es j

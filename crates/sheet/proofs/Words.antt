@@ -3,11 +3,11 @@ use mathlib.Core.Path.{_≡_, refl, sym, ap}
 use mathlib.Core.Bool.{Bool, true, false, _&&_}
 use mathlib.Core.Option.{some}
 use mathlib.Core.List.{List}
-use Prim.Native.Nat.{ℕ, _+_, _-_, _*_, _/_, _%_, _<_, _≤_}
+use Prim.Native.Nat.{ℕ, _+_, _-_, _/_, _%_, _<_, _≤_}
 use native.Mathlib.Omega.{arith}
 use borrow.Author.Tests.{le-leb, lt-leb, leb-true, leb-false, eq-eqb, ne-eqb}
 use lib.Dec.{leb}
-use lib.ListN.{length, getD, length-take, length-drop, List·getD-eq-default}
+use lib.ListN.{length, getD, length-take, length-drop}
 use lib.IntN.{pos}
 use Rattle.rules.specs.Limits.{byteLimit, variableLimit, rowLimit}
 use Rattle.value.specs.declared.Value.{Value}
@@ -18,8 +18,9 @@ use Rattle.tokens.specs.Stored.{placePart, payloadPart}
 use Rattle.listing.specs.declared.Upper.the-variants.{None, At}
 use Rattle.listing.specs.Upper.{bound}
 use Rattle.store.specs.Packed.{unpacked}
+use Rattle.steps.specs.Names.{rowWord}
 use Rattle.sheet.specs.declared.Sizes.{Sizes}
-use Rattle.sheet.specs.Strings.{rowWord, nameAt, stringAt, titleOf, lowerIn, upperIn, within}
+use Rattle.sheet.specs.Strings.{nameAt, stringAt, titleOf, lowerIn, upperIn, within}
 
 -- ---- limits
 
@@ -57,17 +58,6 @@ module _ (n : ℕ) (x : Sizes) where
   pub yes-within : n ≤ 16384 → x .variables ≤ 512 → x .less + x .equal ≤ 512 → within n x ≡ true
   unfolding within byteLimit variableLimit rowLimit
   yes-within a b c = rw (le-leb n 16384 a, le-leb (x .variables) 512 b, le-leb (x .less + x .equal) 512 c)
-
--- ---- words
-
-module _ (t : List ℕ) (i f : ℕ) where
-  pub row-word : (w : ℕ) → w ≡ getD t (i * 5 + f) 0 → w ≡ rowWord t i f
-  unfolding rowWord
-  row-word w e = e
-
-  pub row-past : length t ≤ i → 0 ≡ rowWord t i f
-  unfolding rowWord
-  row-past h = sym (List·getD-eq-default t 0 (omega arith))
 
 -- ---- names and strings
 

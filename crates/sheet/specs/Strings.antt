@@ -2,7 +2,7 @@
 use mathlib.Core.Bool.{Bool, cond, _&&_}
 use mathlib.Core.Option.{Option, none, some}
 use mathlib.Core.List.{List}
-use Prim.Native.Nat.{ℕ, _+_, _*_}
+use Prim.Native.Nat.{ℕ, _+_}
 use lib.Dec.{eqb, leb}
 use lib.ListN.{getD}
 use Rattle.rules.specs.Limits.{byteLimit, variableLimit, rowLimit}
@@ -11,11 +11,8 @@ use Rattle.value.specs.Decimal.{zeroValue}
 use Rattle.lexer.specs.View.{partOf}
 use Rattle.tokens.specs.Stored.{placePart, payloadPart}
 use Rattle.store.specs.Packed.{unpacked}
+use Rattle.steps.specs.Names.{rowWord}
 use Rattle.sheet.specs.declared.Sizes.{Sizes}
-
--- word f of row i of a table of rows of five words
-unfoldable pub rowWord : List ℕ → ℕ → ℕ → ℕ
-rowWord t i f = getD t (i * 5 + f) 0
 
 -- the name of a number: its row tells its place and the number of its bytes
 unfoldable pub nameAt : List ℕ → List ℕ → ℕ → List ℕ

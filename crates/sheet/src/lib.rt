@@ -1,5 +1,6 @@
 // The listing of a problem, written from its tables. Each line is written from the byte where the last one ended, as far as the
 // output reaches; the listing's length is given whether or not the output reaches that far.
+use steps::names;
 ghost use mathlib.Core.Path.{_≡_};
 ghost use Prim.Native.Nat.{_+_, _*_, _<_, _≤_, _^_};
 ghost use lib.ListN.{length, getD};
@@ -9,7 +10,7 @@ ghost use Rattle.language.specs.Listing.{lpLine, colLine, endLine};
 ghost use Rattle.listing.specs.Shown.{shownLine, shownLines};
 ghost use Rattle.listing.specs.Upper.{bound};
 ghost use Rattle.sheet.specs.Columns.{slotAt, countAt, valueOf, cellLines, columnFrom, columnsFrom};
-ghost use Rattle.sheet.specs.Strings.{rowWord, nameAt, stringAt, titleOf, lowerIn, upperIn, within};
+ghost use Rattle.sheet.specs.Strings.{nameAt, stringAt, titleOf, lowerIn, upperIn, within};
 ghost use Rattle.sheet.specs.Told.{RowTold, VariableTold, Writes, WritesAll};
 ghost use Rattle.sheet.specs.Shown.{Lists};
 
@@ -48,23 +49,12 @@ fn word(table: &[u64], k: usize) -> u64
     0
 }
 
-// Word f of row i of a table of rows of five words, 0 where there is none.
-fn row_word(table: &[u64], i: usize, f: usize) -> u64
-    requires { ⌜ f < 5 ⌝ }
-    ensures { λ r. ⌜ r ≡ rowWord (now (table .entry)) i f ⌝ }
-{
-    if i < table.len() {
-        return word(table, i * 5 + f);
-    }
-    0
-}
-
 // The name of a number.
 fn name_of<'a>(text: &'a [u8], names: &[u64], i: usize) -> &'a [u8]
     ensures { λ r. ⌜ now r ≡ nameAt (now (text .entry)) (now (names .entry)) i ⌝ }
 {
-    let place = row_word(names, i, 0);
-    let bytes = row_word(names, i, 1);
+    let place = names::word_of(names, i, 0);
+    let bytes = names::word_of(names, i, 1);
     lexer::part(text, place as usize, bytes as usize)
 }
 
@@ -82,7 +72,7 @@ fn string_at<'a>(text: &'a [u8], tokens: &[u64], at: usize) -> &'a [u8]
 fn title_of<'a>(text: &'a [u8], tokens: &[u64], constraints: &[u64], i: usize) -> &'a [u8]
     ensures { λ r. ⌜ now r ≡ titleOf (now (text .entry)) (now (tokens .entry)) (now (constraints .entry)) i ⌝ }
 {
-    string_at(text, tokens, row_word(constraints, i, 0) as usize)
+    string_at(text, tokens, names::word_of(constraints, i, 0) as usize)
 }
 
 // ---- the first line and the last

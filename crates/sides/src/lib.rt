@@ -3,13 +3,13 @@
 use evaluator::Context;
 use evaluator::Passed;
 use gatherer::Numbered;
+use lexer::marks;
 use steps::names::Listed;
 use steps::values;
 use steps::values::Answer;
 use tokens::Found;
 use tokens::Move;
 use tokens::Seen;
-use tokens::marks;
 use value::Value;
 ghost use mathlib.Core.List.{map};
 ghost use Rattle.language.specs.Numbering.{signed};

@@ -1,9 +1,9 @@
 -- Laws of runs: bounds, lengths, the numbers of a run, and the domain test of one number. Assumes nothing.
 use mathlib.Core.Path.{_≡_, refl, sym, _∙_, ap, subst}
-use mathlib.Core.Bool.{Bool, true, false, cond, _&&_, not}
+use mathlib.Core.Bool.{Bool, true, false, _&&_, not}
 use mathlib.Core.Option.{Option}
 use mathlib.Core.List.{List}
-use Prim.Native.Nat.{ℕ, zero, suc, _+_, _-_, _^_, _<_, _≤_}
+use Prim.Native.Nat.{ℕ, suc, _+_, _-_, _^_, _<_, _≤_}
 use native.Mathlib.Omega.{arith}
 use borrow.Author.Tests.{le-leb, lt-leb, leb-true, leb-false, ltb-true, ltb-false, not-true, not-false}
 use lib.Dec.{T, leb, ltb}
@@ -16,9 +16,9 @@ use mir.Facts.{toZ-ofZ, toZ-pos}
 use Rattle.rules.specs.declared.Refusal.the-variants.{BadIndex, NotWhole, Outside}
 use Rattle.rules.specs.Limits.{mantissaLimit, runLimit, indexLimit}
 use Rattle.value.specs.declared.Value.{Value}
-use Rattle.value.specs.Integer.{up, down, add-parts, neg-up, neg-down, le-parts, leZ-true, leZ-false}
+use Rattle.value.specs.Integer.{up, down, add-parts, neg-up, neg-down, le-parts, leZ-true}
 use Rattle.value.proofs.Integers.{mag-le, natAbs-add, natAbs-sub, back}
-use Rattle.value.proofs.Ranges.{and-left, and-right}
+use Rattle.value.proofs.Ranges.{and-right}
 use Rattle.language.specs.Ranges.{upFrom}
 use Rattle.language.specs.Outcome.{done, check, _>>=_}
 use Rattle.language.specs.Scope.{boundTo}
@@ -29,7 +29,7 @@ use Rattle.steps.specs.declared.values.Bounds.{Bounds}
 use Rattle.steps.specs.declared.values.Runs.the-variants as runs
 use Rattle.steps.specs.declared.values.Tested.the-variants as tested
 use Rattle.steps.specs.Scopes.{bindingsOf, boundMore, scopeOf}
-use Rattle.steps.specs.Values.{limitsIn, SmallLimits, SmallSpan, LengthIs, runOutcome, RunIs, NumberIs, BindsNth, insideLimits, Tests}
+use Rattle.steps.specs.Values.{limitsIn, SmallLimits, SmallSpan, LengthIs, RunIs, NumberIs, BindsNth, Tests}
 
 -- a number as it is read back
 abbrev pub seen : ℤ → ℤ
@@ -37,7 +37,7 @@ seen k = toZ w64 (ofZ w64 k)
 
 -- ---- bounds
 
-parts-size : (z : ℤ) → natAbs z ≡ up z + down z
+pub parts-size : (z : ℤ) → natAbs z ≡ up z + down z
 parts-size (pos n) = omega arith
 parts-size (negsuc n) = omega arith
 

@@ -71,7 +71,7 @@ fn number_at(tokens: &[u64], at: usize) -> u64
     tokens[at] % tokens::PLACE_UNIT / tokens::NAME_UNIT
 }
 
-// Word f of row i of the name table, 0 past its end.
+// Word f of row i of a table of rows of five words, as the name table is one, 0 past its end.
 pub fn word_of(names: &[u64], i: usize, f: usize) -> u64
     ensures { λ r. ⌜ r ≡ rowWord (now (names .entry)) i f ⌝ }
 {

@@ -1,6 +1,6 @@
 // Tokens that are passed over: they were read before, and what stands there is not tested again.
+use lexer::marks;
 use tokens::Seen;
-use tokens::marks;
 ghost use mathlib.Core.Path.{_≡_};
 ghost use Rattle.steps.specs.Passing.{Skips, Ends, Leads};
 

@@ -18,10 +18,6 @@ use Rattle.store.specs.Key.{digitOf}
 use Rattle.store.specs.Packed.{packed, unpacked}
 use Rattle.store.proofs.Keys.{digit-out, digit-parts, digit-below}
 
--- a signed number is read back from its bits
-pub back : {z : ℤ} → mag z < 2 ^ 63 → toZ w64 (ofZ w64 z) ≡ z
-back h = toZ-ofZ (record { sfits = h })
-
 -- ---- the digit of a number, by the code's tests
 
 beyond : (k : ℤ) → leZ (pos 1000000000) k ≡ true → 999999999 < natAbs k

@@ -158,21 +158,27 @@ module _ {A : Type 0} where
   prefixed-none (done x) = refl
   prefixed-none (refused n p) = refl
 
-  pub prefixed-twice : (l m : List A) (o : Outcome (Read (List A))) → prefixed l (prefixed m o) ≡ prefixed (l ++ m) o
+  prefixed-twice : (l m : List A) (o : Outcome (Read (List A))) → prefixed l (prefixed m o) ≡ prefixed (l ++ m) o
   unfolding prefixed
   prefixed-twice l m (done x) = ap (λ w. done (record { what = w; rest = x .rest })) (sym (append-assoc l m (x .what)))
   prefixed-twice l m (refused n p) = refl
 
-  pub prefixed-one : (a : A) (o : Outcome (Read (List A))) → follow o (λ l. give (a ∷ l)) ≡ prefixed (a ∷ []) o
+  prefixed-one : (a : A) (o : Outcome (Read (List A))) → follow o (λ l. give (a ∷ l)) ≡ prefixed (a ∷ []) o
   unfolding prefixed
   prefixed-one a (done x) = refl
   prefixed-one a (refused n p) = refl
+
+  pub prefixed-more : (l : List A) (a : A) (o : Outcome (Read (List A))) → prefixed l (follow o (λ m. give (a ∷ m))) ≡ prefixed (l ++ (a ∷ [])) o
+  prefixed-more l a o = ap (prefixed l) (prefixed-one a o) ∙ prefixed-twice l (a ∷ []) o
 
 -- ---- one token
 
 pub next-is : (s ts : List ℕ) (at k p x a : ℕ) → Sees s ts at (seen.Token k p x a) → next (from s ts at) ≡ done (record { what = token s k p x; rest = from s ts a })
 unfolding next token
 next-is s ts at k p x a h = rw (h .1) (passes s k p x _ _ (h .0))
+
+pub next-read : (s ns ts : List ℕ) (at : ℕ) (t : Seen) → Looks ts at t → (k p x a : ℕ) → t ≡ seen.Token k p x a → Moves (λ names. next) s ns ts at (At a)
+next-read s ns ts at t h k p x a e = record { matches = λ names d. rw (next-is s ts at k p x a (subst (Sees s ts at) e (h .sees s))) refl }
 
 pub look-is : (s ts : List ℕ) (at k p x a : ℕ) → Sees s ts at (seen.Token k p x a) → look (from s ts at) ≡ done (record { what = token s k p x; rest = from s ts at })
 unfolding look token

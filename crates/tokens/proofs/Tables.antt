@@ -15,7 +15,7 @@ use Rattle.lexer.specs.Text.{Token, sameBytes}
 use Rattle.language.specs.Outcome.{done}
 use Rattle.language.specs.Syntax.{Name, Sort}
 use Rattle.language.specs.Syntax
-use Rattle.language.specs.Reader.{Used, passed, next, look, markOf, nameOf, find, isIndex}
+use Rattle.language.specs.Reader.{Used, passed, next, look, markOf, nameOf, find, isIndex, stringOf}
 use Rattle.tokens.specs.declared.Seen.the-variants as seen
 use Rattle.tokens.specs.declared.Found.{Found}
 use Rattle.tokens.specs.declared.Found.the-variants as found
@@ -110,6 +110,17 @@ no-name s (suc (suc (suc zero))) p x h = refl
 no-name s (suc (suc (suc (suc zero)))) p x h = refl
 no-name s (suc (suc (suc (suc (suc zero))))) p x h = refl
 no-name s (suc (suc (suc (suc (suc (suc k)))))) p x h = refl
+
+-- what is no string has none
+pub no-string : (s : List ℕ) (k p x : ℕ) → (k ≡ 4 → ⊥) → stringOf (kindOf s k p x) ≡ none
+unfolding kindOf stringOf
+no-string s zero p x h = refl
+no-string s (suc zero) p x h = refl
+no-string s (suc (suc zero)) p x h = refl
+no-string s (suc (suc (suc zero))) p x h = refl
+no-string s (suc (suc (suc (suc zero)))) p x h = absurd (h refl)
+no-string s (suc (suc (suc (suc (suc zero))))) p x h = refl
+no-string s (suc (suc (suc (suc (suc (suc k)))))) p x h = refl
 
 -- a token that is no refusal passes
 pub passes : (s : List ℕ) (k p x : ℕ) (t : Token) (l : List Token) → (k ≡ 5 → ⊥) → passed (kindOf s k p x) t l ≡ done (record { what = t; rest = l })
@@ -330,6 +341,17 @@ declared s l (a ∷ b ∷ d ∷ f ∷ q ∷ ns) (y ∷ ys) i p j k c h e = go (s
     go true false w x g e = absurd (false-true x)
     go false true w x g e = absurd (false-true (sym x))
     go false false w x g e = let r = g e in record { used = r .used; stands = rw (find, w) (r .stands); numbered = r .numbered; shaped = r .shaped; placed = r .placed }
+
+-- five words for each name
+pub named-length : (s ns : List ℕ) (names : List Name) → Named s ns names → length ns ≡ length names * 5
+named-length s [] [] h = refl
+named-length s [] (y ∷ ys) h = absurd h
+named-length s (a ∷ []) ys h = absurd h
+named-length s (a ∷ b ∷ []) ys h = absurd h
+named-length s (a ∷ b ∷ c ∷ []) ys h = absurd h
+named-length s (a ∷ b ∷ c ∷ d ∷ []) ys h = absurd h
+named-length s (a ∷ b ∷ c ∷ d ∷ e ∷ ns) [] h = absurd h
+named-length s (a ∷ b ∷ c ∷ d ∷ e ∷ ns) (y ∷ ys) h = omega (arith, named-length s ns ys (h .2))
 
 pub index-sort : (x : Sort) (k c : ℕ) → Shaped x k c → k ≡ 0 → isIndex x ≡ true
 unfolding isIndex

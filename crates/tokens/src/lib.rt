@@ -2,9 +2,9 @@
 // place and payload; a position is its index in the table. A name is a row of five words: place, length, sort, number of indices,
 // and the position at which its declared formula or its domain's first entry stands.
 pub mod kinds;
-pub mod marks;
 pub mod sorts;
 
+use lexer::marks;
 ghost use mathlib.Core.Path.{_≡_};
 ghost use mathlib.Core.List.{[], _∷_};
 ghost use Prim.Native.Nat.{_+_};

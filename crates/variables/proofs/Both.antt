@@ -14,13 +14,13 @@ use Rattle.language.specs.Model.{asDiscrete, asContinuous}
 use Rattle.tokens.specs.Stored.{Shaped}
 use Rattle.store.proofs.Held.{numbered-none}
 use Rattle.evaluator.specs.Tables.{World}
+use Rattle.evaluator.proofs.Names.{below-length}
 use Rattle.elements.specs.Placed.{Placed}
 use Rattle.variables.specs.declared.Added.{Added}
 use Rattle.variables.specs.declared.Added.the-variants as added
 use Rattle.variables.specs.declared.Counted.the-variants as counted
 use Rattle.variables.specs.Order.{InOrder}
 use Rattle.variables.specs.Numbers.{Adds, Answers, Taken, Picks, Above, AddsSort, discreteOnes, continuousOnes, Counts, NumbersAs}
-use Rattle.variables.proofs.Sorts.{below-length}
 
 -- ---- a sort by its number
 

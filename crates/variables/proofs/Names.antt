@@ -33,17 +33,12 @@ use Rattle.elements.specs.declared.here.Here.{Here}
 use Rattle.elements.specs.declared.Step.{Step}
 use Rattle.elements.specs.declared.Step.the-variants.{At, Done, Refused}
 use Rattle.elements.specs.Held.{held, numberOf, scopeAt}
-use Rattle.elements.specs.Steps.{turnsLeft, FirstIs, NextIs}
+use Rattle.elements.specs.Steps.{FirstIs, NextIs}
 use Rattle.elements.specs.Loops.{Remains}
 use Rattle.elements.proofs.Held.{scope-held}
 use Rattle.elements.proofs.Loops.{loop-start, loop-more, loop-refused, loop-done, loop-stopped, loop-rises, loop-subscripts}
 use Rattle.variables.specs.declared.Added.the-variants as added
 use Rattle.variables.specs.Numbers.{Below, Held, Adds, Ranges, declaredAt, AddsName}
-
--- ---- each next element is nearer to the end
-
-pub next-less : (ns ts ds : List ℕ) (given level : ℕ) (h : Here) (r r′ : Step) → r ≡ At h → NextIs ns ts ds given level h r′ → turnsLeft r′ < turnsLeft r
-next-less ns ts ds given level h r r′ e x = subst (λ y. turnsLeft r′ < turnsLeft y) (sym e) (x .falls)
 
 -- ---- one variable more
 

@@ -1,10 +1,10 @@
 -- Laws of the loop over the names of a sort: it starts, passes a name, adds one, is refused or ends. Assumes nothing.
 use mathlib.Core.Path.{_≡_, refl, sym, _∙_, ap, subst}
 use mathlib.Core.Option.{Option, none, some}
-use mathlib.Core.List.{List, [], _∷_}
-use Prim.Native.Nat.{ℕ, zero, suc, _+_, _*_, _/_, _<_, _≤_}
+use mathlib.Core.List.{List, _∷_}
+use Prim.Native.Nat.{ℕ, suc, _+_, _/_, _<_, _≤_}
 use native.Mathlib.Omega.{arith}
-use lib.ListN.{length, take, drop, getElem?, drop-of-length-le}
+use lib.ListN.{length, take, drop, drop-of-length-le}
 use Rattle.rules.specs.declared.Refusal.{Refusal}
 use Rattle.rules.specs.Limits.{nameLimit}
 use Rattle.language.specs.Outcome.{done, refused, _>>=_}
@@ -14,44 +14,18 @@ use Rattle.language.specs.Syntax.{Name, Sort, Spans}
 use Rattle.language.specs.Evaluation.{over}
 use Rattle.language.specs.Model.{Declaration, declared}
 use Rattle.language.specs.Numbering.{Variable, addVariable, addVariables}
-use Rattle.tokens.specs.Stored.{Named, Shaped}
+use Rattle.tokens.specs.Stored.{Shaped}
+use Rattle.tokens.proofs.Tables.{named-length}
 use Rattle.store.specs.Key.{nameBound}
 use Rattle.steps.specs.Names.{rowWord}
 use Rattle.steps.proofs.Numbers.{row-shaped}
 use Rattle.evaluator.specs.Tables.{World}
 use Rattle.evaluator.specs.Cycle.{nothingBound}
+use Rattle.evaluator.proofs.Names.{below-length, Split, split}
 use Rattle.elements.specs.Placed.{Placed}
 use Rattle.variables.specs.declared.Added.{Added}
 use Rattle.variables.specs.declared.Added.the-variants as added
 use Rattle.variables.specs.Numbers.{Below, Held, Adds, Answers, Ranges, declaredAt, AddsName, Picks, Above, Before, AddsSort}
-
--- ---- names by their number
-
-named-length : (s ns : List ℕ) (names : List Name) → Named s ns names → length ns ≡ length names * 5
-named-length s [] [] h = refl
-named-length s [] (y ∷ ys) h = absurd h
-named-length s (a ∷ []) ys h = absurd h
-named-length s (a ∷ b ∷ []) ys h = absurd h
-named-length s (a ∷ b ∷ c ∷ []) ys h = absurd h
-named-length s (a ∷ b ∷ c ∷ d ∷ []) ys h = absurd h
-named-length s (a ∷ b ∷ c ∷ d ∷ e ∷ ns) [] h = absurd h
-named-length s (a ∷ b ∷ c ∷ d ∷ e ∷ ns) (y ∷ ys) h = omega (arith, named-length s ns ys (h .2))
-
--- name i, and the names behind it
-record Stood (names : List Name) (i : ℕ) : Type 0 where
-  name : Name
-  at : getElem? names i ≡ some name
-  rest : drop i names ≡ name ∷ drop (suc i) names
-
-stood : (names : List Name) (i : ℕ) → i < length names → Stood names i
-stood [] i h = absurd (omega arith)
-stood (x ∷ xs) zero h = record { name = x; at = refl; rest = refl }
-stood (x ∷ xs) (suc i) h = let r = stood xs i (omega arith) in record { name = r .name; at = r .at; rest = r .rest }
-
-pub below-length : (names : List Name) (i : ℕ) (x : Name) → getElem? names i ≡ some x → i < length names
-below-length [] i x e = absurd (let z : _≡_ {A = ℕ} 0 1 = cc in omega arith)
-below-length (y ∷ ys) zero x e = omega arith
-below-length (y ∷ ys) (suc i) x e = omega (arith, below-length ys i x e)
 
 -- ---- one declaration
 
@@ -109,11 +83,11 @@ module _ (ns ts ds : List ℕ) (given k from : ℕ) (t₀ : List ℕ) where
             }
 
     module _ (l : i < length ns / 5) where
-      here : (w : World ns ts ds given) → Stood (w .names) i
-      here w = stood (w .names) i (omega (arith, l, named-length (w .text) ns (w .names) (w .tables .named)))
+      here : (w : World ns ts ds given) → Split (w .names) i
+      here w = split (w .names) i (omega (arith, l, named-length (w .text) ns (w .names) (w .tables .named)))
 
       shaped : (w : World ns ts ds given) → Shaped (here w .name .sort) (rowWord ns i 2) (rowWord ns i 3)
-      shaped w = row-shaped (w .text) ns (w .names) i (here w .name) (w .tables .named) (here w .at)
+      shaped w = row-shaped (w .text) ns (w .names) i (here w .name) (w .tables .named) (here w .here)
 
       module _ (v : ℕ) (e : v ≡ rowWord ns i 2) where
         pub sort-skip : (v ≡ k → ⊥) → SortOn t (i + 1) n
@@ -125,7 +99,7 @@ module _ (ns ts ds : List ℕ) (given k from : ℕ) (t₀ : List ℕ) where
                 let x = here w in
                 let y : i + 1 ≡ suc i = omega arith in
                 let z : declared f i (drop i (w .names)) ≡ declared f (suc i) (drop (suc i) (w .names)) =
-                ap (declared f i) (x .rest) ∙ declared-left f i (x .name) (drop (suc i) (w .names)) (q .leaves (x .name .sort) (rowWord ns i 2) (rowWord ns i 3) (shaped w) (λ m. g (e ∙ m))) in
+                ap (declared f i) (x .behind) ∙ declared-left f i (x .name) (drop (suc i) (w .names)) (q .leaves (x .name .sort) (rowWord ns i 2) (rowWord ns i 3) (shaped w) (λ m. g (e ∙ m))) in
                 record {
                   variables = a .variables;
                   due = rw y (ap (λ c. addVariables (nothingBound w) c (a .variables)) (sym z) ∙ a .due);
@@ -152,18 +126,18 @@ module _ (ns ts ds : List ℕ) (given k from : ℕ) (t₀ : List ℕ) where
               let y = q .takes (x .name .sort) (rowWord ns i 3) (subst (λ m. Shaped (x .name .sort) m (rowWord ns i 3)) (sym e ∙ g) (shaped w)) in
               let d = y .domain in
               let ranges : Ranges w i d = record {
-                named = omega (arith, below-length (w .names) i (x .name) (x .at), w .tables .few);
-                stands = y .stands (w .text) ts (take i (w .names)) (rowWord ns i 4) (w .tables .declared i (x .name) (x .at));
+                named = omega (arith, below-length (w .names) i (x .name) (x .here), w .tables .few);
+                stands = y .stands (w .text) ts (take i (w .names)) (rowWord ns i 4) (w .tables .declared i (x .name) (x .here));
                 sized = y .sized;
               } in
               let z : declared f i (drop i (w .names)) ≡ declaredAt ns i d ∷ declared f (suc i) (drop (suc i) (w .names)) =
-              ap (declared f i) (x .rest) ∙ declared-taken f i (x .name) (drop (suc i) (w .names)) d (y .is)
-              ∙ ap (λ (m : ℕ). record { name = i; domain = d; place = m } ∷ declared f (suc i) (drop (suc i) (w .names))) (p .at i (x .name) (x .at)) in
+              ap (declared f i) (x .behind) ∙ declared-taken f i (x .name) (drop (suc i) (w .names)) d (y .is)
+              ∙ ap (λ (m : ℕ). record { name = i; domain = d; place = m } ∷ declared f (suc i) (drop (suc i) (w .names))) (p .at i (x .name) (x .here)) in
               record {
                 now = a;
                 domain = d;
                 taken = y .is;
-                answers = c .is w d (a .variables) ranges (a .held) (a .before i (x .name) d (omega arith) (x .at) (y .is));
+                answers = c .is w d (a .variables) ranges (a .held) (a .before i (x .name) d (omega arith) (x .here) (y .is));
                 due =
                     sym (added-first (nothingBound w) (declaredAt ns i d) (declared f (suc i) (drop (suc i) (w .names))) (a .variables))
                     ∙ ap (λ m. addVariables (nothingBound w) m (a .variables)) (sym z) ∙ a .due;
@@ -195,5 +169,5 @@ module _ (ns ts ds : List ℕ) (given k from : ℕ) (t₀ : List ℕ) where
                     due = rw n (ap (λ v. v >>= λ ws. addVariables (nothingBound w) (declared f (suc i) (drop (suc i) (w .names))) ws) (sym (z .is)) ∙ a .due);
                     held = z .held;
                     before = λ j y d l st ta. z .below j (omega arith) (a .now .before j y d (omega arith) st ta);
-                    below = λ j up b. z .below j (up i (x .name) (a .domain) (x .at) (a .taken)) (a .now .below j up b);
+                    below = λ j up b. z .below j (up i (x .name) (a .domain) (x .here) (a .taken)) (a .now .below j up b);
                   }

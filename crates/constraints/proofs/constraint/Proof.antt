@@ -1,3 +1,4 @@
+-- `constraints::constraint` meets its contract. Assumes nothing.
 use Rattle.constraints.proofs.RowLaws.{row-title, row-left, row-relation, row-right, row-domain}
 use borrow.Author.Needs.{needs}
 use Rattle.constraints.proofs.constraint.Statement.{statement}

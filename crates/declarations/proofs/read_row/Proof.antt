@@ -1,3 +1,4 @@
+-- `declarations::read_row` meets its contract. Assumes nothing.
 use Rattle.declarations.proofs.RowLaws.{row-title, row-entry, row-sign}
 use borrow.Author.Needs.{needs}
 use Rattle.declarations.proofs.read_row.Statement.{statement}

@@ -1,3 +1,4 @@
+-- `domains::domain` meets its contract. Assumes nothing.
 use Rattle.domains.proofs.Laws.{domain-open, domain-entries}
 use borrow.Author.Needs.{needs}
 use Rattle.domains.proofs.domain.Statement.{statement}

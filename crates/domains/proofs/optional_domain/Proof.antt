@@ -1,3 +1,4 @@
+-- `domains::optional_domain` meets its contract. Assumes nothing.
 use Rattle.domains.proofs.Laws.{optional-wrong, optional-some, optional-none}
 use borrow.Author.Needs.{needs}
 use Rattle.domains.proofs.optional_domain.Statement.{statement}

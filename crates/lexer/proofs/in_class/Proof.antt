@@ -1,3 +1,4 @@
+-- `lexer::in_class` meets its contract. Assumes nothing.
 use borrow.Author.Needs.{needs}
 use Rattle.lexer.proofs.Runs.{class-is}
 use Rattle.lexer.proofs.in_class.Statement.{statement}

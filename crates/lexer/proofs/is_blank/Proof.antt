@@ -1,3 +1,4 @@
+-- `lexer::is_blank` meets its contract. Assumes nothing.
 use mathlib.Core.Path.{refl}
 use Rattle.lexer.specs.Text.{isBlank}
 use Rattle.lexer.proofs.is_blank.Statement.{statement}

@@ -1,3 +1,4 @@
+-- `lexer::is_small` meets its contract. Assumes nothing.
 use mathlib.Core.Path.{refl}
 use Rattle.lexer.specs.Text.{isSmall}
 use Rattle.lexer.proofs.is_small.Statement.{statement}

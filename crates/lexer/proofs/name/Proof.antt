@@ -1,3 +1,4 @@
+-- `lexer::name` meets its contract. Assumes nothing.
 use borrow.Author.Needs.{needs}
 use Rattle.rules.specs.Limits.{nameLength}
 use Rattle.lexer.proofs.Tokens.{name-word, name-new, name-long}

@@ -1,3 +1,4 @@
+-- `lexer::no_brace` meets its contract. Assumes nothing.
 use mathlib.Core.Path.{refl}
 use Rattle.lexer.specs.Text.{noBrace}
 use Rattle.lexer.proofs.no_brace.Statement.{statement}

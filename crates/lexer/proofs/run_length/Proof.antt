@@ -1,3 +1,4 @@
+-- `lexer::run_length` meets its contract. Assumes nothing.
 use Prim.Native.Nat.{_-_}
 use borrow.Author.Needs.{needs}
 use lib.ListN.{length}

@@ -1,3 +1,4 @@
+-- `lexer::same_parts` meets its contract. Assumes nothing.
 use borrow.Author.Needs.{needs}
 use Rattle.lexer.proofs.same_parts.Statement.{statement}
 use Rattle.lexer.proofs.same_parts.Tie as tie

@@ -1,3 +1,4 @@
+-- `lexer::string` meets its contract. Assumes nothing.
 use borrow.Author.Needs.{needs}
 use Rattle.rules.specs.Limits.{stringLength}
 use Rattle.lexer.proofs.Tokens.{string-strange, string-good, string-wrong}

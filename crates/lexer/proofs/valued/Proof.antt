@@ -1,3 +1,4 @@
+-- `lexer::valued` meets its contract. Assumes nothing.
 use borrow.Author.Needs.{needs}
 use Rattle.lexer.proofs.Tokens.{found-is}
 use Rattle.lexer.proofs.valued.Statement.{statement}

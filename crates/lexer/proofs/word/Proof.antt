@@ -1,3 +1,4 @@
+-- `lexer::word` meets its contract. Assumes nothing.
 use borrow.Author.Needs.{needs}
 use Rattle.lexer.proofs.Tokens.{word-mark, word-wrong}
 use Rattle.lexer.proofs.word.Statement.{statement}

@@ -1,3 +1,4 @@
+-- `linear::linear` meets its contract. Assumes nothing.
 use Rattle.linear.proofs.Laws.{linear-form}
 use borrow.Author.Needs.{needs}
 use Rattle.linear.proofs.linear.Statement.{statement}

@@ -1,6 +1,7 @@
 -- `matrix::bounds_of` meets its contract. Assumes nothing.
 use Rattle.elements.specs.Steps.{turnsLeft}
-use Rattle.matrix.proofs.Looping.{BoundsOn, next-less, bounds-start, bounds-done, bounds-stopped, bounds-refused, bounds-more}
+use Rattle.elements.proofs.Loops.{next-less}
+use Rattle.matrix.proofs.Looping.{BoundsOn, bounds-start, bounds-done, bounds-stopped, bounds-refused, bounds-more}
 use borrow.Author.Needs.{needs}
 use Rattle.matrix.proofs.bounds_of.Statement.{statement}
 use Rattle.matrix.proofs.bounds_of.Tie as tie

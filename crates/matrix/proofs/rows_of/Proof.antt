@@ -1,6 +1,7 @@
 -- `matrix::rows_of` meets its contract. Assumes nothing.
 use Rattle.elements.specs.Steps.{turnsLeft}
-use Rattle.matrix.proofs.Looping.{RowsOn, next-less, rows-start, rows-done, rows-stopped, rows-refused, rows-more}
+use Rattle.elements.proofs.Loops.{next-less}
+use Rattle.matrix.proofs.Looping.{RowsOn, rows-start, rows-done, rows-stopped, rows-refused, rows-more}
 use borrow.Author.Needs.{needs}
 use Rattle.matrix.proofs.rows_of.Statement.{statement}
 use Rattle.matrix.proofs.rows_of.Tie as tie

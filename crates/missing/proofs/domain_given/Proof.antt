@@ -1,8 +1,9 @@
 -- `missing::domain_given` meets its contract: the elements from the step on are still to be asked. Assumes nothing.
 use borrow.Author.Needs.{needs}
 use Rattle.elements.specs.Steps.{turnsLeft}
+use Rattle.elements.proofs.Loops.{next-less}
 use Rattle.missing.specs.Given.{Asking}
-use Rattle.missing.proofs.Elements.{asking-first, asking-next, asked-all, asked-stopped, asked-missing, turns-fall}
+use Rattle.missing.proofs.Elements.{asking-first, asking-next, asked-all, asked-stopped, asked-missing}
 use Rattle.missing.proofs.domain_given.Statement.{statement}
 use Rattle.missing.proofs.domain_given.Tie as tie
 
@@ -46,7 +47,7 @@ next-requires : tie.Need-next-requires Inv-loop μ-loop
 next-requires c κs = search needs
 
 loop-less : tie.Need-loop-less Inv-loop μ-loop
-loop-less c = turns-fall _ _ _ (c .before .before .before .before .before .step .given .1) (c .next .ensures)
+loop-less c = next-less _ _ _ _ _ _ _ _ (c .before .before .before .before .before .step .given .1) (c .next .ensures)
 
 loop-again : tie.Need-loop-again Inv-loop μ-loop
 loop-again c = asking-next _ _ _ _ _ _ (c .before .before .before .before .before .before .before .loop .inv) _ (c .before .before .before .before .before .step .given .1) _ (c .before .before .before .element .ensures) _ (c .before .before .is-given .ensures) (c .before .if1 .left) _ (c .next .ensures)

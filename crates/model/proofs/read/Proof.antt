@@ -1,3 +1,4 @@
+-- `model::read` meets its contract. Assumes nothing.
 use Rattle.model.proofs.Laws.{read-model, read-refused}
 use borrow.Author.Needs.{needs}
 use Rattle.model.proofs.read.Statement.{statement}

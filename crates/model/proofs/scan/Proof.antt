@@ -1,3 +1,4 @@
+-- `model::scan` meets its contract. Assumes nothing.
 use Rattle.model.proofs.Laws.{scan-holds}
 use borrow.Author.Needs.{needs}
 use Rattle.model.proofs.scan.Statement.{statement}

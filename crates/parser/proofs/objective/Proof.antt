@@ -1,3 +1,4 @@
+-- `parser::objective` meets its contract. Assumes nothing.
 use Rattle.parser.proofs.Laws.{objective-goal, objective-colon, objective-form}
 use borrow.Author.Needs.{needs}
 use Rattle.parser.proofs.objective.Statement.{statement}

@@ -4,23 +4,23 @@ use borrow.Author.Needs.{needs}
 use Rattle.parts.proofs.read.Statement.{statement}
 use Rattle.parts.proofs.read.Tie as tie
 
-word-requires : tie.Need-word-requires
-word-requires c κs = search needs
+word-of-requires : tie.Need-word-of-requires
+word-of-requires c κs = search needs
 
 place-at-requires : tie.Need-place-at-requires
 place-at-requires c κs = search needs
 
-word-requires-2 : tie.Need-word-requires-2
-word-requires-2 c κs = search needs
+word-of-requires-2 : tie.Need-word-of-requires-2
+word-of-requires-2 c κs = search needs
 
-word-requires-3 : tie.Need-word-requires-3
-word-requires-3 c κs = search needs
+word-of-requires-3 : tie.Need-word-of-requires-3
+word-of-requires-3 c κs = search needs
 
-word-requires-4 : tie.Need-word-requires-4
-word-requires-4 c κs = search needs
+word-of-requires-4 : tie.Need-word-of-requires-4
+word-of-requires-4 c κs = search needs
 
-word-requires-5 : tie.Need-word-requires-5
-word-requires-5 c κs = search needs
+word-of-requires-5 : tie.Need-word-of-requires-5
+word-of-requires-5 c κs = search needs
 
 extent-at-requires : tie.Need-extent-at-requires
 extent-at-requires c κs = search needs
@@ -44,12 +44,12 @@ pub read-spec : {M : Type 1} → statement M
 read-spec =
     tie.close
     (tie.spec
-    word-requires
+    word-of-requires
     place-at-requires
-    word-requires-2
-    word-requires-3
-    word-requires-4
-    word-requires-5
+    word-of-requires-2
+    word-of-requires-3
+    word-of-requires-4
+    word-of-requires-5
     extent-at-requires
     cast-t11
     cast-t14

@@ -4,17 +4,17 @@ use Rattle.sheet.proofs.Words.{name-is}
 use Rattle.sheet.proofs.name_of.Statement.{statement}
 use Rattle.sheet.proofs.name_of.Tie as tie
 
-row-word-requires : tie.Need-row-word-requires
-row-word-requires c κs = search needs
+word-of-requires : tie.Need-word-of-requires
+word-of-requires c κs = search needs
 
-row-word-requires-2 : tie.Need-row-word-requires-2
-row-word-requires-2 c κs = search needs
+word-of-requires-2 : tie.Need-word-of-requires-2
+word-of-requires-2 c κs = search needs
 
 part-requires : tie.Need-part-requires
 part-requires c κs = search needs
 
 returns : tie.Need-returns
-returns c = name-is _ _ _ _ _ _ (c .before .before .row-word .ensures) (c .before .row-word2 .ensures) (c .part .ensures)
+returns c = name-is _ _ _ _ _ _ (c .before .before .word-of .ensures) (c .before .word-of2 .ensures) (c .part .ensures)
 
 pub name-of-spec : {M : Type 1} → statement M
-name-of-spec = tie.close (tie.spec row-word-requires row-word-requires-2 part-requires returns)
+name-of-spec = tie.close (tie.spec word-of-requires word-of-requires-2 part-requires returns)

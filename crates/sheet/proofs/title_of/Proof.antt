@@ -4,14 +4,14 @@ use Rattle.sheet.proofs.Words.{title-is}
 use Rattle.sheet.proofs.title_of.Statement.{statement}
 use Rattle.sheet.proofs.title_of.Tie as tie
 
-row-word-requires : tie.Need-row-word-requires
-row-word-requires c κs = search needs
+word-of-requires : tie.Need-word-of-requires
+word-of-requires c κs = search needs
 
 string-at-requires : tie.Need-string-at-requires
 string-at-requires c κs = search needs
 
 returns : tie.Need-returns
-returns c = title-is _ _ _ _ _ _ (c .before .row-word .ensures) (c .string-at .ensures)
+returns c = title-is _ _ _ _ _ _ (c .before .word-of .ensures) (c .string-at .ensures)
 
 pub title-of-spec : {M : Type 1} → statement M
-title-of-spec = tie.close (tie.spec row-word-requires string-at-requires returns)
+title-of-spec = tie.close (tie.spec word-of-requires string-at-requires returns)

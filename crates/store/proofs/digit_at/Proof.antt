@@ -3,7 +3,7 @@ use mathlib.Core.Path.{_∙_}
 use native.Mathlib.Omega.{arith}
 use borrow.Author.Needs.{needs}
 use Rattle.store.proofs.Keys.{digit-at, digit-past}
-use Rattle.store.proofs.Words.{back}
+use Rattle.value.proofs.Integers.{back}
 use Rattle.store.proofs.digit_at.Statement.{statement}
 use Rattle.store.proofs.digit_at.Tie as tie
 

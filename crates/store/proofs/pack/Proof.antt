@@ -1,7 +1,8 @@
 -- `store::pack` meets its contract. Assumes nothing.
 use native.Mathlib.Omega.{arith}
 use borrow.Author.Needs.{needs}
-use Rattle.store.proofs.Words.{back, packed-out, packed-in}
+use Rattle.value.proofs.Integers.{back}
+use Rattle.store.proofs.Words.{packed-out, packed-in}
 use Rattle.store.proofs.pack.Statement.{statement}
 use Rattle.store.proofs.pack.Tie as tie
 

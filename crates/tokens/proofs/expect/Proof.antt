@@ -1,3 +1,4 @@
+-- `tokens::expect` meets its contract. Assumes nothing.
 use Rattle.tokens.proofs.Moved.{expect-wrong, expect-yes, expect-no}
 use borrow.Author.Needs.{needs}
 use Rattle.tokens.proofs.expect.Statement.{statement}

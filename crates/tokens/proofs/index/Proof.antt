@@ -1,3 +1,4 @@
+-- `tokens::index` meets its contract. Assumes nothing.
 use Rattle.tokens.proofs.Moved.{index-wrong, index-yes, index-other}
 use borrow.Author.Needs.{needs}
 use Rattle.tokens.proofs.index.Statement.{statement}

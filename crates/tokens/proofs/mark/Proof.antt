@@ -1,3 +1,4 @@
+-- `tokens::mark` meets its contract. Assumes nothing.
 use Rattle.tokens.proofs.Tables.{mark-none, mark-own}
 use Rattle.tokens.proofs.mark.Statement.{statement}
 use Rattle.tokens.proofs.mark.Tie as tie

@@ -1,3 +1,4 @@
+-- `tokens::put_row` meets its contract. Assumes nothing.
 use lib.ListN.{length-set}
 use Rattle.tokens.proofs.Tables.{put-none, put-five}
 use native.Mathlib.Omega.{arith}

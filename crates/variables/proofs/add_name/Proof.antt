@@ -2,7 +2,8 @@
 use native.Mathlib.Omega.{arith}
 use borrow.Author.Needs.{needs}
 use Rattle.elements.specs.Steps.{turnsLeft}
-use Rattle.variables.proofs.Names.{NameOn, next-less, name-start, name-full, name-more, name-done, name-stopped}
+use Rattle.elements.proofs.Loops.{next-less}
+use Rattle.variables.proofs.Names.{NameOn, name-start, name-full, name-more, name-done, name-stopped}
 use Rattle.variables.proofs.add_name.Statement.{statement}
 use Rattle.variables.proofs.add_name.Tie as tie
 

@@ -1,3 +1,4 @@
+-- `Cursor::next` meets its contract. Assumes nothing.
 use native.Mathlib.Omega.{arith}
 use borrow.Author.Needs.{needs}
 use Rattle.lexer.proofs.Stream.{next-end, next-token, size-most}

@@ -2,7 +2,7 @@
 use mathlib.Core.Path.{_≡_, _∙_}
 use native.Mathlib.Omega.{arith}
 use Rattle.store.proofs.Elements.{number-at, number-past, length-few, length-within}
-use Rattle.store.proofs.Words.{back}
+use Rattle.value.proofs.Integers.{back}
 use Rattle.store.proofs.Element.at.Statement.{statement}
 use Rattle.store.proofs.Element.at.Tie as tie
 

@@ -1,7 +1,7 @@
 -- `Element::with` meets its contract. Assumes nothing.
 use native.Mathlib.Omega.{arith}
 use Rattle.store.proofs.Elements.{with-first, with-second, with-third, with-fourth, with-none}
-use Rattle.store.proofs.Words.{back}
+use Rattle.value.proofs.Integers.{back}
 use Rattle.store.proofs.Element.with.Statement.{statement}
 use Rattle.store.proofs.Element.with.Tie as tie
 
