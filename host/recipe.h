@@ -44,7 +44,8 @@ enum recipe_refusal {
 #define RECIPE_TEXT_LIMIT 16384
 #define RECIPE_BUFFER 65536
 
-/* Stack that a call needs, in bytes (host/stack measures it). */
+/* Stack that a call needs, in bytes, with room to spare: the texts that nest deepest took 3,390,656 (host/stack.c measures it, and
+   host/run fails where one takes more than RECIPE_STACK). */
 #define RECIPE_STACK 4194304
 
 struct recipe_answer {
