@@ -6,40 +6,19 @@
 
 #[path = "../tests/independent/generator.rs"]
 mod generator;
-#[cfg(stand_in)]
-#[path = "../tests/fuzz/stand_in.rs"]
-mod stand_in;
+#[cfg_attr(stand_in, path = "../tests/fuzz/stand_in.rs")]
+#[cfg_attr(not(stand_in), path = "../host/recipe.rs")]
+mod library;
 
 use std::hint::black_box;
 use std::time::{Duration, Instant};
 
-#[cfg(not(stand_in))]
-mod library {
-    #[repr(C)]
-    pub struct Answer {
-        pub number: u32,
-        pub place: usize,
-        pub length: usize,
-    }
-
-    extern "C" {
-        pub fn recipe_generate(
-            text: *const u8,
-            text_length: usize,
-            out: *mut u8,
-            out_length: usize,
-        ) -> Answer;
-    }
-}
-#[cfg(not(stand_in))]
 use library::recipe_generate;
-#[cfg(stand_in)]
-use stand_in::recipe_generate;
 
 const BUFFER: usize = 65_536;
 const SAMPLES: usize = 31;
 
-fn library(text: &[u8], out: &mut [u8]) -> usize {
+fn proved(text: &[u8], out: &mut [u8]) -> usize {
     let answer = unsafe { recipe_generate(text.as_ptr(), text.len(), out.as_mut_ptr(), out.len()) };
     assert_eq!((answer.number, answer.place), (0, 0), "not accepted");
     answer.length
@@ -69,11 +48,11 @@ fn main() {
     for path in std::env::args().skip(1) {
         let text = std::fs::read(&path).expect("a model text");
         // As many calls a sample as take some five milliseconds.
-        let once = time(library, &text, &mut out, 3) / 3;
+        let once = time(proved, &text, &mut out, 3) / 3;
         let count = (5_000_000 / once.as_nanos().max(1)).clamp(1, 10_000) as u32;
         let (mut ours, mut theirs, mut ratios) = (Vec::new(), Vec::new(), Vec::new());
         for _ in 0..SAMPLES {
-            let a = time(library, &text, &mut out, count).as_secs_f64() * 1e6 / f64::from(count);
+            let a = time(proved, &text, &mut out, count).as_secs_f64() * 1e6 / f64::from(count);
             let b =
                 time(independent, &text, &mut out, count).as_secs_f64() * 1e6 / f64::from(count);
             ours.push(a);
