@@ -7,8 +7,9 @@
    accepted   number 0, place 0, length the listing's; the bytes of the buffer behind the listing are zero
    refused    number 1 to 11, its place, length 0; every byte of the buffer is zero
 
-   The text is not changed. No byte outside the two buffers is read or written, no memory is taken from the heap, nothing is
-   kept from one call to the next, and calls may run at the same time in different threads.
+   The text is not changed. No byte outside the two buffers and the stack is read or written, no memory is taken from the heap,
+   nothing is kept from one call to the next, and calls may run at the same time in different threads. Of the host's own
+   libraries only memcpy and memset are called.
 
    The host sees to it that
    - text and out point to text_length and out_length bytes (a length of 0 may have any pointer that is not null),
