@@ -3,9 +3,9 @@
 //!     programs PROGRAM INDEPENDENT
 //!
 //! Run in the repository's folder. For each model it prints the median of the milliseconds that each takes from start to end, and how
-//! many times as fast as GLPK the program is; first those of `true`, which does nothing: what the start of a process takes. All
-//! three read a file and write a file: GLPK generates the matrix and writes it (`glpsol --check --wfreemps`), as the
-//! program writes its listing.
+//! many times as fast as GLPK the program is. First stand those of `true`, which does nothing: what the start of a process takes;
+//! and those of the program with an empty text: its start and that of a call. All three read a file and write a file: GLPK
+//! generates the matrix and writes it (`glpsol --check --wfreemps`), as the program writes its listing.
 
 use std::fs::File;
 use std::path::{Path, PathBuf};
@@ -67,15 +67,19 @@ fn main() {
     // Files of their own: GLPK removes what it cannot write to.
     let out = PathBuf::from("target/bench/out");
     let matrix = PathBuf::from("target/bench/matrix.mps");
-    println!("model\ttrue, ms\tprogram, ms\tindependent, ms\tGLPK, ms\tGLPK / program");
+    let nothing = PathBuf::from("/dev/null");
+    println!(
+        "model\ttrue, ms\tempty text, ms\tprogram, ms\tindependent, ms\tGLPK, ms\tGLPK / program"
+    );
     for (folder, peer, model) in MODELS {
         let text = PathBuf::from(format!("{folder}/{model}.txt"));
         let twin = PathBuf::from(format!("{peer}/{model}.mod"));
-        let mut times = [Vec::new(), Vec::new(), Vec::new(), Vec::new()];
+        let mut times: [Vec<f64>; 5] = Default::default();
         let mut ratios = Vec::new();
         for _ in 0..TURNS {
             let turn = [
-                timed(generator("true", &text, &out)),
+                timed(generator("true", &nothing, &out)),
+                timed(generator(program, &nothing, &out)),
                 timed(generator(program, &text, &out)),
                 timed(generator(independent, &text, &out)),
                 timed(glpk(&twin, &matrix)),
@@ -83,10 +87,10 @@ fn main() {
             for (list, time) in times.iter_mut().zip(turn) {
                 list.push(time);
             }
-            ratios.push(turn[3] / turn[1]);
+            ratios.push(turn[4] / turn[2]);
         }
-        let [start, ours, theirs, glpk] = times.map(median);
+        let [start, empty, ours, theirs, glpk] = times.map(median);
         let ratio = median(ratios);
-        println!("{model}\t{start:.2}\t{ours:.2}\t{theirs:.2}\t{glpk:.2}\t{ratio:.1}");
+        println!("{model}\t{start:.2}\t{empty:.2}\t{ours:.2}\t{theirs:.2}\t{glpk:.2}\t{ratio:.1}");
     }
 }
