@@ -2,9 +2,10 @@
 //!
 //!     programs PROGRAM INDEPENDENT
 //!
-//! Run in the repository's folder. For each model under examples/ that tests/peer has too it prints the median of the milliseconds
-//! that each takes from start to end, and how many times as fast as GLPK the program is. All three read a file and write a
-//! file: GLPK generates the matrix and writes it (`glpsol --check --wfreemps`), as the program writes its listing.
+//! Run in the repository's folder. For each model it prints the median of the milliseconds that each takes from start to end, and how
+//! many times as fast as GLPK the program is. First stand those of `true`, which does nothing: what the start of a process takes;
+//! and those of the program with an empty text: its start and that of a call. All three read a file and write a file: GLPK
+//! generates the matrix and writes it (`glpsol --check --wfreemps`), as the program writes its listing.
 
 use std::fs::File;
 use std::path::{Path, PathBuf};
@@ -12,12 +13,14 @@ use std::process::{Command, Stdio};
 use std::time::Instant;
 
 const TURNS: usize = 51;
-const MODELS: [&str; 5] = [
-    "broiler_starter",
-    "dairy_concentrate",
-    "pig_grower",
-    "plants",
-    "wide",
+/// Each model's text and its twin for GLPK, by their folders and name.
+const MODELS: [(&str, &str, &str); 6] = [
+    ("examples", "tests/peer", "broiler_starter"),
+    ("examples", "tests/peer", "dairy_concentrate"),
+    ("examples", "tests/peer", "pig_grower"),
+    ("examples", "tests/peer", "plants"),
+    ("examples", "tests/peer", "wide"),
+    ("target/bench", "target/bench", "feeds_256"),
 ];
 
 fn timed(mut command: Command) -> f64 {
@@ -35,11 +38,9 @@ fn generator(program: &str, model: &Path, out: &Path) -> Command {
     command
 }
 
-fn glpk(model: &str, out: &Path) -> Command {
+fn glpk(model: &Path, out: &Path) -> Command {
     let mut command = Command::new("glpsol");
-    command
-        .args(["--check", "--model"])
-        .arg(format!("tests/peer/{model}.mod"));
+    command.args(["--check", "--model"]).arg(model);
     command.arg("--wfreemps").arg(out).stdout(Stdio::null());
     command
 }
@@ -66,21 +67,30 @@ fn main() {
     // Files of their own: GLPK removes what it cannot write to.
     let out = PathBuf::from("target/bench/out");
     let matrix = PathBuf::from("target/bench/matrix.mps");
-    println!("model\tprogram, ms\tindependent, ms\tGLPK, ms\tGLPK / program");
-    for model in MODELS {
-        let text = PathBuf::from(format!("examples/{model}.txt"));
-        let mut times = [Vec::new(), Vec::new(), Vec::new()];
+    let nothing = PathBuf::from("/dev/null");
+    println!(
+        "model\ttrue, ms\tempty text, ms\tprogram, ms\tindependent, ms\tGLPK, ms\tGLPK / program"
+    );
+    for (folder, peer, model) in MODELS {
+        let text = PathBuf::from(format!("{folder}/{model}.txt"));
+        let twin = PathBuf::from(format!("{peer}/{model}.mod"));
+        let mut times: [Vec<f64>; 5] = Default::default();
         let mut ratios = Vec::new();
         for _ in 0..TURNS {
-            let a = timed(generator(program, &text, &out));
-            let b = timed(generator(independent, &text, &out));
-            let c = timed(glpk(model, &matrix));
-            for (list, time) in times.iter_mut().zip([a, b, c]) {
+            let turn = [
+                timed(generator("true", &nothing, &out)),
+                timed(generator(program, &nothing, &out)),
+                timed(generator(program, &text, &out)),
+                timed(generator(independent, &text, &out)),
+                timed(glpk(&twin, &matrix)),
+            ];
+            for (list, time) in times.iter_mut().zip(turn) {
                 list.push(time);
             }
-            ratios.push(c / a);
+            ratios.push(turn[4] / turn[2]);
         }
-        let [a, b, c] = times.map(median);
-        println!("{model}\t{a:.2}\t{b:.2}\t{c:.2}\t{:.1}", median(ratios));
+        let [start, empty, ours, theirs, glpk] = times.map(median);
+        let ratio = median(ratios);
+        println!("{model}\t{start:.2}\t{empty:.2}\t{ours:.2}\t{theirs:.2}\t{glpk:.2}\t{ratio:.1}");
     }
 }

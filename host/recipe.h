@@ -7,8 +7,9 @@
    accepted   number 0, place 0, length the listing's; the bytes of the buffer behind the listing are zero
    refused    number 1 to 11, its place, length 0; every byte of the buffer is zero
 
-   The text is not changed. No byte outside the two buffers is read or written, no memory is taken from the heap, nothing is
-   kept from one call to the next, and calls may run at the same time in different threads.
+   The text is not changed. No byte outside the two buffers and the stack is read or written, no memory is taken from the heap,
+   nothing is kept from one call to the next, and calls may run at the same time in different threads. Of the host's own
+   libraries only memcpy and memset are called.
 
    The host sees to it that
    - text and out point to text_length and out_length bytes (a length of 0 may have any pointer that is not null),
@@ -44,7 +45,8 @@ enum recipe_refusal {
 #define RECIPE_TEXT_LIMIT 16384
 #define RECIPE_BUFFER 65536
 
-/* Stack that a call needs, in bytes (host/stack measures it). */
+/* Stack that a call needs, in bytes, with room to spare: the texts that nest deepest took 3,390,656 (host/stack.c measures it, and
+   host/run fails where one takes more than RECIPE_STACK). */
 #define RECIPE_STACK 4194304
 
 struct recipe_answer {

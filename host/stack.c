@@ -1,7 +1,8 @@
 /* Measures the stack that a call needs: it calls in threads whose stacks are found by halving, each in a process of its own.
-   The texts are document 01's case, and two that nest as deep as the language allows: formulas, each in twelve brackets around
-   the one before, and domains, each with a limit in brackets that reads the name before. It prints bytes for each, and ends with
-   status 1 if one is above RECIPE_STACK. */
+   The texts are document 01's case, and two that nest as deep as the language allows, with all 64 names: declared formulas, each
+   the subscript of a subscript and so on, twelve deep, around the one before; and declared domains, each with such a limit around
+   the name before. Subscripts need more stack than parentheses, and as much as sums. It prints bytes for each, and ends with status 1
+   if one is above RECIPE_STACK. */
 #include "recipe.h"
 
 #include <limits.h>
@@ -12,7 +13,9 @@
 #include <sys/wait.h>
 #include <unistd.h>
 
-#define NAMES 60
+/* Names beside the index, the real and the variable that each text needs, and brackets that are open at once. */
+#define NAMES 61
+#define BRACKETS 12
 
 static char text[RECIPE_TEXT_LIMIT + 1];
 static uint8_t out[RECIPE_BUFFER];
@@ -34,6 +37,18 @@ static void add_name(char letter, int number)
     add(name);
 }
 
+/* The name as a subscript, so many deep. */
+static void add_within(int depth, char letter, int number, const char *subscript)
+{
+    int i;
+    for (i = 0; i < depth; i++)
+        add("q[");
+    add_name(letter, number);
+    add(subscript);
+    for (i = 0; i < depth; i++)
+        add("]");
+}
+
 static void blend(void)
 {
     add("OPEN {blend} index i; integer n; real p[i] (1 <= i <= n); continuous x[i] (1 <= i <= n);"
@@ -44,33 +59,32 @@ static void blend(void)
 static void formulas(void)
 {
     int i;
-    add("OPEN {a} formula f1 = 1");
+    add("OPEN {a} index i; real q[i] (1<=i<=1); formula f1 = 1");
     for (i = 2; i <= NAMES; i++) {
         add(",");
         add_name('f', i);
-        add("=((((((((((((");
-        add_name('f', i - 1);
-        add("))))))))))))");
+        add("=");
+        add_within(BRACKETS, 'f', i - 1, "");
     }
     add("; continuous x; MINIMIZE: x {c} x <= ");
-    add_name('f', NAMES);
-    add(" CLOSE");
+    add_within(BRACKETS, 'f', NAMES, "");
+    add(" INIT {d} q[1]+1 CLOSE");
 }
 
 static void domains(void)
 {
     int i;
-    add("OPEN {a} index i; real p1[i] (1<=i<=1)");
+    add("OPEN {a} index i; real q[i] (1<=i<=1), p1[i] (1<=i<=1)");
     for (i = 2; i <= NAMES; i++) {
         add(",");
         add_name('p', i);
-        add("[i](1<=i<=((((((((((");
-        add_name('p', i - 1);
-        add("[1])))))))))))");
+        add("[i](1<=i<=");
+        add_within(BRACKETS - 2, 'p', i - 1, "[1]");
+        add(")");
     }
     add("; continuous x; MINIMIZE: x {c} x <= ");
-    add_name('p', NAMES);
-    add("[1] INIT {d} ");
+    add_within(BRACKETS - 1, 'p', NAMES, "[1]");
+    add(" INIT {d} q[1]+1 ");
     for (i = 1; i <= NAMES; i++) {
         add_name('p', i);
         add("[1]+1 ");

@@ -11,41 +11,22 @@
 mod generator;
 #[path = "../independent/json.rs"]
 mod json;
+#[cfg_attr(stand_in, path = "stand_in.rs")]
+#[cfg_attr(not(stand_in), path = "../../host/recipe.rs")]
+mod library;
 mod models;
-#[cfg(stand_in)]
-mod stand_in;
 
 use std::process::ExitCode;
 
 use generator::generate;
 use json::Json;
-use models::{changed, model, Random};
-
-#[cfg(not(stand_in))]
-mod library {
-    #[repr(C)]
-    pub struct Answer {
-        pub number: u32,
-        pub place: usize,
-        pub length: usize,
-    }
-
-    extern "C" {
-        pub fn recipe_generate(
-            text: *const u8,
-            text_length: usize,
-            out: *mut u8,
-            out_length: usize,
-        ) -> Answer;
-    }
-}
-#[cfg(not(stand_in))]
 use library::recipe_generate;
-#[cfg(stand_in)]
-use stand_in::recipe_generate;
+use models::{changed, model, Random};
 
 const GUARD: usize = 64;
 const LARGEST: usize = 65_536;
+/// A buffer may be this much longer than the listing.
+const MORE: usize = 64;
 
 struct Buffers {
     lent: Vec<u8>,
@@ -97,7 +78,7 @@ fn try_text(
     let (number, _, length) = call(buffers, text, LARGEST)?;
     let mut lengths = vec![0, random.below(300), given];
     if number == 0 {
-        lengths.extend([length - 1, length, length + 1, random.below(length + 64)]);
+        lengths.extend([length - 1, length, length + 1, random.below(length + MORE)]);
     }
     for n in lengths {
         let (again, place, _) = call(buffers, text, n)?;
@@ -143,8 +124,8 @@ fn run(arguments: &[String]) -> Result<(), String> {
     }
     let mut random = Random::new(seed);
     let mut buffers = Buffers {
-        lent: vec![0; LARGEST + 2 * GUARD],
-        wanted: vec![0; LARGEST],
+        lent: vec![0; LARGEST + MORE + 2 * GUARD],
+        wanted: vec![0; LARGEST + MORE],
     };
     let mut numbers = [0usize; 12];
     for turn in 0..count {

@@ -411,16 +411,17 @@ impl Writer<'_> {
             let index = self.bound[self.random.below(self.bound.len())];
             self.put(INDICES[index]);
         } else {
-            let upper = if self.random.chance(95) {
-                self.random.below(3)
-            } else {
-                self.random.below(5)
-            }
-            .to_string();
-            self.put(&upper);
+            self.upper();
         }
         self.put(",");
         index
+    }
+
+    /// An upper limit of a run: short, and now and then longer than what is declared.
+    fn upper(&mut self) {
+        let most = if self.random.chance(95) { 3 } else { 5 };
+        let upper = self.random.below(most).to_string();
+        self.put(&upper);
     }
 
     fn sum(&mut self, depth: usize) {
@@ -440,16 +441,21 @@ impl Writer<'_> {
         self.named(&name, 1);
     }
 
+    /// The sign of the term with this number, which the first rarely has, and its factors.
+    fn before_variable(&mut self, i: usize) {
+        if i > 0 || self.random.chance(10) {
+            let sign = self.random.of(&["+", "-"]);
+            self.put(sign);
+        }
+        while self.random.chance(35) {
+            self.primary(1);
+            self.put("*");
+        }
+    }
+
     fn linear(&mut self) {
         for i in 0..1 + self.random.below(3) {
-            if i > 0 || self.random.chance(10) {
-                let sign = self.random.of(&["+", "-"]);
-                self.put(sign);
-            }
-            while self.random.chance(35) {
-                self.primary(1);
-                self.put("*");
-            }
+            self.before_variable(i);
             if self.random.chance(45) {
                 self.sigma();
             } else {
@@ -467,14 +473,7 @@ impl Writer<'_> {
             self.sigma();
         } else {
             for i in 0..1 + self.random.below(2) {
-                if i > 0 || self.random.chance(10) {
-                    let sign = self.random.of(&["+", "-"]);
-                    self.put(sign);
-                }
-                while self.random.chance(35) {
-                    self.primary(1);
-                    self.put("*");
-                }
+                self.before_variable(i);
                 self.variable();
             }
         }
@@ -509,13 +508,7 @@ impl Writer<'_> {
             if j > 0 && self.random.chance(30) {
                 self.put(INDICES[domain[0]]);
             } else {
-                let upper = if self.random.chance(95) {
-                    self.random.below(3)
-                } else {
-                    self.random.below(5)
-                }
-                .to_string();
-                self.put(&upper);
+                self.upper();
             }
         }
         self.put(")");
