@@ -681,25 +681,35 @@ impl<'t> Parser<'t> {
         Ok(())
     }
 
-    fn formula(&mut self) -> Outcome<Formula> {
+    /// An optional sign, then terms joined by `+` or `-`; `term` reads one behind its sign.
+    fn joined<T>(
+        &mut self,
+        term: impl Fn(&mut Self, Option<Sign>) -> Outcome<T>,
+    ) -> Outcome<Vec<T>> {
         let mut terms = Vec::new();
         let mut sign = self.sign()?;
         loop {
-            let first = self.primary()?;
-            let mut others = Vec::new();
-            while let Some(star) = self.tokens.take_if(Kind::Star)? {
-                others.push((star.place, self.primary()?));
-            }
-            terms.push(Term {
-                sign,
-                first,
-                others,
-            });
+            terms.push(term(self, sign)?);
             sign = self.sign()?;
             if sign.is_none() {
                 return Ok(terms);
             }
         }
+    }
+
+    fn formula(&mut self) -> Outcome<Formula> {
+        self.joined(|parser, sign| {
+            let first = parser.primary()?;
+            let mut others = Vec::new();
+            while let Some(star) = parser.tokens.take_if(Kind::Star)? {
+                others.push((star.place, parser.primary()?));
+            }
+            Ok(Term {
+                sign,
+                first,
+                others,
+            })
+        })
     }
 
     fn primary(&mut self) -> Outcome<Primary> {
@@ -739,34 +749,28 @@ impl<'t> Parser<'t> {
 
     /// A linear form; inside a sigma's body no further sigma may stand.
     fn linear(&mut self, sigma_allowed: bool) -> Outcome<Linear> {
-        let mut terms = Vec::new();
-        let mut sign = self.sign()?;
-        loop {
+        self.joined(|parser, sign| {
             let mut factors = Vec::new();
             let last = loop {
-                let token = self.tokens.peek()?;
+                let token = parser.tokens.peek()?;
                 if token.kind == Kind::Sigma && sigma_allowed {
-                    break self.sigma()?;
+                    break parser.sigma()?;
                 }
                 if token.kind == Kind::Name {
-                    let name = self.known_name(token)?;
-                    if self.model.names[name].sort.is_variable() {
-                        break Last::Variable(self.access(name)?);
+                    let name = parser.known_name(token)?;
+                    if parser.model.names[name].sort.is_variable() {
+                        break Last::Variable(parser.access(name)?);
                     }
                 }
-                let factor = self.primary()?;
-                factors.push((factor, self.tokens.expect(Kind::Star)?.place));
+                let factor = parser.primary()?;
+                factors.push((factor, parser.tokens.expect(Kind::Star)?.place));
             };
-            terms.push(LinearTerm {
+            Ok(LinearTerm {
                 sign,
                 factors,
                 last,
-            });
-            sign = self.sign()?;
-            if sign.is_none() {
-                return Ok(terms);
-            }
-        }
+            })
+        })
     }
 
     fn sigma(&mut self) -> Outcome<Last> {
