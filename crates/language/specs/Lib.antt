@@ -6,6 +6,7 @@ pub mod Linear
 pub mod Declarations
 pub mod Grammar
 pub mod Phrases
+pub mod Nesting
 pub mod Listed
 pub mod All
 pub mod Ranges
@@ -13,6 +14,7 @@ pub mod Scope
 pub mod Evaluation
 pub mod Store
 pub mod Data
+pub mod DataPhrases
 pub mod Model
 pub mod Literals
 pub mod Named
@@ -21,6 +23,7 @@ pub mod Valid
 pub mod Listing
 pub mod Proper
 pub mod Answer
+pub mod Grammatical
 pub mod Computed
 pub mod Written
 pub mod Defined
