@@ -20,6 +20,7 @@ use Rattle.language.specs.Reader.{Reader, Read, Used, follow, demand, require, 
 use Rattle.language.specs.Store.{Store, Portion, portionBy}
 use Rattle.language.specs.Data.{Entry, boundOf, isPoint, marksOf, noRepeats, readOrder, runs, subscriptedPortion, portionOf}
 use Rattle.language.specs.Data as Data
+use Rattle.language.proofs.Meant.{found}
 use Rattle.language.proofs.Taken.{after-read, expect-read, name-read}
 use Rattle.tokens.specs.declared.Known.{Known}
 use Rattle.tokens.specs.declared.Known.the-variants as known
@@ -196,7 +197,7 @@ named-is : (s ns ts : List ℕ) (g : Ground s ns ts) (l : List Token) (x : Read 
     → Names s ns ts i k c p (x .what)
 named-is s ns ts g l x i k c p e n w q =
     let m = name-read (g .names) .reads l x e .writes in
-    let y = found-numbered (m .spelling) 0 (g .names) 0 _ (m .means .found 0) in
+    let y = found-numbered (m .spelling) 0 (g .names) 0 _ (found 0 (m .means)) in
     let here : y .ahead ≡ i = omega (arith, y .numbered, n) in
     record {
       ground = g;

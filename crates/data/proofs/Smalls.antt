@@ -20,8 +20,7 @@ use Rattle.language.specs.Syntax.{Name, Spans, point, span}
 use Rattle.language.specs.Reader.{Reader, Read, give, refuse, isMark}
 use Rattle.language.specs.Valid.{Small}
 use Rattle.language.specs.Data.{Entry, fixed, marked, digitsOf, signedEntry, entryBy, readEntry, entriesOf, boundOf, valueOf}
-use Rattle.language.specs.Phrases.{Reads}
-use Rattle.language.proofs.Taken.{gives, refuses, weaken, then, then-next, then-demand, then-require, then-expect, then-known}
+use Rattle.language.proofs.Taken.{Reads, gives, refuses, weaken, then, then-next, then-demand, then-require, then-expect, then-known}
 use Rattle.language.proofs.ValidData.{withMinus-small, signedValue-valid}
 use Rattle.tokens.specs.Stored.{kindPart, placePart, payloadPart, kindOf, token, view, from, size}
 use Rattle.portions.specs.Readers.{literalIn, numberIn}

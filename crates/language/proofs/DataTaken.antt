@@ -16,8 +16,7 @@ use Rattle.language.specs.Syntax.{Name, Spans, point, span}
 use Rattle.language.specs.Reader.{Reader, give, refuse, lift, isMark}
 use Rattle.language.specs.Store.{Store, scopeOf, Portion, Bound, positionRun, accept}
 use Rattle.language.specs.Data.{fixed, signedValue, signedEntry, entryBy, readEntry, entriesOf, orderFrom, readOrder, readNumber, eachRead, runs, subscriptedPortion, portionOf, isPoint}
-use Rattle.language.specs.Phrases.{Reads}
-use Rattle.language.proofs.Taken.{gives, refuses, weaken, either, then, then-next, then-look, look-else, look-next, then-require, then-demand, then-expect, then-bracket, then-known, name-read, index-read}
+use Rattle.language.proofs.Taken.{Reads, gives, refuses, weaken, either, then, then-next, then-look, look-else, look-next, then-require, then-demand, then-expect, then-bracket, then-known, name-read, index-read}
 
 -- whatever is given, by whatever tokens
 abbrev Any : {A : Type 0} → A → List Token → Type 0

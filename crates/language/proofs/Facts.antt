@@ -21,11 +21,11 @@ use Rattle.language.specs.Reader.{Read, Reader, _>>=_, give, next, isMar
 use Rattle.language.specs.Grammar.{structure}
 use Rattle.language.specs.Data.{Given, portionsOf, readClose, dataOf, readEnd, readData}
 use Rattle.language.specs.Model.{Model, model, readModel, whatOf}
-use Rattle.language.specs.Listed.{In, Distinct, distinct-nil, distinct-cons, distinct-append, in-cons, in-nil}
+use Rattle.language.specs.Listed.{In, Distinct, distinct-nil, distinct-cons, distinct-append, in-cons, in-nil, map-at}
 use Rattle.language.specs.All.{All, all-with}
 use Rattle.language.specs.Literals.{AllSort, AllNames, AllLiterals}
-use Rattle.language.specs.Phrases.{_at_, Unknown, Wrote, Writes, constraint, constraints, oneConstraint, lastConstraint, moreConstraints, with, WritesList, lastName, oneName, WritesOptionalList, noList, aList, WritesDeclarations, sixLists, WritesStructure, wholeModel}
-use Rattle.language.proofs.Taken.{after-read, next-read, string-read}
+use Rattle.language.specs.Phrases.{_at_, Unknown, Writes, constraint, constraints, oneConstraint, lastConstraint, moreConstraints, with, WritesList, lastName, oneName, WritesOptionalList, noList, aList, WritesDeclarations, sixLists, WritesStructure, wholeModel}
+use Rattle.language.proofs.Taken.{Wrote, after-read, next-read, string-read}
 use Rattle.language.proofs.PhrasedModel.{structure-written}
 use Rattle.language.proofs.Shapes.{AllShaped, shaped-left, shaped-right, Spelled, Printable, Rising, rising-before, rising-behind, literals-shaped, tokens-rise}
 use Rattle.language.proofs.Literals.{phrase-all}
@@ -35,17 +35,9 @@ use Rattle.language.proofs.Literals.{phrase-all}
 abbrev spellings : List Name → List (List ℕ)
 spellings names = map (λ x. x .spelling) names
 
--- a spelling that is not found stands nowhere in the table
-not-spelled : (l : List ℕ) (names : List Name) (i : ℕ) → find l names i 0 ≡ none → In (spellings names) l → ⊥
-unfolding find
-not-spelled l [] i e h = in-nil l h
-not-spelled l (x ∷ xs) i e h = go (sameBytes l (x .spelling)) refl (in-cons (x .spelling) (spellings xs) l h) (not-spelled l xs (suc i)) e
-  where
-    go : (b : Bool) → sameBytes l (x .spelling) ≡ b → (x .spelling ≡ l) ⊎ In (spellings xs) l → (find l xs (suc i) 0 ≡ none → In (spellings xs) l → ⊥)
-        → _≡_ {A = Option Used} (elim b as (λ _. Option Used) [ true ↦ some (record { number = i; sort = x .sort; place = 0 }) | false ↦ find l xs (suc i) 0 ]) none → ⊥
-    go true eb h ih e = let z : _≡_ {A = ℕ} 0 1 = cc in omega arith
-    go false eb (inl s) ih e = let z : sameBytes l l ≡ false = rw s at eb in let z′ : _≡_ {A = ℕ} 0 1 = cc (same-bytes-refl l) in omega arith
-    go false eb (inr k) ih e = ih e k
+-- an unknown spelling stands nowhere in the table
+not-spelled : {l : List ℕ} (names : List Name) → Unknown names l → In (spellings names) l → ⊥
+not-spelled names u h = let x = map-at (λ x. x .spelling) names (h .place) _ (h .at) in u .unspelled (h .place) (x .0) (x .1) (x .2)
 
 module _ (P : Value → Type 0) where
   -- what holds of the names declared so far
@@ -63,7 +55,7 @@ module _ (P : Value → Type 0) where
       let x : Name = record { spelling = l; place = p; sort = s } in
       record {
         distinct = rw map-append (distinct-append (spellings names) (l ∷ []) (h .distinct) (distinct-cons l [] (in-nil l) distinct-nil)
-            (λ k i j. elim (in-cons l [] k j) [ inl e ↦ not-spelled l names 0 (u .missed) (subst (λ m. In (spellings names) m) (sym e) i) | inr j ↦ in-nil k j ]));
+            (λ k i j. elim (in-cons l [] k j) [ inl e ↦ not-spelled names u (subst (λ m. In (spellings names) m) (sym e) i) | inr j ↦ in-nil k j ]));
         spelled = all-with (λ x. Spelled (x .spelling)) names x (h .spelled) a;
         few = rw length-append (omega arith);
         literals = all-with (λ x. AllSort P (x .sort)) names x (h .literals) b;

@@ -1,3 +1,4 @@
+pub mod Meant
 pub mod Taken
 pub mod Phrased
 pub mod PhrasedLinear

@@ -10,7 +10,6 @@ use Rattle.language.specs.All.{All, all-at}
 use Rattle.language.specs.Literals.{AllFormula, AllFormulas, AllSpans, AllForm, AllTerm, AllSide, AllConstraint, AllSort, AllName, AllNames}
 use Rattle.language.specs.Phrases
 use Rattle.language.specs.Phrases.{Means, Phrase, formula, primary, run, subscripts, formulas, entry, entries, domain, anyDomain, formTerm, signedTerms, linearForm, body, side, constraint, constraints, indexList, declaredDomain, sort, Writes, oneTerm, plusTerm, minusTerm, addition, difference, onePrimary, product, integer, real, declared, sumOver, nested, runOver, unsubscripted, inBrackets, lastFormula, oneFormula, between, lastEntry, oneEntry, inParentheses, noDomain, aDomain, unsigned, signed, noTerm, plusNext, minusNext, multiple, aVariable, aSigma, discrete, continuous, sigmaOver, innerSigma, innerForm, oneConstraint, alone, withSign, withFactor, withSigma, withSecond, lastConstraint, moreConstraints, noSubscripts, withDomain, lastIndex, oneIndex, indexSort, integerSort, realSort, formulaSort, discreteSort, continuousSort}
-use Rattle.language.proofs.PhrasedModel.{stands}
 use Rattle.language.proofs.Shapes.{AllShaped, shaped-left, shaped-right}
 
 module _ (P : Value → Type 0) where
@@ -41,7 +40,7 @@ module _ (P : Value → Type 0) where
 
   module _ (names : List Name) (known : AllNames P names) where
     meant : {l : List ℕ} {i : ℕ} {s : Sort} → Means names l i s → AllSort P s
-    meant {i} m = let x = stands m in subst (AllSort P) (x .sorted) (all-at (AllName P) names i (x .entry) (x .placed) known)
+    meant {i} m = subst (AllSort P) (m .sorted) (all-at (AllName P) names i (m .entry) (m .listed) known)
 
     -- by the rule that made the phrase
     pub phrase-all : {x : Phrase} {l : List Token} → Writes names x l → AllShaped P l → AllPhrase x

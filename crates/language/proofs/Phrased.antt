@@ -17,8 +17,8 @@ use Rattle.language.specs.Syntax
 use Rattle.language.specs.Reader.{Reader, _>>=_, refuse, isMark, Used, readIndex}
 use Rattle.language.specs.Formulas.{factors, termOf, isSum, negated, summands, Signed, readSign, formulaOf, partOf, headOf, sumFormula, formulasOf, subscriptsOf, namedBy, nestedOf, primaryBy, primaryOf, insideAt, formulaAt, entryOf, entriesOf, domainOf, optionalDomain}
 use Rattle.language.specs.Phrases
-use Rattle.language.specs.Phrases.{_at_, Means, indices, Reads, Writes, formula, term, primary, run, subscripts, formulas, entry, entries, domain, anyDomain, oneTerm, plusTerm, minusTerm, addition, difference, onePrimary, product, declared, sumOver, nested, runOver, unsubscripted, inBrackets, lastFormula, oneFormula, between, lastEntry, oneEntry, inParentheses, noDomain, aDomain}
-use Rattle.language.proofs.Taken.{gives, refuses, weaken, then, last, then-next, look-else, look-next, then-expect, then-bracket, then-known, then-index, index-read, NameAt, marked, Grows, stays, grow}
+use Rattle.language.specs.Phrases.{_at_, Means, indices, Writes, formula, term, primary, run, subscripts, formulas, entry, entries, domain, anyDomain, oneTerm, plusTerm, minusTerm, addition, difference, onePrimary, product, declared, sumOver, nested, runOver, unsubscripted, inBrackets, lastFormula, oneFormula, between, lastEntry, oneEntry, inParentheses, noDomain, aDomain}
+use Rattle.language.proofs.Taken.{Reads, gives, refuses, weaken, then, last, then-next, look-else, look-next, then-expect, then-bracket, then-known, then-index, index-read, NameAt, marked, Grows, stays, grow}
 
 -- ---- signs
 

@@ -20,8 +20,9 @@ use Rattle.language.specs.Formulas.{isSum, Signed, subscriptsOf, primary
 use Rattle.language.specs.Linear.{Head, headBySort, headByName, headBy, linearTerm, linearTerms, linearOf, noSigma, plainForm, bodyOf, sigmaAt, linearAt, sideOfTerm, sideOf}
 use Rattle.language.specs.Linear
 use Rattle.language.specs.Phrases
-use Rattle.language.specs.Phrases.{_at_, Means, Reads, Writes, variable, formTerm, signedTerms, linearForm, sigma, body, side, multiple, aSigma, noTerm, plusNext, minusNext, unsigned, signed, sigmaOver, innerSigma, innerForm, alone, withSign, withFactor, withSigma, withSecond}
-use Rattle.language.proofs.Taken.{gives, refuses, weaken, then, last, then-next, look-next, then-expect, marked, means}
+use Rattle.language.specs.Phrases.{_at_, Means, Writes, variable, formTerm, signedTerms, linearForm, sigma, body, side, multiple, aSigma, noTerm, plusNext, minusNext, unsigned, signed, sigmaOver, innerSigma, innerForm, alone, withSign, withFactor, withSigma, withSecond}
+use Rattle.language.proofs.Meant.{means}
+use Rattle.language.proofs.Taken.{Reads, gives, refuses, weaken, then, last, then-next, look-next, then-expect, marked}
 use Rattle.language.proofs.Phrased.{signMark, sign-is, SignOf, noSign, aSign, sign-read, head-read, then-run, subscripts-read, primary-by, inside-read, formula-at}
 
 -- a linear term of which a token of kind k at p is read; S reads a sigma behind its word, R what stands behind a factor
@@ -56,7 +57,7 @@ module _ (names : List Name) where
       name-head : (l : List ℕ) (o : Option Used) → find l names 0 0 ≡ o → Reads (onHead names S n R p (name l) (headByName o)) (λ t k. Writes names (formTerm sigmas t) (name l at p ∷ k))
       unfolding headByName
       name-head l none e = factor-read (name l)
-      name-head l (some u) e = sort-read l (u .number) (u .sort) (means names l 0 u e)
+      name-head l (some u) e = sort-read l (u .number) (u .sort) (means 0 u e)
 
       mark-head : (c : ℕ) (a b : Bool) → sigmas ≡ a → eqb c sigmaWord ≡ b → Reads (onHead names S n R p (mark c) (cond (a && b) Linear.aSigma Linear.aPrimary)) (λ t k. Writes names (formTerm sigmas t) (mark c at p ∷ k))
       mark-head c true true ea eb = weaken (rs p ea) (λ t l w. rw (eqb-true c sigmaWord eb, ea) (aSigma w))

@@ -15,6 +15,7 @@ use Rattle.language.specs.Syntax
 use Rattle.language.specs.Reader.{markOf, nameOf, isMark, Used}
 use Rattle.language.specs.Phrases
 use Rattle.language.specs.Phrases.{_at_, Means, relationSign, Phrase, formula, term, primary, run, subscripts, formulas, entry, entries, domain, anyDomain, variable, formTerm, signedTerms, linearForm, sigma, body, side, constraint, constraints, indexList, declaredDomain, sort, Writes, oneTerm, plusTerm, minusTerm, addition, difference, onePrimary, product, integer, real, declared, sumOver, nested, runOver, unsubscripted, inBrackets, lastFormula, oneFormula, between, lastEntry, oneEntry, inParentheses, noDomain, aDomain, unsigned, signed, noTerm, plusNext, minusNext, multiple, aVariable, aSigma, discrete, continuous, sigmaOver, innerSigma, innerForm, oneConstraint, alone, withSign, withFactor, withSigma, withSecond, lastConstraint, moreConstraints, noSubscripts, withDomain, lastIndex, oneIndex, indexSort, integerSort, realSort, formulaSort, discreteSort, continuousSort}
+use Rattle.language.proofs.Meant.{found}
 use Rattle.language.proofs.PhrasedLinear.{bound-written}
 
 -- ---- brackets
@@ -223,7 +224,7 @@ module _ (names : List Name) where
   alone-of (continuous {l = s} {i = i} {d = d} {k = k} p m w) = record { spelling = s; number = i; domain = d; place = p; rest = k; is = refl; varies = inr m; ends = bracketed w }
 
   same-meaning : {s : List ℕ} {i j : ℕ} {a b : Sort} → Means names s i a → Means names s j b → a ≡ b
-  same-meaning m n = ap (λ (u : Used). u .sort) (some-injective (sym (m .found 0) ∙ n .found 0))
+  same-meaning m n = ap (λ (u : Used). u .sort) (some-injective (sym (found 0 m) ∙ found 0 n))
 
   -- what a spelling means that is no variable's
   abbrev Plain : Sort → Type 0

@@ -22,8 +22,8 @@ use Rattle.language.specs.Declarations.{newName, entriesFrom}
 use Rattle.language.specs.Grammar.{structure}
 use Rattle.language.specs.Store.{Store}
 use Rattle.language.specs.Data.{orderFrom, portionOf, portionsOf}
-use Rattle.language.specs.Phrases.{_at_, WritesStructure, wholeModel, Reads, Writes, term, primary, formTerm, sort, with}
-use Rattle.language.proofs.Taken.{passed-is, expect-read, index-read, marked}
+use Rattle.language.specs.Phrases.{_at_, WritesStructure, wholeModel, Writes, term, primary, formTerm, sort, with}
+use Rattle.language.proofs.Taken.{Reads, passed-is, expect-read, index-read, marked}
 use Rattle.language.proofs.Phrased.{signMark, sign-is, SignOf, noSign, aSign, sign-read, primary-by, inside-read}
 use Rattle.language.proofs.PhrasedLinear.{onHead}
 use Rattle.language.proofs.PhrasedModel.{new-name, structure-written}

@@ -3,7 +3,6 @@
 -- domain stand in the tree where their name is written. Assumes nothing.
 use mathlib.Core.Path.{_≡_}
 use mathlib.Core.Bool.{Bool, true, false}
-use mathlib.Core.Option.{none, some}
 use mathlib.Core.List.{List, [], _∷_, _++_}
 use Prim.Native.Nat.{ℕ, _<_, _≤_}
 use lib.ListN.{length}
@@ -13,23 +12,26 @@ use Rattle.lexer.specs.Marks as Marks
 use Rattle.lexer.specs.Marks.{plusSign, minusSign, timesSign, comma, semicolon, colon, equals, opens, closes, opensList, closesList, openWord, maximizeWord, minimizeWord, sumWord, sigmaWord, indexWord, integerWord, realWord, formulaWord, discreteWord, continuousWord}
 use Rattle.lexer.specs.Text.{Token, Kind, mark, name, string}
 use Rattle.lexer.specs.Text
-use Rattle.language.specs.Outcome.{done}
 use Rattle.language.specs.Syntax.{Formula, Formulas, Spans, Form, Term, Relation, Side, Constraint, Sort, Name, Structure, plus, minus, times, datum, sum, more, point, span, also, factor, bare, form, atMost, atLeast, equal}
 use Rattle.language.specs.Syntax
-use Rattle.language.specs.Reader.{Read, Reader, find}
-use Rattle.language.specs.Listed.{Distinct}
+use Rattle.language.specs.Listed.{At, Distinct}
 
 -- a token and its place
 infix 70 _at_
 abbrev pub _at_ : Kind → ℕ → Token
 k at p = record { kind = k; place = p }
 
--- in the table a spelling means the name i of sort s, wherever it stands; or it means none
+-- what a spelling means: the first name of the table that is so spelled, its number and its sort
 pub record Means (names : List Name) (l : List ℕ) (i : ℕ) (s : Sort) : Type 0 where
-  pub found : (p : ℕ) → find l names 0 p ≡ some (record { number = i; sort = s; place = p })
+  pub entry : Name
+  pub listed : At names i entry
+  pub spelled : entry .spelling ≡ l
+  pub sorted : entry .sort ≡ s
+  pub first : (j : ℕ) (x : Name) → j < i → At names j x → x .spelling ≡ l → ⊥
 
+-- no name of the table is so spelled
 pub record Unknown (names : List Name) (l : List ℕ) : Type 0 where
-  pub missed : find l names 0 0 ≡ none
+  pub unspelled : (j : ℕ) (x : Name) → At names j x → x .spelling ≡ l → ⊥
 
 -- the indices of a domain, in order
 abbrev pub indices : Spans → List ℕ
@@ -211,13 +213,3 @@ pub data WritesStructure : Structure → List Token → Type 0 where
       → WritesDeclarations names a → Writes names (linearForm true sign objective) b → Writes names (constraints cs) c → length cs ≤ constraintLimit
       → WritesStructure (record { title = s; names = names; minimize = minimize; objective = objective; constraints = cs })
       (mark openWord at p ∷ string s at q ∷ a ++ (mark (goalWord minimize) at r ∷ mark colon at t ∷ b ++ c))
-
--- ---- a reader gives what the tokens that it takes write
-
-pub record Wrote {A : Type 0} (W : A → List Token → Type 0) (ts : List Token) (r : Read A) : Type 0 where
-  pub phrase : List Token
-  pub taken : ts ≡ phrase ++ r .rest
-  pub writes : W (r .what) phrase
-
-pub record Reads {A : Type 0} (m : Reader A) (W : A → List Token → Type 0) : Type 0 where
-  pub reads : (ts : List Token) (r : Read A) → m ts ≡ done r → Wrote W ts r
