@@ -17,11 +17,12 @@ use Rattle.language.specs.Answer.{Accepted, accepted, listingOf, listing, respo
 use Rattle.language.specs.Answer as definition
 use Rattle.language.specs.Demand3.{Demand3}
 use Rattle.language.proofs.Accepted.{kept}
+use Rattle.language.proofs.GrammarHolds.{grammar-holds}
 use Rattle.listing.proofs.Lines.{written-zeros}
 use Rattle.generator.specs.declared.Answer.{Answer}
 use Rattle.generator.specs.declared.Generated.{Generated}
 use Rattle.generator.specs.declared.Generated.the-variants as generated
-use Rattle.generator.specs.Contract.{Defined, Meant, Meaning}
+use Rattle.generator.specs.Contract.{Defined, Accepts, Meant, Meaning}
 use Rattle.generator.specs.Generated.{Lists, Generates}
 
 -- an answer by its number
@@ -46,7 +47,12 @@ long-lists : (text : List ℕ) (n : ℕ) (a : Accepted) → accepted text ≡ do
 unfolding listing
 long-lists text n a e f = rw (e, f)
 
--- ---- demand 3
+-- ---- which texts are accepted, and demand 3: both follow from the answer
+
+defined-accepts : (text out : List ℕ) (a : Answer) (out′ : List ℕ) → Defined text out a out′ → Accepts text out a
+defined-accepts text out a out′ d =
+    let both = grammar-holds .accepts text (length out) in
+    record { accepts = (λ z. both .0 (sym (d .number) ∙ z), λ h. d .number ∙ both .1 h) }
 
 defined-means : (text out : List ℕ) (a : Answer) (out′ : List ℕ) → Defined text out a out′ → Meaning text out a out′
 defined-means text out a out′ d = record {
@@ -55,6 +61,13 @@ defined-means text out a out′ d = record {
       record { demand = k; bytes = d .bytes ∙ k .prints ∙ rw (sym (d .size)) };
 }
 
+-- the three clauses of the contract
+abbrev pub Promised : (text out : List ℕ) → Answer → List ℕ → Type 0
+Promised text out a out′ = Defined text out a out′ × Accepts text out a × Meaning text out a out′
+
+promised : (text out : List ℕ) (a : Answer) (out′ : List ℕ) → Defined text out a out′ → Promised text out a out′
+promised text out a out′ d = (d, defined-accepts text out a out′ d, defined-means text out a out′ d)
+
 -- ---- the answer of the code
 
 module _ (text out₀ out₁ : List ℕ) (g : Generated) (out₂ : List ℕ) (cleared : out₁ ≡ replicate (length out₀) 0) (is : Generates text out₁ g out₂) (same : length out₂ ≡ length out₁) where
@@ -62,7 +75,7 @@ module _ (text out₀ out₁ : List ℕ) (g : Generated) (out₂ : List ℕ) (cl
   size-kept = same ∙ ap length cleared ∙ length-replicate {A = ℕ} (length out₀) 0
 
   -- a refusal before the listing
-  pub defined-refused : (r : Refusal) (p : ℕ) → g ≡ generated.Refused r p → (a : Answer) → a ≡ record { number = refusalNumber r; place = p; length = 0 }
+  defined-refused : (r : Refusal) (p : ℕ) → g ≡ generated.Refused r p → (a : Answer) → a ≡ record { number = refusalNumber r; place = p; length = 0 }
       → (out₃ : List ℕ) → out₃ ≡ replicate (length out₂) 0 → Defined text out₀ a out₃
   unfolding respond
   defined-refused r p e a ea out₃ eo = go (accepted text) refl (subst (λ g. Lists (accepted text) out₁ g out₂) e (is .lists))
@@ -79,7 +92,7 @@ module _ (text out₀ out₁ : List ℕ) (g : Generated) (out₂ : List ℕ) (cl
           }
 
   -- a listing that fits
-  pub defined-listed : (n : ℕ) → g ≡ generated.Listed n → n ≤ length out₂ → Defined text out₀ (record { number = 0; place = 0; length = n }) out₂
+  defined-listed : (n : ℕ) → g ≡ generated.Listed n → n ≤ length out₂ → Defined text out₀ (record { number = 0; place = 0; length = n }) out₂
   unfolding respond
   defined-listed n e f = go (accepted text) refl (subst (λ g. Lists (accepted text) out₁ g out₂) e (is .lists))
     where
@@ -97,7 +110,7 @@ module _ (text out₀ out₁ : List ℕ) (g : Generated) (out₂ : List ℕ) (cl
       go (refused r′ q) i l = absurd l
 
   -- a listing that is too long
-  pub defined-long : (n : ℕ) → g ≡ generated.Listed n → length out₂ < n → (a : Answer) → a ≡ record { number = refusalNumber LongListing; place = n; length = 0 }
+  defined-long : (n : ℕ) → g ≡ generated.Listed n → length out₂ < n → (a : Answer) → a ≡ record { number = refusalNumber LongListing; place = n; length = 0 }
       → (out₃ : List ℕ) → out₃ ≡ replicate (length out₂) 0 → Defined text out₀ a out₃
   unfolding respond
   defined-long n e f a ea out₃ eo = go (accepted text) refl (subst (λ g. Lists (accepted text) out₁ g out₂) e (is .lists))
@@ -114,15 +127,15 @@ module _ (text out₀ out₁ : List ℕ) (g : Generated) (out₂ : List ℕ) (cl
           }
       go (refused r′ q) i l = absurd l
 
-  -- ---- with its meaning
+  -- ---- with all that is promised
 
-  pub meant-refused : (r : Refusal) (p : ℕ) → g ≡ generated.Refused r p → (a : Answer) → a ≡ record { number = refusalNumber r; place = p; length = 0 }
-      → (out₃ : List ℕ) → out₃ ≡ replicate (length out₂) 0 → Meaning text out₀ a out₃
-  meant-refused r p e a ea out₃ eo = defined-means text out₀ a out₃ (defined-refused r p e a ea out₃ eo)
+  pub refused-promised : (r : Refusal) (p : ℕ) → g ≡ generated.Refused r p → (a : Answer) → a ≡ record { number = refusalNumber r; place = p; length = 0 }
+      → (out₃ : List ℕ) → out₃ ≡ replicate (length out₂) 0 → Promised text out₀ a out₃
+  refused-promised r p e a ea out₃ eo = promised text out₀ a out₃ (defined-refused r p e a ea out₃ eo)
 
-  pub meant-listed : (n : ℕ) → g ≡ generated.Listed n → n ≤ length out₂ → Meaning text out₀ (record { number = 0; place = 0; length = n }) out₂
-  meant-listed n e f = defined-means text out₀ (record { number = 0; place = 0; length = n }) out₂ (defined-listed n e f)
+  pub listed-promised : (n : ℕ) → g ≡ generated.Listed n → n ≤ length out₂ → Promised text out₀ (record { number = 0; place = 0; length = n }) out₂
+  listed-promised n e f = promised text out₀ (record { number = 0; place = 0; length = n }) out₂ (defined-listed n e f)
 
-  pub meant-long : (n : ℕ) → g ≡ generated.Listed n → length out₂ < n → (a : Answer) → a ≡ record { number = refusalNumber LongListing; place = n; length = 0 }
-      → (out₃ : List ℕ) → out₃ ≡ replicate (length out₂) 0 → Meaning text out₀ a out₃
-  meant-long n e f a ea out₃ eo = defined-means text out₀ a out₃ (defined-long n e f a ea out₃ eo)
+  pub long-promised : (n : ℕ) → g ≡ generated.Listed n → length out₂ < n → (a : Answer) → a ≡ record { number = refusalNumber LongListing; place = n; length = 0 }
+      → (out₃ : List ℕ) → out₃ ≡ replicate (length out₂) 0 → Promised text out₀ a out₃
+  long-promised n e f a ea out₃ eo = promised text out₀ a out₃ (defined-long n e f a ea out₃ eo)

@@ -1,11 +1,13 @@
 -- The contract of the public entry point. Assumes nothing.
 use mathlib.Core.Path.{_≡_}
+use mathlib.Core.Logic.{_↔_}
 use mathlib.Core.List.{List, _++_}
 use Prim.Native.Nat.{ℕ, _-_}
 use lib.ListN.{length, replicate}
 use Rattle.language.specs.Listing.{linesOf, bytesOfAll}
 use Rattle.language.specs.Answer.{answer}
 use Rattle.language.specs.Answer as definition
+use Rattle.language.specs.Grammatical.{HasListing}
 use Rattle.language.specs.Demand3.{Demand3}
 use Rattle.generator.specs.declared.Answer.{Answer}
 
@@ -15,6 +17,11 @@ pub record Defined (text out : List ℕ) (a : Answer) (out′ : List ℕ) : Type
   pub place : a .place ≡ answer text (length out) .place
   pub size : a .length ≡ answer text (length out) .size
   pub bytes : out′ ≡ answer text (length out) .buffer
+
+-- Which texts are accepted, by the rules and not by a reader: number 0 exactly where the text's tokens write a model by the rules
+-- of the grammar, its data and its problem are in order, and its listing fits
+pub record Accepts (text out : List ℕ) (a : Answer) : Type 0 where
+  pub accepts : (a .number ≡ 0) ↔ ((bytes : List ℕ) × HasListing text (length out) bytes)
 
 -- Demand 3, of this text and of the lines that these bytes print: the output is the lines of the problem, and zeros behind them
 pub record Meant (text out : List ℕ) (a : Answer) (out′ : List ℕ) : Type 0 where

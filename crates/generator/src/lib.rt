@@ -9,7 +9,7 @@ ghost use lib.ListN.{length, take, replicate};
 ghost use Rattle.rules.specs.Refusals.{refusalNumber};
 ghost use Rattle.tokens.specs.Stored.{rowsOf};
 ghost use Rattle.sheet.specs.Shown.{Lists};
-ghost use Rattle.generator.specs.Contract.{Defined, Meaning};
+ghost use Rattle.generator.specs.Contract.{Defined, Accepts, Meaning};
 ghost use Rattle.generator.specs.Generated.{behindBrace, ListsModel, ListsIn, Generates};
 
 // Number 0, place 0 and the listing's length; or a refusal's number and place, and length 0.
@@ -243,6 +243,7 @@ fn refuse(out: &mut [u8], r: rules::Refusal, p: usize) -> Answer
 #[no_mangle]
 pub extern "C" fn recipe_generate(text: &[u8], out: &mut [u8]) -> Answer
     ensures defined { λ a. ⌜ Defined (now (text .entry)) (now (out .entry)) a (now (out .exit)) ⌝ }
+    ensures accepts { λ a. ⌜ Accepts (now (text .entry)) (now (out .entry)) a ⌝ }
     ensures meaning { λ a. ⌜ Meaning (now (text .entry)) (now (out .entry)) a (now (out .exit)) ⌝ }
 {
     listing::clear(out);

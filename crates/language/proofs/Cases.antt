@@ -1,5 +1,6 @@
--- Document 01, "Proof cases" P1 to P12, its case with buffers around the listing's length, the empty text, and the examples of
--- "Why a model comes back": one table of questions and answers, which antt computes over the definition. Assumes nothing.
+-- Document 01, "Proof cases" P1 to P12, its case with buffers around the listing's length, the empty text, the examples of "Why a
+-- model comes back", and data sections with negative numbers, orders and fixed entries: one table of questions and answers, which
+-- antt computes over the definition. Assumes nothing.
 use mathlib.Core.Path.{_≡_, refl}
 use mathlib.Core.Bool.{cond}
 use mathlib.Core.List.{List, [], _∷_, _++_, map}
@@ -93,6 +94,19 @@ cases =
     ∷ record { asks = model "OPEN {m} index i; integer n; real p[i] (1 <= i <= n); continuous x; MAXIMIZE: p[3] * x {c} x <= 1 INIT {d} n + 2 p[i] + 1 + 2 CLOSE" 65536; gives = refusal 9 78 }
     ∷ record { asks = model "OPEN {m} integer n; continuous x; MAXIMIZE: n * x {c} x <= 1 INIT {d} n + 2 + 3 CLOSE" 65536; gives = refusal 10 76 }
     ∷ record { asks = model blend 5; gives = refusal 11 162 }
+    -- data sections with negative numbers, orders and fixed entries: stored cases, whose answers are the second generator's too
+    ∷ record {
+      asks = model "OPEN {m} index i, j, k; integer n; real p[i, j] (1 <= i <= 2, 1 <= j <= 2); continuous x; MAXIMIZE: x {c} 2 * x <= 1000 * p[1, 1] + 100 * p[1, 2] + 10 * p[2, 1] + p[2, 2] INIT {d} n + 1 p[j, i] (i, j) + 1 + 2 + 3 + 4 CLOSE" 65536;
+      gives = listing (bytes "lp\t0\t1\t1\t1\tm\td\nrow\t1\tL\t1324\tc\nvar\t1\tC\t0\tinf\tx\ncol\t1\t1\t2\ncol\t1\t2\t1\nend\n");
+    }
+    ∷ record {
+      asks = model "OPEN {m} index i, j, k; integer n; real p[i, j] (1 <= i <= 2, 1 <= j <= 2); continuous x; MAXIMIZE: x {c} 2 * x <= 1000 * p[1, 1] + 100 * p[1, 2] + 10 * p[2, 1] + p[2, 2] INIT {d} n + 1 p[1, j] + 1 + 2 p[+2, k] - 3 + 4 CLOSE" 65536;
+      gives = listing (bytes "lp\t0\t1\t1\t1\tm\td\nrow\t1\tL\t1174\tc\nvar\t1\tC\t0\tinf\tx\ncol\t1\t1\t2\ncol\t1\t2\t1\nend\n");
+    }
+    ∷ record {
+      asks = model "OPEN {m} index i, j, k; integer n; real p[i, j] (1 <= i <= 2, 1 <= j <= 2); continuous x; MAXIMIZE: x {c} 2 * x <= 1000 * p[1, 1] + 100 * p[1, 2] + 10 * p[2, 1] + p[2, 2] INIT {d} n - 1 p[1, j] (j) + 1 + 2 p[2, j] + 3 + 4 CLOSE" 65536;
+      gives = listing (bytes "lp\t0\t1\t1\t1\tm\td\nrow\t1\tL\t1234\tc\nvar\t1\tC\t0\tinf\tx\ncol\t1\t1\t2\ncol\t1\t2\t1\nend\n");
+    }
     ∷ []
 
 cases-hold : map (λ (c : Case). reply (c .asks)) cases ≡ map (λ (c : Case). c .gives) cases

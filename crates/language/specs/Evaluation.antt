@@ -62,7 +62,7 @@ unfoldable pub each : {A : Type 0} → (ℤ → A → Outcome A) → List ℤ �
 each f [] a = done a
 each f (k ∷ ks) a = f k a >>= λ b. each f ks b
 
--- ---- formulas
+-- ---- formulas. An unbound index is refused (7) only where it is evaluated (decision 22)
 
 -- a partial sum of a `SUM` at p must fit (decision 25)
 abbrev pub addTo : ℕ → Value → Outcome Value → Outcome Value

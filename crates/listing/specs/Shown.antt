@@ -35,6 +35,6 @@ unfoldable pub shownLines : List Line → List ℕ
 shownLines [] = []
 shownLines (l ∷ ls) = shownLine l ++ shownLines ls
 
--- a refusal's line: `refused`, its number and its place
+-- a refusal's line: `refused`, its number and its place, and a line feed (decision 43)
 unfoldable pub shownRefused : ℕ → ℕ → List ℕ
 shownRefused n p = (114 ∷ 101 ∷ 102 ∷ 117 ∷ 115 ∷ 101 ∷ 100 ∷ []) ++ fields (shownNatural n ∷ shownNatural p ∷ [])
