@@ -3,19 +3,15 @@
 use mathlib.Core.Path.{_≡_, refl}
 use mathlib.Core.List.{List, [], _∷_, map}
 use Prim.Native.Nat.{ℕ}
-use Prim.Native.Char.{code}
-use Prim.Native.String.{String, [] as []ˢ, _∷_ as _∷ˢ_}
+use Prim.Native.String.{String}
 use lib.IntN.{pos}
+use Rattle.rules.specs.Characters.{bytes}
 use Rattle.rules.specs.Limits.{mantissaLimit, scaleLimit, digitLimit}
 use Rattle.value.specs.declared.Fit.{Fit}
 use Rattle.value.specs.declared.Fit.the-variants.{Fits, TooBig}
 use Rattle.value.specs.Fraction.{_⊗_}
 use Rattle.value.specs.Decimal.{tenths, frac, withSign, seek, choose, fitOf, productOf}
 use Rattle.value.specs.Literal.{isDigit, allDigits, digitOf, numberFrom, before, after, isLiteral, literalOf}
-
-unfoldable pub bytes : String → List ℕ
-bytes []ˢ = []
-bytes (c ∷ˢ s) = code c ∷ bytes s
 
 pub data Input : Type 0 where
   literal : String → Input
@@ -58,5 +54,5 @@ cases =
     []
 
 pub cases-hold : map (λ (c : Case). answer (c .input)) cases ≡ map (λ (c : Case). c .expected) cases
-unfolding cases answer value product bytes literalOf isLiteral isDigit allDigits numberFrom digitOf before after tenths fitOf choose seek withSign productOf frac _⊗_ mantissaLimit scaleLimit digitLimit
+unfolding cases answer value product literalOf isLiteral isDigit allDigits numberFrom digitOf before after tenths fitOf choose seek withSign productOf frac _⊗_ mantissaLimit scaleLimit digitLimit
 cases-hold = refl
