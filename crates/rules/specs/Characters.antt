@@ -1,5 +1,5 @@
--- Words and signs, as document 01 writes them: `code "+"` is the byte of one character, `bytes "OPEN"` the bytes of a text.
--- Assumes nothing.
+-- Words and signs, as document 01 writes them: `code "+"` is the byte of a character, `bytes "OPEN"` the bytes of a word. Both
+-- give ASCII codes. Assumes nothing.
 use mathlib.Core.List.{List, [], _∷_}
 use Prim.Native.Nat.{ℕ}
 pub use Prim.Native.Char.{code}
@@ -9,7 +9,7 @@ abbrev pub bytes : String → List ℕ
 bytes []ˢ = []
 bytes (c ∷ˢ s) = code c ∷ bytes s
 
--- ---- characters without a sign of their own
+-- ---- blanks
 
 abbrev pub space : ℕ
 space = code " "
