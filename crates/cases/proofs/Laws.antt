@@ -9,6 +9,7 @@ use mir.Val.{toZ}
 use borrow.Rule.Slice.PartMut.{putMid}
 use lib.ListN.{length, take, drop, getD, replicate, drop-of-length-le, length-replicate}
 use lib.Seq.{drop-cons}
+use Rattle.rules.specs.Characters.{tab, lineFeed}
 use Rattle.value.specs.declared.Value.{Value}
 use Rattle.value.specs.Decimal.{ofWhole}
 use Rattle.value.specs.Printed.{shown, Written}
@@ -34,8 +35,8 @@ digits-some l at n from v r p h e i w = rw (whole-is v (toZ w64 n) i ∙ natural
 -- ---- a line
 
 module _ (n p k b : ℕ) (l : List ℕ) (r₁ r₂ r₃ r₄ r₅ : ℕ) (l₁ l₂ l₃ l₄ l₅ : List ℕ) where
-  pub line-is : Written l 0 (shownNatural n) r₁ l₁ → Written l₁ r₁ (9 ∷ shownNatural p) r₂ l₂ → Written l₂ r₂ (9 ∷ shownNatural k) r₃ l₃
-      → Written l₃ r₃ (9 ∷ shownNatural b) r₄ l₄ → Written l₄ r₄ (10 ∷ []) r₅ l₅ → Written l 0 (told n p k b) r₅ l₅
+  pub line-is : Written l 0 (shownNatural n) r₁ l₁ → Written l₁ r₁ (tab ∷ shownNatural p) r₂ l₂ → Written l₂ r₂ (tab ∷ shownNatural k) r₃ l₃
+      → Written l₃ r₃ (tab ∷ shownNatural b) r₄ l₄ → Written l₄ r₄ (lineFeed ∷ []) r₅ l₅ → Written l 0 (told n p k b) r₅ l₅
   unfolding told
   line-is w₁ w₂ w₃ w₄ w₅ = written-then _ _ _ _ _ _ _ _ w₁ (field-then _ w₂ (field-then _ w₃ (field-then _ w₄ (line-end w₅))))
 

@@ -7,6 +7,7 @@ ghost use mathlib.Core.Path.{_≡_};
 ghost use mathlib.Core.List.{[], _∷_};
 ghost use Prim.Native.Nat.{_+_, _<_, _≤_, _^_};
 ghost use lib.ListN.{length};
+ghost use Rattle.rules.specs.Characters.{tab};
 ghost use Rattle.value.specs.Printed.{Written};
 ghost use Rattle.language.specs.Answer.{answer};
 ghost use Rattle.listing.specs.Shown.{shownNatural};
@@ -39,7 +40,7 @@ fn digits(out: &mut [u8], at: usize, n: usize) -> usize
 
 fn field(out: &mut [u8], at: usize, n: usize) -> usize
     requires { ⌜ at < 2 ^ 29 ⌝ }
-    ensures { λ r. ⌜ (Written (now (out .entry)) at (9 ∷ shownNatural n) r (now (out .exit))) × (r ≤ at + 27) ⌝ }
+    ensures { λ r. ⌜ (Written (now (out .entry)) at (tab ∷ shownNatural n) r (now (out .exit))) × (r ≤ at + 27) ⌝ }
 {
     let next = put(out, at, b'\t');
     digits(out, next, n)

@@ -1,13 +1,14 @@
 -- What the head of a frame says. Assumes nothing.
 use mathlib.Core.Bool.{cond}
 use Prim.Native.Nat.{ℕ, _+_, _*_, _-_, _≤_}
+use Prim.Native.Char.{code}
 use lib.Dec.{leb}
 use Rattle.frames.specs.declared.Given.{Given}
 use Rattle.frames.specs.declared.Given.the-variants.{Text, Nothing}
 
 -- 0 for what is no digit
 abbrev pub digitOf : ℕ → ℕ
-digitOf b = cond (leb 48 b) (cond (leb b 57) (b - 48) 0) 0
+digitOf b = cond (leb (code "0") b) (cond (leb b (code "9")) (b - code "0") 0) 0
 
 abbrev pub fiveOf : ℕ → ℕ → ℕ → ℕ → ℕ → ℕ
 fiveOf a b c d e = digitOf a * 10000 + digitOf b * 1000 + digitOf c * 100 + digitOf d * 10 + digitOf e

@@ -14,13 +14,13 @@ pub enum Given {
 fn digit(b: u8) -> usize
     ensures { λ r. ⌜ (r ≡ digitOf b) × (r ≤ 9) ⌝ }
 {
-    if b < 48 {
+    if b < b'0' {
         return 0;
     }
-    if 57 < b {
+    if b'9' < b {
         return 0;
     }
-    (b - 48) as usize
+    (b - b'0') as usize
 }
 
 fn five(a: u8, b: u8, c: u8, d: u8, e: u8) -> usize

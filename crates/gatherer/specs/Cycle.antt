@@ -10,6 +10,7 @@ use lib.IntN.{ℤ}
 use Rattle.rules.specs.Limits.{tokenLimit}
 use Rattle.value.specs.declared.Value.{Value}
 use Rattle.value.specs.Decimal.{Valid, productOf}
+use Rattle.lexer.specs.Marks.{sigmaWord}
 use Rattle.language.specs.Outcome.{Outcome, done, refused, fitting}
 use Rattle.language.specs.Syntax.{Name, Spans}
 use Rattle.language.specs.Reader.{Reader, Read, _>>=_, lift, next}
@@ -113,7 +114,7 @@ Heads w h listed.Nothing = h ≡ aPrimary
 Heads w h (listed.Name i j k q) = (d : Spans) × ((h ≡ aVariable i d) × Declared w i d k q)
 
 pub record Begins (ns ts : List ℕ) (level at k : ℕ) (r : Listed) : Type 0 where
-  pub heads : (p x b : ℕ) → Looks ts at (seen.Token k p x b) → (sigmas : Bool) → (sigmas && eqb k 134) ≡ false
+  pub heads : (p x b : ℕ) → Looks ts at (seen.Token k p x b) → (sigmas : Bool) → (sigmas && eqb k sigmaWord) ≡ false
       → (ds : List ℕ) (given : ℕ) (w : World ns ts ds given) → Heads w (headBy (seenBy w level) sigmas (kindOf (w .text) k p x)) r
 
 -- what a term is walked with: variables, what walks a sigma, a sign, a row

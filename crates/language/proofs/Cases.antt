@@ -5,20 +5,16 @@ use mathlib.Core.Path.{_≡_, refl}
 use mathlib.Core.Bool.{cond}
 use mathlib.Core.List.{List, [], _∷_, _++_, map}
 use Prim.Native.Nat.{ℕ}
-use Prim.Native.Char.{code}
-use Prim.Native.String.{String, [] as []ˢ, _∷_ as _∷ˢ_}
+use Prim.Native.String.{String}
 use lib.Dec.{eqb}
 use lib.IntN.{pos}
 use lib.ListN.{take, replicate}
+use Rattle.rules.specs.Characters.{bytes, space}
 use Rattle.rules.specs.Refusals.{refusalNumber}
 use Rattle.value.specs.declared.Value.{Value}
 use Rattle.language.specs.Outcome.{Outcome, done, refused}
 use Rattle.language.specs.Answer.{Answer}
 use Rattle.language.specs.Computed.{computed, computedValue}
-
-unfoldable pub bytes : String → List ℕ
-bytes []ˢ = []
-bytes (c ∷ˢ s) = code c ∷ bytes s
 
 -- the value of a formula in which `i` is an index; the answer to a model text with a buffer; that to a text of n spaces
 data Question : Type 0 where
@@ -39,10 +35,10 @@ ofAnswer : Answer → Reply
 ofAnswer a = cond (eqb (a .number) 0) (listing (take (a .size) (a .buffer))) (refusal (a .number) (a .place))
 
 reply : Question → Reply
-unfolding ofValue ofAnswer bytes computed computedValue
+unfolding ofValue ofAnswer computed computedValue
 reply (formula t) = ofValue (computedValue (bytes t))
 reply (model t n) = ofAnswer (computed (bytes t) n)
-reply (spaces n) = ofAnswer (computed (replicate n 32) 0)
+reply (spaces n) = ofAnswer (computed (replicate n space) 0)
 
 record Case : Type 0 where
   asks : Question
@@ -60,7 +56,7 @@ blend-listing =
     "lp\t0\t2\t1\t2\tblend\ttoday\nrow\t1\tL\t-0.5\tlime\nrow\t2\tE\t1\tmass\nvar\t1\tC\t0\tinf\tx\t1\nvar\t2\tC\t0\t0.75\tx\t2\ncol\t1\t1\t-1\ncol\t1\t2\t1\ncol\t1\t3\t-3.1\ncol\t2\t1\t2\ncol\t2\t2\t1\ncol\t2\t3\t-4\nend\n"
 
 cases : List Case
-unfolding blend blend-listing bytes decimal
+unfolding blend blend-listing decimal
 cases =
     record { asks = formula "1.50"; gives = decimal 15 1 }  -- P1
     ∷ record { asks = formula "1.0000000"; gives = decimal 1 0 }  -- P2
@@ -116,9 +112,9 @@ cases-hold = refl
 -- every byte of the buffer: the listing and then zeros, and on a refusal zeros only
 bytes-after : (computed (bytes "OPEN {m} continuous x; MAXIMIZE: x {c} x - x <= 1 CLOSE") 58) .buffer
     ≡ bytes "lp\t0\t1\t1\t1\tm\t\nrow\t1\tL\t1\tc\nvar\t1\tC\t0\tinf\tx\ncol\t1\t2\t1\nend\n" ++ (0 ∷ 0 ∷ [])
-unfolding bytes computed
+unfolding computed
 bytes-after = refl
 
 short-buffer : computed (bytes blend) 5 ≡ record { number = 11; place = 162; size = 0; buffer = 0 ∷ 0 ∷ 0 ∷ 0 ∷ 0 ∷ [] }
-unfolding bytes computed blend
+unfolding computed blend
 short-buffer = refl

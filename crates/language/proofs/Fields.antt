@@ -5,6 +5,7 @@ use mathlib.Core.List.{List, [], _∷_, _++_, append-assoc, head-eq-of-cons-eq, 
 use Prim.Native.Nat.{ℕ, _<_}
 use native.Mathlib.Omega.{arith}
 use lib.Dec.{lit<}
+use Rattle.rules.specs.Characters.{tab, lineFeed}
 use Rattle.language.specs.All.{All, all-append, all-weaken}
 use Rattle.language.specs.Proper.{Visible, Text}
 use Rattle.language.specs.Listing.{fields}
@@ -35,8 +36,8 @@ field-once (b ∷ f) (c ∷ g) r t hf hg hr ht e =
 pub fields-once : (fs gs : List (List ℕ)) (r t : List ℕ) → All Text fs → All Text gs → fields fs ++ r ≡ fields gs ++ t → (fs ≡ gs) × (r ≡ t)
 unfolding fields
 fields-once [] [] r t hf hg e = (refl, tail-eq-of-cons-eq e)
-fields-once [] (g ∷ gs) r t hf hg e = absurd (let z : _≡_ {A = ℕ} 10 9 = head-eq-of-cons-eq e in omega arith)
-fields-once (f ∷ fs) [] r t hf hg e = absurd (let z : _≡_ {A = ℕ} 9 10 = head-eq-of-cons-eq e in omega arith)
+fields-once [] (g ∷ gs) r t hf hg e = absurd (let z : lineFeed ≡ tab = head-eq-of-cons-eq e in omega arith)
+fields-once (f ∷ fs) [] r t hf hg e = absurd (let z : tab ≡ lineFeed = head-eq-of-cons-eq e in omega arith)
 fields-once (f ∷ fs) (g ∷ gs) r t hf hg e =
     let e′ : f ++ (fields fs ++ r) ≡ g ++ (fields gs ++ t) = sym (append-assoc f (fields fs) r) ∙ tail-eq-of-cons-eq e ∙ append-assoc g (fields gs) t in
     let k = field-once f g (fields fs ++ r) (fields gs ++ t) (hf .0) (hg .0) (fields-ended fs r) (fields-ended gs t) e′ in
@@ -46,17 +47,17 @@ fields-once (f ∷ fs) (g ∷ gs) r t hf hg e =
 -- ---- one line feed, at the end
 
 abbrev pub NoLineFeed : ℕ → Type 0
-NoLineFeed b = b ≢ 10
+NoLineFeed b = b ≢ lineFeed
 
 pub text-line : (f : List ℕ) → Text f → All NoLineFeed f
 text-line f h = all-weaken Visible NoLineFeed (λ b v. omega (arith, v .least)) f h
 
-pub fields-line : (fs : List (List ℕ)) → All Text fs → (s : List ℕ) × (fields fs ≡ s ++ (10 ∷ [])) × All NoLineFeed s
+pub fields-line : (fs : List (List ℕ)) → All Text fs → (s : List ℕ) × (fields fs ≡ s ++ (lineFeed ∷ [])) × All NoLineFeed s
 unfolding fields
 fields-line [] h = ([], refl, tt)
 fields-line (f ∷ fs) h =
     let k = fields-line fs (h .1) in (
-      9 ∷ (f ++ k .0),
-      ap (λ r. 9 ∷ r) (ap (λ r. f ++ r) (k .1) ∙ sym (append-assoc f (k .0) (10 ∷ []))),
+      tab ∷ (f ++ k .0),
+      ap (λ r. tab ∷ r) (ap (λ r. f ++ r) (k .1) ∙ sym (append-assoc f (k .0) (lineFeed ∷ []))),
       (omega arith, all-append NoLineFeed f (k .0) (text-line f (h .0)) (k .2)),
     )

@@ -3,20 +3,21 @@ use mathlib.Core.Path.{_≡_, refl}
 use mathlib.Core.Bool.{cond}
 use mathlib.Core.List.{List, [], _∷_, _++_, map}
 use Prim.Native.Nat.{ℕ}
+use Rattle.rules.specs.Characters.{code, bytes}
 use Rattle.value.specs.Printed.{natural, printed, printedWhole}
 use Rattle.language.specs.Listing.{Line, lpLine, rowLine, varLine, colLine, endLine, fields, upperField, bytesOf}
 
 abbrev pub wordOf : Line → List ℕ
-wordOf (lpLine a b c d s t) = 108 ∷ 112 ∷ []
-wordOf (rowLine n q v s e) = 114 ∷ 111 ∷ 119 ∷ []
-wordOf (varLine n d l u s e) = 118 ∷ 97 ∷ 114 ∷ []
-wordOf (colLine j i v) = 99 ∷ 111 ∷ 108 ∷ []
-wordOf endLine = 101 ∷ 110 ∷ 100 ∷ []
+wordOf (lpLine a b c d s t) = bytes "lp"
+wordOf (rowLine n q v s e) = bytes "row"
+wordOf (varLine n d l u s e) = bytes "var"
+wordOf (colLine j i v) = bytes "col"
+wordOf endLine = bytes "end"
 
 abbrev pub fieldsOf : Line → List (List ℕ)
 fieldsOf (lpLine a b c d s t) = natural a ∷ natural b ∷ natural c ∷ natural d ∷ s ∷ t ∷ []
-fieldsOf (rowLine n q v s e) = natural n ∷ (cond q 69 76 ∷ []) ∷ printed v ∷ s ∷ map printedWhole e
-fieldsOf (varLine n d l u s e) = natural n ∷ (cond d 68 67 ∷ []) ∷ printed l ∷ upperField u ∷ s ∷ map printedWhole e
+fieldsOf (rowLine n q v s e) = natural n ∷ (cond q (code "E") (code "L") ∷ []) ∷ printed v ∷ s ∷ map printedWhole e
+fieldsOf (varLine n d l u s e) = natural n ∷ (cond d (code "D") (code "C") ∷ []) ∷ printed l ∷ upperField u ∷ s ∷ map printedWhole e
 fieldsOf (colLine j i v) = natural j ∷ natural i ∷ printed v ∷ []
 fieldsOf endLine = []
 

@@ -8,6 +8,7 @@ use native.Mathlib.Omega.{arith}
 use lib.Dec.{lit<}
 use lib.ListN.{getD, replicate}
 use lib.IntN.{ℤ}
+use Rattle.rules.specs.Characters.{code, tab, lineFeed}
 use Rattle.value.specs.Printed.{printedWhole}
 use Rattle.value.proofs.ReadBack.{printed-unique}
 use Rattle.language.specs.Listing.{Line, lpLine, rowLine, varLine, colLine, endLine, fields, bytesOf, bytesOfAll}
@@ -41,8 +42,8 @@ wholes-text (k ∷ e) = (whole-text k, wholes-text e)
 
 fields-text : (l : Line) → Proper l → All Text (fieldsOf l)
 fields-text (lpLine a b c d s t) h = (natural-text a, (natural-text b, (natural-text c, (natural-text d, (h .title, (h .data-title, tt))))))
-fields-text (rowLine n q v s e) h = (natural-text n, (kind-text 69 76 (omega arith) (omega arith) q, (printed-text v, (h .title, wholes-text e))))
-fields-text (varLine n d l u s e) h = (natural-text n, (kind-text 68 67 (omega arith) (omega arith) d, (printed-text l, (upper-text u, (h .name, wholes-text e)))))
+fields-text (rowLine n q v s e) h = (natural-text n, (kind-text (code "E") (code "L") (omega arith) (omega arith) q, (printed-text v, (h .title, wholes-text e))))
+fields-text (varLine n d l u s e) h = (natural-text n, (kind-text (code "D") (code "C") (omega arith) (omega arith) d, (printed-text l, (upper-text u, (h .name, wholes-text e)))))
 fields-text (colLine j i v) h = (natural-text j, (natural-text i, (printed-text v, tt)))
 fields-text endLine h = tt
 
@@ -50,11 +51,11 @@ parts-text : (l : Line) → Proper l → All Text (partsOf l)
 parts-text l h = (word-text l, fields-text l h)
 
 -- a line has one line feed, its last byte
-pub line-feed : (l : Line) → Proper l → (s : List ℕ) × (bytesOf l ≡ s ++ (10 ∷ [])) × All NoLineFeed s
+pub line-feed : (l : Line) → Proper l → (s : List ℕ) × (bytesOf l ≡ s ++ (lineFeed ∷ [])) × All NoLineFeed s
 line-feed l h =
     let k = fields-line (fieldsOf l) (fields-text l h) in (
       wordOf l ++ k .0,
-      bytes-parts l ∙ ap (λ r. wordOf l ++ r) (k .1) ∙ sym (append-assoc (wordOf l) (k .0) (10 ∷ [])),
+      bytes-parts l ∙ ap (λ r. wordOf l ++ r) (k .1) ∙ sym (append-assoc (wordOf l) (k .0) (lineFeed ∷ [])),
       all-append NoLineFeed (wordOf l) (k .0) (text-line (wordOf l) (word-text l)) (k .2),
     )
 
@@ -91,7 +92,7 @@ parts-once (lpLine a b c d s t) (colLine k l w) h h′ e = absurd (apart e (omeg
 parts-once (lpLine a b c d s t) endLine h h′ e = absurd (apart e (omega arith))
 parts-once (rowLine n q v s x) (rowLine m p w r y) h h′ e =
     let en : n ≡ m = natural-once n m (h .number) (h′ .number) (cc) in
-    let eq : q ≡ p = kind-once 69 76 (omega arith) q p (cc) in
+    let eq : q ≡ p = kind-once (code "E") (code "L") (omega arith) q p (cc) in
     let ev : v ≡ w = printed-unique v w (h .right) (h′ .right) (cc) in
     let ex : x ≡ y = wholes-once x y (h .element) (h′ .element) (cc) in
     cc
@@ -101,7 +102,7 @@ parts-once (rowLine n q v s x) (colLine k l w) h h′ e = absurd (apart e (omega
 parts-once (rowLine n q v s x) endLine h h′ e = absurd (apart e (omega arith))
 parts-once (varLine n q v u s x) (varLine m p w o r y) h h′ e =
     let en : n ≡ m = natural-once n m (h .number) (h′ .number) (cc) in
-    let eq : q ≡ p = kind-once 68 67 (omega arith) q p (cc) in
+    let eq : q ≡ p = kind-once (code "D") (code "C") (omega arith) q p (cc) in
     let ev : v ≡ w = printed-unique v w (h .lower) (h′ .lower) (cc) in
     let eu : u ≡ o = upper-once u o (h .upper) (h′ .upper) (cc) in
     let ex : x ≡ y = wholes-once x y (h .element) (h′ .element) (cc) in
@@ -129,7 +130,7 @@ parts-once endLine (colLine k l w) h h′ e = absurd (apart e (omega arith))
 line-once : (k l : Line) (r t : List ℕ) → Proper k → Proper l → bytesOf k ++ r ≡ bytesOf l ++ t → (k ≡ l) × (r ≡ t)
 unfolding fields
 line-once k l r t hk hl e =
-    let e′ : fields (partsOf k) ++ r ≡ fields (partsOf l) ++ t = ap (λ f. 9 ∷ f) (ap (λ f. f ++ r) (sym (bytes-parts k)) ∙ e ∙ ap (λ f. f ++ t) (bytes-parts l)) in
+    let e′ : fields (partsOf k) ++ r ≡ fields (partsOf l) ++ t = ap (λ f. tab ∷ f) (ap (λ f. f ++ r) (sym (bytes-parts k)) ∙ e ∙ ap (λ f. f ++ t) (bytes-parts l)) in
     let p = fields-once (partsOf k) (partsOf l) r t (parts-text k hk) (parts-text l hl) e′ in
     (parts-once k l hk hl (p .0), p .1)
 

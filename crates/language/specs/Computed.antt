@@ -3,6 +3,7 @@
 use mathlib.Core.List.{List, [], _∷_}
 use Prim.Native.Nat.{ℕ}
 use Rattle.value.specs.declared.Value.{Value}
+use Rattle.rules.specs.Characters.{bytes}
 use Rattle.rules.specs.Limits.{byteLimit, tokenLimit, nameLength, stringLength, digitLimit, mantissaLimit, scaleLimit, nameLimit, constraintLimit, dataLimit, variableLimit, rowLimit, nestingLimit, runLimit, indexLimit}
 use Rattle.value.specs.Fraction.{_⊕_, _⊗_}
 use Rattle.value.specs.Decimal.{tenths, frac, withSign, seek, choose, fitOf, sumOf, productOf, negate, isAtMost, isZero, wholeOf, ofWhole}
@@ -28,7 +29,7 @@ use Rattle.language.specs.Syntax as Syntax
 
 unfoldable formulaText : List ℕ → Outcome Value
 formulaText text = do
-  f ← whatOf (formulaAt (record { spelling = 105 ∷ []; place = 0; sort = Syntax.index } ∷ []) nestingLimit (tokens text))
+  f ← whatOf (formulaAt (record { spelling = bytes "i"; place = 0; sort = Syntax.index } ∷ []) nestingLimit (tokens text))
   eval f (scopeOf [])
 
 unfoldable opened : (List ℕ → ℕ → Answer) × (List ℕ → Outcome Value)

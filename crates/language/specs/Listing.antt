@@ -6,6 +6,7 @@ use Prim.Native.Nat.{ℕ, zero, suc}
 use lib.Dec.{ltb}
 use lib.ListN.{length, getD}
 use lib.IntN.{ℤ}
+use Rattle.rules.specs.Characters.{code, bytes, tab, lineFeed}
 use Rattle.value.specs.declared.Value.{Value}
 use Rattle.value.specs.Decimal.{zeroValue, isZero}
 use Rattle.value.specs.Printed.{natural, printed, printedWhole}
@@ -70,24 +71,20 @@ linesOf m p =
 -- ---- the bytes of a line: fields parted by one tab, a line feed at the end
 
 unfoldable pub fields : List (List ℕ) → List ℕ
-fields [] = 10 ∷ []
-fields (f ∷ fs) = 9 ∷ (f ++ fields fs)
+fields [] = lineFeed ∷ []
+fields (f ∷ fs) = tab ∷ (f ++ fields fs)
 
 unfoldable pub upperField : Option Value → List ℕ
-upperField none = 105 ∷ 110 ∷ 102 ∷ []  -- inf
+upperField none = bytes "inf"
 upperField (some v) = printed v
 
 unfoldable pub bytesOf : Line → List ℕ
--- lp; without a data section its last field is empty (decision 42)
-bytesOf (lpLine a b c d s t) = 108 ∷ 112 ∷ fields (natural a ∷ natural b ∷ natural c ∷ natural d ∷ s ∷ t ∷ [])
--- row; E or L
-bytesOf (rowLine n q v s e) = 114 ∷ 111 ∷ 119 ∷ fields (natural n ∷ (cond q 69 76 ∷ []) ∷ printed v ∷ s ∷ map printedWhole e)
--- var; D or C
-bytesOf (varLine n d l u s e) = 118 ∷ 97 ∷ 114 ∷ fields (natural n ∷ (cond d 68 67 ∷ []) ∷ printed l ∷ upperField u ∷ s ∷ map printedWhole e)
--- col
-bytesOf (colLine j i v) = 99 ∷ 111 ∷ 108 ∷ fields (natural j ∷ natural i ∷ printed v ∷ [])
--- end
-bytesOf endLine = 101 ∷ 110 ∷ 100 ∷ fields []
+-- without a data section the last field of `lp` is empty (decision 42)
+bytesOf (lpLine a b c d s t) = bytes "lp" ++ fields (natural a ∷ natural b ∷ natural c ∷ natural d ∷ s ∷ t ∷ [])
+bytesOf (rowLine n q v s e) = bytes "row" ++ fields (natural n ∷ (cond q (code "E") (code "L") ∷ []) ∷ printed v ∷ s ∷ map printedWhole e)
+bytesOf (varLine n d l u s e) = bytes "var" ++ fields (natural n ∷ (cond d (code "D") (code "C") ∷ []) ∷ printed l ∷ upperField u ∷ s ∷ map printedWhole e)
+bytesOf (colLine j i v) = bytes "col" ++ fields (natural j ∷ natural i ∷ printed v ∷ [])
+bytesOf endLine = bytes "end" ++ fields []
 
 -- each line is written from the byte where the last one ended
 unfoldable pub bytesOfAll : List Line → List ℕ

@@ -4,20 +4,16 @@ use mathlib.Core.Path.{_≡_, refl}
 use mathlib.Core.Bool.{true, false}
 use mathlib.Core.List.{List, [], _∷_, map}
 use Prim.Native.Nat.{ℕ}
-use Prim.Native.Char.{code}
-use Prim.Native.String.{String, [] as []ˢ, _∷_ as _∷ˢ_}
+use Prim.Native.String.{String}
 use lib.IntN.{pos}
 use lib.ListN.{replicate}
 use Rattle.rules.specs.declared.Refusal.the-variants.{LongText, StrangeByte, Misplaced, BadName, Unfit, Full}
+use Rattle.rules.specs.Characters.{bytes, space}
 use Rattle.rules.specs.Limits.{byteLimit, tokenLimit, nameLength, stringLength, digitLimit, mantissaLimit, scaleLimit}
 use Rattle.value.specs.Decimal.{tenths, withSign, seek, choose, fitOf}
 use Rattle.value.specs.Literal.{isDigit, allDigits, digitOf, numberFrom, before, after, isLiteral, literalOf}
 use Rattle.lexer.specs.Marks.{plusSign, minusSign, timesSign, comma, semicolon, colon, equals, atMost, atLeast, opens, closes, opensList, closesList, openWord, closeWord, maximizeWord, minimizeWord, initWord, sumWord, sigmaWord, indexWord, integerWord, realWord, formulaWord, discreteWord, continuousWord, capitalWords, smallWords}
 use Rattle.lexer.specs.Text.{Kind, mark, name, literal, string, end, wrong, Token, front, behind, sameBytes, isBlank, isSmall, inName, among, nameStep, isCapital, wordStep, isSign, orderStep, literalKind, valued, pointed, literalStep, noBrace, inString, strange, wellShaped, stringStep, stepAt, isWrong, tokensFrom, uncounted, counted, tokens}
-
-unfoldable bytes : String → List ℕ
-bytes []ˢ = []
-bytes (c ∷ˢ s) = code c ∷ bytes s
 
 -- a token of the kind k at p
 infixl 70 _at_
@@ -39,7 +35,6 @@ abbrev case : String → List Token → Case
 case t l = record { text = bytes t; gives = l }
 
 unfoldable cases : List Case
-unfolding bytes
 cases =
     -- blanks
     case "" (end at 0 ∷ [])
@@ -93,17 +88,16 @@ cases =
     ∷ case " ?" (wrong StrangeByte at 1 ∷ [])
     ∷ case "}" (wrong StrangeByte at 0 ∷ [])
     -- a text of 16,385 bytes
-    ∷ record { text = replicate 16385 32; gives = wrong LongText at 16384 ∷ [] }
+    ∷ record { text = replicate 16385 space; gives = wrong LongText at 16384 ∷ [] }
     ∷ []
 
 cases-hold : map (λ (c : Case). tokens (c .text)) cases ≡ map (λ (c : Case). c .gives) cases
-unfolding cases bytes byteLimit tokenLimit nameLength stringLength digitLimit mantissaLimit scaleLimit tenths withSign seek choose fitOf isDigit allDigits digitOf numberFrom before after isLiteral literalOf capitalWords smallWords front behind sameBytes isBlank isSmall inName among nameStep isCapital wordStep isSign orderStep literalKind valued pointed literalStep noBrace inString strange wellShaped stringStep stepAt isWrong tokensFrom uncounted counted tokens
+unfolding cases byteLimit tokenLimit nameLength stringLength digitLimit mantissaLimit scaleLimit tenths withSign seek choose fitOf isDigit allDigits digitOf numberFrom before after isLiteral literalOf capitalWords smallWords front behind sameBytes isBlank isSmall inName among nameStep isCapital wordStep isSign orderStep literalKind valued pointed literalStep noBrace inString strange wellShaped stringStep stepAt isWrong tokensFrom uncounted counted tokens
 cases-hold = refl
 
 -- ---- at most two tokens before `INIT` or `CLOSE`
 
 unfoldable counts : List Case
-unfolding bytes
 counts =
     case "a b" (name (bytes "a") at 0 ∷ name (bytes "b") at 2 ∷ end at 3 ∷ [])
     ∷ case "a b c d" (name (bytes "a") at 0 ∷ name (bytes "b") at 2 ∷ wrong Full at 4 ∷ [])
@@ -113,5 +107,5 @@ counts =
     ∷ []
 
 counts-hold : map (λ (c : Case). counted 2 (tokensFrom 0 0 (c .text))) counts ≡ map (λ (c : Case). c .gives) counts
-unfolding counts bytes nameLength isDigit capitalWords smallWords front behind sameBytes isBlank isSmall inName among nameStep isCapital wordStep isSign pointed stepAt isWrong tokensFrom uncounted counted
+unfolding counts nameLength isDigit capitalWords smallWords front behind sameBytes isBlank isSmall inName among nameStep isCapital wordStep isSign pointed stepAt isWrong tokensFrom uncounted counted
 counts-hold = refl

@@ -6,6 +6,7 @@ use Prim.Native.Nat.{ℕ, _+_, _-_, _<_, _≤_}
 use lib.Dec.{eqb}
 use lib.ListN.{length, drop}
 use Rattle.rules.specs.declared.Refusal.the-variants.{StrangeByte, Unfit}
+use Rattle.rules.specs.Characters.{code}
 use Rattle.value.specs.declared.Fit.{Fit}
 use Rattle.value.specs.declared.Fit.the-variants.{Fits, TooBig}
 use Rattle.value.specs.Literal.{isDigit}
@@ -57,11 +58,11 @@ pub record PointAfter (s : List ℕ) (at w : ℕ) : Type 0 where
 
 -- parts of the definition's `literalStep` and `stepAt`
 abbrev pub fractionStep : ℕ → List ℕ → Text.Step
-fractionStep p l = valued false p (front isDigit l ++ (46 ∷ front isDigit (drop 1 (behind isDigit l))))
+fractionStep p l = valued false p (front isDigit l ++ (code "." ∷ front isDigit (drop 1 (behind isDigit l))))
 
 abbrev pub otherStep : ℕ → ℕ → List ℕ → Text.Step
 otherStep p b t =
-    cond (eqb b 123) (stringStep p (front noBrace t) (behind noBrace t))
-    (cond (eqb b 60) (orderStep p atMost t)
-    (cond (eqb b 62) (orderStep p atLeast t)
+    cond (eqb b (code "{")) (stringStep p (front noBrace t) (behind noBrace t))
+    (cond (eqb b (code "<")) (orderStep p atMost t)
+    (cond (eqb b (code ">")) (orderStep p atLeast t)
     (step (wrong StrangeByte) p 0)))

@@ -8,6 +8,7 @@ use lib.Dec.{eqb, leb}
 use lib.ListN.{length, drop}
 use Rattle.rules.specs.declared.Refusal.{Refusal}
 use Rattle.rules.specs.declared.Refusal.the-variants.{LongText, StrangeByte, Misplaced, BadName, Unfit, Full}
+use Rattle.rules.specs.Characters.{code, space, tab, lineFeed, carriageReturn}
 use Rattle.rules.specs.Limits.{byteLimit, tokenLimit, nameLength, stringLength}
 use Rattle.value.specs.declared.Value.{Value}
 use Rattle.value.specs.declared.Fit.{Fit}
@@ -55,13 +56,13 @@ sameBytes (a ∷ s) (b ∷ t) = elim (eqb a b) [ true ↦ sameBytes s t | false 
 -- ---- blanks are space, tab, line feed and carriage return
 
 unfoldable pub isBlank : ℕ → Bool
-isBlank b = eqb b 32 || eqb b 9 || eqb b 10 || eqb b 13
+isBlank b = eqb b space || eqb b tab || eqb b lineFeed || eqb b carriageReturn
 
 -- ---- names are a lower-case letter, then lower-case letters and digits, at most 15 bytes; the six words are not names, but
 -- kinds of their own (decision 6)
 
 unfoldable pub isSmall : ℕ → Bool
-isSmall b = leb 97 b && leb b 122
+isSmall b = leb (code "a") b && leb b (code "z")
 
 unfoldable pub inName : ℕ → Bool
 inName b = isSmall b || isDigit b
@@ -77,7 +78,7 @@ nameStep p l = step (among smallWords l (cond (leb (length l) nameLength) (name 
 -- ---- capital words: a run of capitals is one token, misshapen if it is none of them
 
 unfoldable pub isCapital : ℕ → Bool
-isCapital b = leb 65 b && leb b 90
+isCapital b = leb (code "A") b && leb b (code "Z")
 
 unfoldable pub wordStep : ℕ → List ℕ → Step
 wordStep p l = step (among capitalWords l (wrong Misplaced)) p (length l)
@@ -85,11 +86,13 @@ wordStep p l = step (among capitalWords l (wrong Misplaced)) p (length l)
 -- ---- signs: + - * , ; : = ( ) [ ] and `<=`, `>=`; a lone `<` or `>` starts no token (decision 1)
 
 unfoldable pub isSign : ℕ → Bool
-isSign b = eqb b 43 || eqb b 45 || eqb b 42 || eqb b 44 || eqb b 59 || eqb b 58 || eqb b 61 || eqb b 40 || eqb b 41 || eqb b 91 || eqb b 93
+isSign b =
+    eqb b (code "+") || eqb b (code "-") || eqb b (code "*") || eqb b (code ",") || eqb b (code ";") || eqb b (code ":")
+    || eqb b (code "=") || eqb b (code "(") || eqb b (code ")") || eqb b (code "[") || eqb b (code "]")
 
 unfoldable pub orderStep : ℕ → ℕ → List ℕ → Step
 orderStep p k [] = step (wrong StrangeByte) p 0
-orderStep p k (b ∷ t) = cond (eqb b 61) (step (mark k) p 2) (step (wrong StrangeByte) p 0)
+orderStep p k (b ∷ t) = cond (eqb b (code "=")) (step (mark k) p 2) (step (wrong StrangeByte) p 0)
 
 -- ---- literals: digits, digits.digits or .digits; a point with no digit behind it starts no token (decision 1). A literal of
 -- more than 18 digits is one token, 5 at its first byte (decision 3)
@@ -105,19 +108,19 @@ valued w p l = step (literalKind w (literalOf l)) p (length l)
 unfoldable pub pointed : List ℕ → Bool
 pointed [] = false
 pointed (b ∷ []) = false
-pointed (b ∷ c ∷ t) = eqb b 46 && isDigit c
+pointed (b ∷ c ∷ t) = eqb b (code ".") && isDigit c
 
 -- the digits w at the front, and what stands behind them
 unfoldable pub literalStep : ℕ → List ℕ → List ℕ → Step
-literalStep p w r = elim (pointed r) [ true ↦ valued false p (w ++ (46 ∷ front isDigit (drop 1 r))) | false ↦ valued true p w ]
+literalStep p w r = elim (pointed r) [ true ↦ valued false p (w ++ (code "." ∷ front isDigit (drop 1 r))) | false ↦ valued true p w ]
 
 -- ---- a string is `{`, 1 to 60 bytes from 32 to 126 other than braces, `}`; another length, or no end, is misshapen at its `{`
 
 unfoldable pub noBrace : ℕ → Bool
-noBrace b = not (eqb b 125)
+noBrace b = not (eqb b (code "}"))
 
 unfoldable pub inString : ℕ → Bool
-inString b = leb 32 b && leb b 126 && not (eqb b 123)
+inString b = leb 32 b && leb b 126 && not (eqb b (code "{"))
 
 -- it reaches to its `}` or to the text's end: first the first byte that may not stand in it, wherever it stands, then the
 -- shape (decision 4); `e` is what the string is where every byte may stand
@@ -141,9 +144,9 @@ stepAt p b t =
     (cond (isDigit b || pointed (b ∷ t)) (literalStep p (front isDigit (b ∷ t)) (behind isDigit (b ∷ t)))
     (cond (isSmall b) (nameStep p (front inName (b ∷ t)))
     (cond (isCapital b) (wordStep p (front isCapital (b ∷ t)))
-    (cond (eqb b 123) (stringStep p (front noBrace t) (behind noBrace t))
-    (cond (eqb b 60) (orderStep p atMost t)
-    (cond (eqb b 62) (orderStep p atLeast t)
+    (cond (eqb b (code "{")) (stringStep p (front noBrace t) (behind noBrace t))
+    (cond (eqb b (code "<")) (orderStep p atMost t)
+    (cond (eqb b (code ">")) (orderStep p atLeast t)
     (step (wrong StrangeByte) p 0)))))))
 
 -- ---- the tokens of a text

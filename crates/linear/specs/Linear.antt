@@ -4,6 +4,7 @@ use mathlib.Core.Bool.{Bool, true, false}
 use mathlib.Core.List.{List}
 use Prim.Native.Nat.{ℕ}
 use Rattle.rules.specs.Limits.{tokenLimit}
+use Rattle.lexer.specs.Marks.{sigmaWord}
 use Rattle.language.specs.Syntax.{Name, Term, Form}
 use Rattle.language.specs.Reader.{Reader}
 use Rattle.language.specs.Linear.{Head, aSigma, aVariable, aPrimary, headBy, noSigma, linearTerm, linearTerms, Linear, linearOf, bodyOf, sigmaAt, linearAt}
@@ -16,9 +17,9 @@ abbrev pub Heads : Head → Bool → ℕ → Found → Type 0
 Heads (aVariable i d) sigmas k (found.Name ι j c) = (i ≡ ι) × (size d ≡ c)
 Heads (aVariable i d) sigmas k found.Nothing = ⊥
 Heads aSigma sigmas k (found.Name ι j c) = ⊥
-Heads aSigma sigmas k found.Nothing = (sigmas ≡ true) × (k ≡ 134)
+Heads aSigma sigmas k found.Nothing = (sigmas ≡ true) × (k ≡ sigmaWord)
 Heads aPrimary sigmas k (found.Name ι j c) = ⊥
-Heads aPrimary sigmas k found.Nothing = sigmas ≡ true → k ≡ 134 → ⊥
+Heads aPrimary sigmas k found.Nothing = sigmas ≡ true → k ≡ sigmaWord → ⊥
 
 pub record Begins (s ns : List ℕ) (k p x : ℕ) (r : Found) : Type 0 where
   pub heads : (names : List Name) → Named s ns names → (sigmas : Bool) → Heads (headBy names sigmas (kindOf s k p x)) sigmas k r

@@ -11,6 +11,7 @@ use mir.Facts.{toZ-pos}
 use lib.Dec.{leb}
 use lib.ListN.{length, take, length-append, length-take}
 use lib.IntN.{ℤ, pos, natAbs}
+use Rattle.rules.specs.Characters.{bytes}
 use Rattle.rules.specs.Limits.{mantissaLimit, scaleLimit, byteLimit}
 use Rattle.value.specs.declared.Value.{Value}
 use Rattle.value.specs.Decimal.{inRange, ofWhole}
@@ -89,7 +90,7 @@ module _ (n : ℕ) where
 
 -- ---- an upper bound
 
-pub upper-none : (u : Upper) → u ≡ None → shownUpper (bound u) ≡ 105 ∷ 110 ∷ 102 ∷ []
+pub upper-none : (u : Upper) → u ≡ None → shownUpper (bound u) ≡ bytes "inf"
 unfolding shownUpper bound
 upper-none u e = rw e
 

@@ -12,6 +12,7 @@ use lib.ListN.{length, take, drop, getD, set, replicate, length-set, drop-of-len
 use lib.Seq.{sets, set-out, take-length, take-nil, drop-nil, drop-length, drop-cons}
 use lib.IntN.{ℤ, pos}
 use borrow.Rule.Slice.PartMut.{putMid}
+use Rattle.rules.specs.Characters.{bytes, tab, lineFeed}
 use Rattle.value.specs.Printed.{Written}
 use Rattle.value.proofs.Writing.{written-none, written-then, written-rest}
 use Rattle.language.specs.Listing.{Line, endLine, fields}
@@ -46,34 +47,34 @@ unfolding shownLine
 line-then k w v = written-then _ _ _ _ _ _ _ _ w v
 
 -- a field's tab, and what follows it in the field
-pub tab-then : {l : List ℕ} {at r : ℕ} {l′ f : List ℕ} {r′ : ℕ} {l″ : List ℕ} → Written l at (9 ∷ []) r l′ → Written l′ r f r′ l″ → Written l at (9 ∷ f) r′ l″
+pub tab-then : {l : List ℕ} {at r : ℕ} {l′ f : List ℕ} {r′ : ℕ} {l″ : List ℕ} → Written l at (tab ∷ []) r l′ → Written l′ r f r′ l″ → Written l at (tab ∷ f) r′ l″
 tab-then w v = written-then _ _ _ _ _ _ _ _ w v
 
 pub field-then : {l : List ℕ} {at : ℕ} {f : List ℕ} {r : ℕ} {l′ : List ℕ} (fs : List (List ℕ)) {r′ : ℕ} {l″ : List ℕ}
-    → Written l at (9 ∷ f) r l′ → Written l′ r (fields fs) r′ l″ → Written l at (fields (f ∷ fs)) r′ l″
+    → Written l at (tab ∷ f) r l′ → Written l′ r (fields fs) r′ l″ → Written l at (fields (f ∷ fs)) r′ l″
 unfolding fields
 field-then fs w v = written-then _ _ _ _ _ _ _ _ w v
 
-pub line-end : {l : List ℕ} {at r : ℕ} {l′ : List ℕ} → Written l at (10 ∷ []) r l′ → Written l at (fields []) r l′
+pub line-end : {l : List ℕ} {at r : ℕ} {l′ : List ℕ} → Written l at (lineFeed ∷ []) r l′ → Written l at (fields []) r l′
 unfolding fields
 line-end w = w
 
-pub end-line : {l : List ℕ} {r : ℕ} {l′ : List ℕ} → Written l 0 (101 ∷ 110 ∷ 100 ∷ 10 ∷ []) r l′ → Written l 0 (shownLine endLine) r l′
+pub end-line : {l : List ℕ} {r : ℕ} {l′ : List ℕ} → Written l 0 (bytes "end\n") r l′ → Written l 0 (shownLine endLine) r l′
 unfolding shownLine fields
 end-line w = w
 
 pub refused-then : (n p : ℕ) {l : List ℕ} {r : ℕ} {l′ : List ℕ} {r′ : ℕ} {l″ : List ℕ}
-    → Written l 0 (114 ∷ 101 ∷ 102 ∷ 117 ∷ 115 ∷ 101 ∷ 100 ∷ []) r l′ → Written l′ r (fields (shownNatural n ∷ shownNatural p ∷ [])) r′ l″ → Written l 0 (shownRefused n p) r′ l″
+    → Written l 0 (bytes "refused") r l′ → Written l′ r (fields (shownNatural n ∷ shownNatural p ∷ [])) r′ l″ → Written l 0 (shownRefused n p) r′ l″
 unfolding shownRefused
 refused-then n p w v = written-then _ _ _ _ _ _ _ _ w v
 
 -- index value i, and the last
 module _ (f : ℤ → List ℕ) (e : List ℤ) (i : ℕ) {l : List ℕ} {at : ℕ} {text l′ : List ℕ} {at′ r : ℕ} {l″ : List ℕ} where
-  pub element-more : Left l at text l′ at′ (fields (map f (drop i e))) → i < length e → Written l′ at′ (9 ∷ f (getD e i (pos 0))) r l″ → Left l at text l″ r (fields (map f (drop (i + 1) e)))
+  pub element-more : Left l at text l′ at′ (fields (map f (drop i e))) → i < length e → Written l′ at′ (tab ∷ f (getD e i (pos 0))) r l″ → Left l at text l″ r (fields (map f (drop (i + 1) e)))
   unfolding fields
-  element-more h b w = left-more (9 ∷ f (getD e i (pos 0))) (fields (map f (drop (i + 1) e))) (rw (add-one, drop-cons e i (pos 0) b)) h w
+  element-more h b w = left-more (tab ∷ f (getD e i (pos 0))) (fields (map f (drop (i + 1) e))) (rw (add-one, drop-cons e i (pos 0) b)) h w
 
-  pub element-end : Left l at text l′ at′ (fields (map f (drop i e))) → length e ≤ i → Written l′ at′ (10 ∷ []) r l″ → Written l at text r l″
+  pub element-end : Left l at text l′ at′ (fields (map f (drop i e))) → length e ≤ i → Written l′ at′ (lineFeed ∷ []) r l″ → Written l at text r l″
   element-end h b w = h .whole r l″ (rw (drop-of-length-le e {i = i} b) (line-end w))
 
 -- ---- the rest of an output, lent and given back

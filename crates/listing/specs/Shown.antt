@@ -5,6 +5,7 @@ use mathlib.Core.Option.{Option, none, some}
 use mathlib.Core.List.{List, [], _∷_, _++_, map}
 use Prim.Native.Nat.{ℕ}
 use lib.IntN.{ℤ, pos}
+use Rattle.rules.specs.Characters.{code, bytes}
 use Rattle.value.specs.declared.Value.{Value}
 use Rattle.value.specs.Decimal.{ofWhole}
 use Rattle.value.specs.Printed.{shown}
@@ -18,13 +19,13 @@ unfoldable pub shownNatural : ℕ → List ℕ
 shownNatural n = shownWhole (pos n)
 
 unfoldable pub shownUpper : Option Value → List ℕ
-shownUpper none = 105 ∷ 110 ∷ 102 ∷ []  -- inf
+shownUpper none = bytes "inf"
 shownUpper (some v) = shown v
 
 abbrev pub shownFields : Line → List (List ℕ)
 shownFields (lpLine a b c d s t) = shownNatural a ∷ shownNatural b ∷ shownNatural c ∷ shownNatural d ∷ s ∷ t ∷ []
-shownFields (rowLine n q v s e) = shownNatural n ∷ (cond q 69 76 ∷ []) ∷ shown v ∷ s ∷ map shownWhole e  -- E or L
-shownFields (varLine n d l u s e) = shownNatural n ∷ (cond d 68 67 ∷ []) ∷ shown l ∷ shownUpper u ∷ s ∷ map shownWhole e  -- D or C
+shownFields (rowLine n q v s e) = shownNatural n ∷ (cond q (code "E") (code "L") ∷ []) ∷ shown v ∷ s ∷ map shownWhole e
+shownFields (varLine n d l u s e) = shownNatural n ∷ (cond d (code "D") (code "C") ∷ []) ∷ shown l ∷ shownUpper u ∷ s ∷ map shownWhole e
 shownFields (colLine j i v) = shownNatural j ∷ shownNatural i ∷ shown v ∷ []
 shownFields endLine = []
 
@@ -37,4 +38,4 @@ shownLines (l ∷ ls) = shownLine l ++ shownLines ls
 
 -- a refusal's line: `refused`, its number and its place, and a line feed (decision 43)
 unfoldable pub shownRefused : ℕ → ℕ → List ℕ
-shownRefused n p = (114 ∷ 101 ∷ 102 ∷ 117 ∷ 115 ∷ 101 ∷ 100 ∷ []) ++ fields (shownNatural n ∷ shownNatural p ∷ [])
+shownRefused n p = bytes "refused" ++ fields (shownNatural n ∷ shownNatural p ∷ [])

@@ -6,6 +6,7 @@ ghost use mathlib.Core.Bool.{cond};
 ghost use mathlib.Core.List.{[], _∷_, map};
 ghost use Prim.Native.Nat.{_+_, _<_, _≤_, _^_, min};
 ghost use lib.ListN.{length, take, replicate};
+ghost use Rattle.rules.specs.Characters.{tab};
 ghost use Rattle.rules.specs.Limits.{byteLimit};
 ghost use Rattle.value.specs.Printed.{shown, Written};
 ghost use Rattle.store.specs.Element.{listOf};
@@ -61,7 +62,7 @@ pub fn rest_from(n: usize, at: usize) -> usize
 
 fn text_field(out: &mut [u8], at: usize, t: &[u8]) -> usize
     requires { ⌜ at < 2 ^ 31 ⌝ }
-    ensures { λ r. ⌜ (Written (now (out .entry)) at (9 ∷ now (t .entry)) r (now (out .exit))) × (r ≤ at + 2 ^ 63) ⌝ }
+    ensures { λ r. ⌜ (Written (now (out .entry)) at (tab ∷ now (t .entry)) r (now (out .exit))) × (r ≤ at + 2 ^ 63) ⌝ }
 {
     let next = put(out, at, b'\t');
     put_text(out, next, t)
@@ -70,7 +71,7 @@ fn text_field(out: &mut [u8], at: usize, t: &[u8]) -> usize
 // A string of the first line, which has two: so that their sum fits, each is cut at the length of the longest text.
 fn title_field(out: &mut [u8], at: usize, t: &[u8]) -> usize
     requires { ⌜ at < 2 ^ 31 ⌝ }
-    ensures { λ r. ⌜ (Written (now (out .entry)) at (9 ∷ take byteLimit (now (t .entry))) r (now (out .exit))) × (r ≤ at + 16385) ⌝ }
+    ensures { λ r. ⌜ (Written (now (out .entry)) at (tab ∷ take byteLimit (now (t .entry))) r (now (out .exit))) × (r ≤ at + 16385) ⌝ }
 {
     text_field(out, at, lexer::part(t, 0, rules::BYTE_LIMIT))
 }
@@ -83,7 +84,7 @@ fn letter(first: bool, a: u8, b: u8) -> u8
 
 fn letter_field(out: &mut [u8], at: usize, b: u8) -> usize
     requires { ⌜ at < 2 ^ 31 ⌝ }
-    ensures { λ r. ⌜ (Written (now (out .entry)) at (9 ∷ b ∷ []) r (now (out .exit))) × (r ≤ at + 32) ⌝ }
+    ensures { λ r. ⌜ (Written (now (out .entry)) at (tab ∷ b ∷ []) r (now (out .exit))) × (r ≤ at + 32) ⌝ }
 {
     let next = put(out, at, b'\t');
     put(out, next, b)
@@ -91,7 +92,7 @@ fn letter_field(out: &mut [u8], at: usize, b: u8) -> usize
 
 fn value_field(out: &mut [u8], at: usize, v: value::Value) -> usize
     requires { ⌜ at < 2 ^ 63 + 2 ^ 31 ⌝ }
-    ensures { λ r. ⌜ (Written (now (out .entry)) at (9 ∷ shown v) r (now (out .exit))) × (r ≤ at + 32) ⌝ }
+    ensures { λ r. ⌜ (Written (now (out .entry)) at (tab ∷ shown v) r (now (out .exit))) × (r ≤ at + 32) ⌝ }
 {
     let next = put(out, at, b'\t');
     let from = rest_from(out.len(), next);
@@ -100,14 +101,14 @@ fn value_field(out: &mut [u8], at: usize, v: value::Value) -> usize
 
 fn whole_field(out: &mut [u8], at: usize, k: i64) -> usize
     requires { ⌜ at < 2 ^ 63 + 2 ^ 31 ⌝ }
-    ensures { λ r. ⌜ (Written (now (out .entry)) at (9 ∷ shownWhole k) r (now (out .exit))) × (r ≤ at + 32) ⌝ }
+    ensures { λ r. ⌜ (Written (now (out .entry)) at (tab ∷ shownWhole k) r (now (out .exit))) × (r ≤ at + 32) ⌝ }
 {
     value_field(out, at, value::of_whole(k))
 }
 
 fn number_field(out: &mut [u8], at: usize, n: usize) -> usize
     requires { ⌜ at < 2 ^ 31 ⌝ }
-    ensures { λ r. ⌜ (Written (now (out .entry)) at (9 ∷ shownNatural n) r (now (out .exit))) × (r ≤ at + 32) ⌝ }
+    ensures { λ r. ⌜ (Written (now (out .entry)) at (tab ∷ shownNatural n) r (now (out .exit))) × (r ≤ at + 32) ⌝ }
 {
     if n as u64 <= rules::MANTISSA_LIMIT {
         return whole_field(out, at, n as i64);
@@ -117,7 +118,7 @@ fn number_field(out: &mut [u8], at: usize, n: usize) -> usize
 
 fn upper_field(out: &mut [u8], at: usize, upper: Upper) -> usize
     requires { ⌜ at < 2 ^ 31 ⌝ }
-    ensures { λ r. ⌜ (Written (now (out .entry)) at (9 ∷ shownUpper (bound upper)) r (now (out .exit))) × (r ≤ at + 32) ⌝ }
+    ensures { λ r. ⌜ (Written (now (out .entry)) at (tab ∷ shownUpper (bound upper)) r (now (out .exit))) × (r ≤ at + 32) ⌝ }
 {
     match upper {
         Upper::None => text_field(out, at, b"inf"),

@@ -7,6 +7,7 @@ use native.Mathlib.Omega.{arith}
 use borrow.Author.Tests.{eq-eqb, ne-eqb}
 use lib.ListN.{length, take, replicate, length-append}
 use lib.Seq.{take-at, length-take-le}
+use Rattle.rules.specs.Characters.{tab, lineFeed}
 use Rattle.value.specs.Printed.{Written}
 use Rattle.language.specs.Outcome.{Outcome, done, refused}
 use Rattle.language.specs.Listing.{fields}
@@ -23,8 +24,8 @@ use Rattle.recipe.specs.Printed.{printedOf, Prints}
 line-most : (n p : ℕ) → length (shownRefused n p) ≤ 64
 unfolding shownRefused fields
 line-most n p =
-    let a = length-append (shownNatural n) (9 ∷ (shownNatural p ++ (10 ∷ []))) in
-    let b = length-append (shownNatural p) (10 ∷ []) in
+    let a = length-append (shownNatural n) (tab ∷ (shownNatural p ++ (lineFeed ∷ []))) in
+    let b = length-append (shownNatural p) (lineFeed ∷ []) in
     omega (arith, a, b, natural-most n, natural-most p)
 
 -- ---- the definition's answer

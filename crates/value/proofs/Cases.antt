@@ -3,18 +3,14 @@
 use mathlib.Core.Path.{_≡_, refl}
 use mathlib.Core.List.{List, [], _∷_, map}
 use Prim.Native.Nat.{ℕ}
-use Prim.Native.Char.{code}
-use Prim.Native.String.{String, [] as []ˢ, _∷_ as _∷ˢ_}
+use Prim.Native.String.{String}
 use lib.IntN.{pos}
+use Rattle.rules.specs.Characters.{bytes}
 use Rattle.rules.specs.Limits.{mantissaLimit, scaleLimit, digitLimit}
 use Rattle.value.specs.declared.Fit.{Fit}
 use Rattle.value.specs.declared.Fit.the-variants.{Fits, TooBig}
 use Rattle.value.specs.Decimal.{tenths, withSign, seek, choose, fitOf}
 use Rattle.value.specs.Literal.{isDigit, allDigits, digitOf, numberFrom, before, after, isLiteral, literalOf}
-
-unfoldable pub bytes : String → List ℕ
-bytes []ˢ = []
-bytes (c ∷ˢ s) = code c ∷ bytes s
 
 record Case : Type 0 where
   text : String
@@ -37,5 +33,5 @@ cases =
     []
 
 cases-hold : map (λ (c : Case). literalOf (bytes (c .text))) cases ≡ map (λ (c : Case). c .expected) cases
-unfolding cases value bytes literalOf isLiteral isDigit allDigits numberFrom digitOf before after tenths fitOf choose seek withSign mantissaLimit scaleLimit digitLimit
+unfolding cases value literalOf isLiteral isDigit allDigits numberFrom digitOf before after tenths fitOf choose seek withSign mantissaLimit scaleLimit digitLimit
 cases-hold = refl

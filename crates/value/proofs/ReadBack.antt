@@ -13,6 +13,7 @@ use lib.Arith.{mod-mul}
 use lib.ListN.{length, length-append}
 use lib.Pow.{pow-add}
 use lib.IntN.{ℤ, pos, negsuc, negℤ, natAbs}
+use Rattle.rules.specs.Characters.{code}
 use Rattle.rules.specs.Limits.{mantissaLimit, scaleLimit, digitLimit}
 use Rattle.value.specs.declared.Value.{Value}
 use Rattle.value.specs.declared.Fit.{Fit}
@@ -33,7 +34,7 @@ opposite TooBig = TooBig
 
 unfoldable pub readBack : List ℕ → Fit
 readBack [] = literalOf []
-readBack (b ∷ t) = cond (eqb b 45) (opposite (literalOf t)) (literalOf (b ∷ t))
+readBack (b ∷ t) = cond (eqb b (code "-")) (opposite (literalOf t)) (literalOf (b ∷ t))
 
 -- ---- the digits of a number
 

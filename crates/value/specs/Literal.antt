@@ -6,13 +6,14 @@ use Prim.Native.Nat.{ℕ, zero, suc, _+_, _-_, _*_, _^_}
 use lib.Dec.{leb, eqb}
 use lib.ListN.{length}
 use lib.IntN.{pos}
+use Rattle.rules.specs.Characters.{code}
 use Rattle.rules.specs.Limits.{digitLimit}
 use Rattle.value.specs.declared.Fit.{Fit}
 use Rattle.value.specs.declared.Fit.the-variants.{TooBig}
 use Rattle.value.specs.Decimal.{tenths, fitOf}
 
 unfoldable pub isDigit : ℕ → Bool
-isDigit b = leb 48 b && leb b 57
+isDigit b = leb (code "0") b && leb b (code "9")
 
 unfoldable pub allDigits : List ℕ → Bool
 allDigits [] = true
@@ -20,7 +21,7 @@ allDigits (b ∷ t) = elim (isDigit b) [ true ↦ allDigits t | false ↦ false 
 
 -- the number that digits write after n; a byte that is no digit counts as 0
 unfoldable pub digitOf : ℕ → ℕ
-digitOf b = cond (isDigit b) (b - 48) 0
+digitOf b = cond (isDigit b) (b - code "0") 0
 
 unfoldable pub numberFrom : ℕ → List ℕ → ℕ
 numberFrom n [] = n
@@ -29,11 +30,11 @@ numberFrom n (b ∷ t) = numberFrom (n * 10 + digitOf b) t
 -- the bytes before the first point, and those after it
 unfoldable pub before : List ℕ → List ℕ
 before [] = []
-before (b ∷ t) = elim (eqb b 46) [ true ↦ [] | false ↦ b ∷ before t ]
+before (b ∷ t) = elim (eqb b (code ".")) [ true ↦ [] | false ↦ b ∷ before t ]
 
 unfoldable pub after : List ℕ → List ℕ
 after [] = []
-after (b ∷ t) = elim (eqb b 46) [ true ↦ t | false ↦ after t ]
+after (b ∷ t) = elim (eqb b (code ".")) [ true ↦ t | false ↦ after t ]
 
 -- digits before and after the point, and the last byte one of them: digits, digits.digits or .digits
 unfoldable pub isLiteral : List ℕ → Bool

@@ -8,13 +8,14 @@ use lib.Dec.{leb}
 use lib.ListN.{length}
 use lib.Seq.{sets}
 use lib.IntN.{ℤ, pos, negsuc, natAbs}
+use Rattle.rules.specs.Characters.{code}
 use Rattle.value.specs.declared.Value.{Value}
 use Rattle.value.specs.Decimal.{inRange, ofWhole}
 
 -- the lowest k digits of n, as bytes, highest first
 unfoldable pub digits : ℕ → ℕ → List ℕ
 digits zero n = []
-digits (suc k) n = (n / 10 ^ k % 10 + 48) ∷ digits k n
+digits (suc k) n = (n / 10 ^ k % 10 + code "0") ∷ digits k n
 
 -- how many digits n has, of those from w up to w + k
 unfoldable pub widthFrom : ℕ → ℕ → ℕ → ℕ
@@ -27,11 +28,11 @@ natural n = digits (widthFrom 17 1 n) n
 
 unfoldable pub minusSign : ℤ → List ℕ
 minusSign (pos n) = []
-minusSign (negsuc n) = 45 ∷ []
+minusSign (negsuc n) = code "-" ∷ []
 
 unfoldable pub places : ℕ → ℕ → List ℕ
 places zero n = []
-places (suc k) n = 46 ∷ digits (suc k) n
+places (suc k) n = code "." ∷ digits (suc k) n
 
 unfoldable pub printed : Value → List ℕ
 printed v = minusSign (v .m) ++ (natural (natAbs (v .m) / 10 ^ v .s) ++ places (v .s) (natAbs (v .m)))

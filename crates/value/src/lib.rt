@@ -6,6 +6,7 @@ ghost use mathlib.Core.List.{[], _∷_};
 ghost use Prim.Native.Nat.{_+_, _*_, _/_, _%_, _^_, _<_, _≤_};
 ghost use lib.ListN.{length};
 ghost use lib.IntN.{pos, natAbs, _+ℤ_, _-ℤ_, _*ℤ_};
+ghost use Rattle.rules.specs.Characters.{code};
 ghost use Rattle.rules.specs.Limits.{mantissaLimit, scaleLimit};
 ghost use Rattle.value.specs.Decimal.{tenths, withSign, at, choose, fitOf, inRange, ifInRange, sumOf, differenceOf, productOf, negate, isAtMost, isZero, wholeOf, ofWhole};
 ghost use Rattle.value.specs.Gathering.{millionths, ofMillionths, isCount, Gathered};
@@ -295,10 +296,10 @@ pub fn gather(sums: &mut [i64], k: usize, v: Value) -> bool
 fn is_digit(b: u8) -> bool
     ensures { λ r. ⌜ r ≡ isDigit b ⌝ }
 {
-    if b < 48 {
+    if b < b'0' {
         return false;
     }
-    b <= 57
+    b <= b'9'
 }
 
 fn all_digits(t: &[u8]) -> bool
@@ -318,7 +319,7 @@ fn digit(b: u8) -> u64
     ensures { λ r. ⌜ r ≡ digitOf b ⌝ }
 {
     if is_digit(b) {
-        return (b - 48) as u64;
+        return (b - b'0') as u64;
     }
     0
 }
@@ -409,9 +410,9 @@ fn put(out: &mut [u8], at: usize, b: u8) -> usize
 
 fn digit_at(n: u64, k: usize) -> u8
     requires { ⌜ k < 19 ⌝ }
-    ensures { λ r. ⌜ r ≡ n / 10 ^ k % 10 + 48 ⌝ }
+    ensures { λ r. ⌜ r ≡ n / 10 ^ k % 10 + code "0" ⌝ }
 {
-    (n / power(k) % 10) as u8 + 48
+    (n / power(k) % 10) as u8 + b'0'
 }
 
 // The lowest k digits of n.
