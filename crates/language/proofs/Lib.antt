@@ -44,6 +44,7 @@ pub mod DefinedText
 pub mod Extended
 pub mod Rearranged
 pub mod DataRuns
+pub mod DataGiven
 pub mod Ends
 pub mod PhrasedData
 pub mod OneWriting
