@@ -17,7 +17,6 @@ use Rattle.language.specs.Answer.{Answer, accepted, accepted-of, listing
 use Rattle.language.specs.Proper.{Proper}
 use Rattle.language.specs.Syntax.{Structure}
 use Rattle.language.specs.Phrases.{WritesStructure}
-use Rattle.language.specs.Data.{Given}
 use Rattle.language.specs.DataPhrases.{WrittenPortion, WritesData}
 use Rattle.language.specs.Model.{Model, readModel, start}
 use Rattle.language.specs.Demand3.{Begins, Supplied, Demand3, Statement}
@@ -25,7 +24,7 @@ use Rattle.language.proofs.PhrasedModel.{structure-written}
 use Rattle.language.proofs.Facts.{model-read}
 use Rattle.language.proofs.Kept.{keeps}
 use Rattle.language.proofs.DefinedText.{accepted-defined}
-use Rattle.language.proofs.PhrasedData.{Carried, data-carried}
+use Rattle.language.proofs.PhrasedData.{model-carried}
 use Rattle.language.proofs.DataGiven.{supplied}
 use Rattle.language.proofs.ProperText.{accepted-proper}
 use Rattle.language.proofs.Printing.{printed-once-filled}
@@ -60,9 +59,8 @@ record DataOf (m : Model) (behind : List Token) : Type 0 where
 data-of : (text : List ℕ) (m : Model) (e : readModel text ≡ done m) → DataOf m (written text m e .behind)
 unfolding start written
 data-of text m e =
-    let r = model-read text m e in
     let w = written text m e in
-    let c : Carried (m .structure .names) (m .given) (w .behind) = subst (λ (g : Given). Carried (m .structure .names) g (w .behind)) (r .given-is) (data-carried text (m .structure .names) (w .phrase) (w .behind) (r .second) (w .parts) (r .data-done)) in
+    let c = model-carried text m (model-read text m e) (w .phrase) (w .parts) in
     record { portions = c .portions; writes = c .writes; supplied = supplied (m .given .store) (w .writes) (c .writes) (c .in-order) }
 
 pub kept : Statement

@@ -49,6 +49,7 @@ pub mod Ends
 pub mod PhrasedData
 pub mod OneWriting
 pub mod Pinned
+pub mod CompleteData
 pub mod Parts
 pub mod Fields
 pub mod Figures
