@@ -3,7 +3,7 @@ use mathlib.Core.Path.{_≡_, refl, sym, _∙_, ap, subst}
 use mathlib.Core.Bool.{Bool, true, false}
 use mathlib.Core.Option.{some}
 use mathlib.Core.List.{List, [], _∷_, _++_, append-assoc}
-use Prim.Native.Nat.{ℕ, zero, suc, _+_, _*_, _^_, _≤_}
+use Prim.Native.Nat.{ℕ, zero, suc, _*_, _^_, _≤_}
 use native.Mathlib.Omega.{arith}
 use native.Mathlib.Nat.{le-mul-of-pos-right, one-le-pow}
 use lib.Dec.{lit<}
@@ -23,16 +23,15 @@ use Rattle.value.proofs.Numbers.{exactly-whole, exactly-unique}
 use Rattle.value.proofs.Operations.{ofWhole-valid}
 use Rattle.value.proofs.Reading.{literal-valid}
 use Rattle.lexer.specs.Marks.{plusSign, minusSign, comma, opens, closes, opensList, closesList, closeWord}
-use Rattle.lexer.specs.Text.{Token, mark, name, string, tokens}
+use Rattle.lexer.specs.Text.{Token, mark, name, tokens}
 use Rattle.lexer.specs.Text
 use Rattle.language.specs.Listed.{Distinct}
 use Rattle.language.specs.Outcome.{done}
-use Rattle.language.specs.Syntax.{Formula, Name, Sort, Spans, point, span}
-use Rattle.language.specs.Syntax
+use Rattle.language.specs.Syntax.{Formula, Name, Spans, point, span}
 use Rattle.language.specs.Evaluation.{wholeAt}
 use Rattle.language.specs.Reader.{Reader, follow, _>>=_, give, asRead, lift, passed, next, look, markOf, nameOf, isMark, isName, demand, require, expect, isIndex, Titled, Used}
-use Rattle.language.specs.Store.{Store, scopeOf, Portion, portionBy, Bound, setAt, elementOf, positionRun, wholeIf, accept}
-use Rattle.language.specs.Data.{Entry, fixed, marked, digitsOf, signedEntry, entryBy, readEntry, entriesOf, marksOf, noRepeats, rearranges, positionsOf, orderFrom, readOrder, boundOf, valueOf, signedValue, readNumber, eachRead, runs, subscriptedPortion, isPoint, portionOf, portionsOf, Given, readClose, dataOf, readEnd, readData}
+use Rattle.language.specs.Store.{Store, scopeOf, Portion, portionBy, Bound, setAt, positionRun, wholeIf, accept}
+use Rattle.language.specs.Data.{Entry, fixed, marked, digitsOf, signedEntry, entryBy, readEntry, entriesOf, marksOf, noRepeats, rearranges, positionsOf, orderFrom, readOrder, boundOf, valueOf, signedValue, readNumber, eachRead, runs, subscriptedPortion, isPoint, portionOf, portionsOf, readClose, dataOf, readEnd, readData}
 use Rattle.language.specs.Phrases.{_at_, Means}
 use Rattle.language.specs.Defined.{IsWhole}
 use Rattle.language.specs.DataPhrases.{SignedNumber, WrittenPortion, marks, signOf, WritesNumbers, noNumber, oneNumber, sortOf, WritesEntry, digits, plusDigits, minusDigits, index, WritesEntries, lastEntry, oneEntry, WritesIndices, lastIndex, oneIndex, WritesOrder, leftToRight, inOrder, WritesPortion, unsubscripted, subscripted, WritesPortions, noPortion, onePortion, WritesData, noData, oneData}

@@ -22,7 +22,7 @@ use Rattle.language.specs.Data.{Entry, fixed, marked, positionsOf, bound
 use Rattle.language.specs.Phrases.{Means, indices, Writes, sort, declaredDomain, noSubscripts, withDomain, indexSort, integerSort, realSort, formulaSort, discreteSort, continuousSort, WritesList, lastName, oneName, WritesOptionalList, noList, aList, WritesDeclarations, sixLists, WritesStructure, wholeModel}
 use Rattle.language.specs.Named.{NamedDomain, NamedSort, NamedEntry}
 use Rattle.language.specs.Defined.{Has}
-use Rattle.language.specs.DataPhrases.{WrittenPortion, marks, Rearranges, sortOf, WritesEntries, lastEntry, oneEntry, WritesOrder, leftToRight, inOrder, WritesPortion, unsubscripted, subscripted, WritesPortions, noPortion, onePortion, WritesData, noData, oneData}
+use Rattle.language.specs.DataPhrases.{WrittenPortion, Rearranges, sortOf, WritesEntries, lastEntry, oneEntry, WritesOrder, leftToRight, inOrder, WritesPortion, unsubscripted, subscripted, WritesPortions, noPortion, onePortion, WritesData, noData, oneData}
 use Rattle.language.specs.CarriedOut.{Fills, CarriesOut}
 use Rattle.language.specs.Demand3.{InPortion, Sooner, Filled, Supplied}
 use Rattle.language.proofs.Ordered.{rising-as}
