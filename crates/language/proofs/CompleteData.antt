@@ -29,13 +29,13 @@ use Rattle.language.specs.Listed.{Distinct}
 use Rattle.language.specs.Outcome.{done}
 use Rattle.language.specs.Syntax.{Formula, Name, Spans, point, span}
 use Rattle.language.specs.Evaluation.{wholeAt}
-use Rattle.language.specs.Reader.{Reader, follow, _>>=_, give, asRead, lift, passed, next, look, markOf, nameOf, isMark, isName, demand, require, expect, isIndex, Titled, Used}
-use Rattle.language.specs.Store.{Store, scopeOf, Portion, portionBy, Bound, setAt, positionRun, wholeIf, accept}
-use Rattle.language.specs.Data.{Entry, fixed, marked, digitsOf, signedEntry, entryBy, readEntry, entriesOf, marksOf, noRepeats, rearranges, positionsOf, orderFrom, readOrder, boundOf, valueOf, signedValue, readNumber, eachRead, runs, subscriptedPortion, isPoint, portionOf, portionsOf, readClose, dataOf, readEnd, readData}
+use Rattle.language.specs.Reader.{Reader, follow, _>>=_, give, asRead, passed, next, look, markOf, nameOf, isMark, isName, demand, require, expect, isIndex, Used}
+use Rattle.language.specs.Store.{Store, Portion, portionBy, Bound, setAt, wholeIf, accept}
+use Rattle.language.specs.Data.{Entry, fixed, marked, digitsOf, signedEntry, entryBy, readEntry, entriesOf, noRepeats, positionsOf, orderFrom, readOrder, boundOf, valueOf, signedValue, readNumber, eachRead, runs, subscriptedPortion, isPoint, portionOf, portionsOf, readClose, dataOf, readEnd, readData}
 use Rattle.language.specs.Phrases.{_at_, Means}
 use Rattle.language.specs.Defined.{IsWhole}
 use Rattle.language.specs.DataPhrases.{SignedNumber, WrittenPortion, marks, signOf, WritesNumbers, noNumber, oneNumber, sortOf, WritesEntry, digits, plusDigits, minusDigits, index, WritesEntries, lastEntry, oneEntry, WritesIndices, lastIndex, oneIndex, WritesOrder, leftToRight, inOrder, WritesPortion, unsubscripted, subscripted, WritesPortions, noPortion, onePortion, WritesData, noData, oneData}
-use Rattle.language.specs.CarriedOut.{Stores, InTurn, Fills, CarriesOut}
+use Rattle.language.specs.CarriedOut.{Stores, InTurn, Fills, FillsPortion, CarriesOut}
 use Rattle.language.proofs.Shapes.{AllShaped, shaped-left, shaped-right, tokens-shaped}
 use Rattle.language.proofs.ValidData.{ValidTokens}
 use Rattle.language.proofs.Turns.{tokens-bounded}
@@ -133,9 +133,9 @@ module _ (x : WrittenPortion) (p : ℕ) where
   fills-take [] b ns st new w = record { takes = λ {l} n a ts s. number-gives (w .2) (subst (λ ns. WritesNumbers ns l) (w .1) n) a ts }
   fills-take (j ∷ js) b ns st new w = record {
     takes = λ {l} n a ts s.
-        onward (λ _. lift (positionRun (x .domain) b j (scopeOf st)) >>= λ ks. eachRead (λ k st. runs portionAt js (setAt j k b) st) ks st) (numbers-look n ts s .seen)
-        ∙ ap (λ o. follow (asRead o (l ++ ts)) (λ ks. eachRead (λ k st. runs portionAt js (setAt j k b) st) ks st)) (w .1)
-        ∙ turns-take (λ k. Fills x js (setAt j k b)) (λ k st. runs portionAt js (setAt j k b) st) (λ k ns st new f. fills-take js (setAt j k b) ns st new f) (w .0) ns st new (w .2) .takes n a ts s;
+        onward _ (numbers-look n ts s .seen)
+        ∙ onward _ (ap (λ o. asRead o (l ++ ts)) (w .1))
+        ∙ turns-take _ _ (λ k ns st new f. fills-take js (setAt j k b) ns st new f) _ ns st new (w .2) .takes n a ts s;
   }
 
 -- ---- a portion's head
@@ -180,9 +180,7 @@ module _ (names : List Name) where
   unfolding readOrder look passed markOf nestingLimit require
   order-gives {m} once leftToRight p ts h s = look-stops (isMark opens) _ (give m) ts s
   order-gives {m} {o} once (inOrder {k = k} q w r) p ts h s =
-      onward (λ _. orderFrom names _ >>= λ l. require (rearranges l m) BadIndex p >>= λ _. give l) (bracket-gives opens _ q (k ++ ts) refl)
-      ∙ onward (λ l. require (rearranges l m) BadIndex p >>= λ _. give l) (indices-give w _ ts (omega arith))
-      ∙ ap (λ t. follow (require t BadIndex p ts) (λ _. give o)) (rearranges-true o m once r)
+      onward _ (bracket-gives opens _ q (k ++ ts) refl) ∙ onward _ (indices-give w _ ts (omega arith)) ∙ onward _ (ap (λ t. require t BadIndex p ts) (rearranges-true o m once r))
 
   -- ---- portions
 
@@ -202,11 +200,9 @@ module _ (names : List Name) where
       → portionOf names st (name l at p ∷ ts) ≡ onPoint (isPoint d) (record { name = i; place = p; whole = whole; domain = d }) st ts
   unfolding portionOf demand
   head-gives {i = i} whole d p st ts m =
-      onward (λ (u : Used). demand (portionBy (u .number) (u .place) (u .sort)) (u .place) >>= λ x. onPoint (isPoint (x .domain)) x st) (named-gives names p ts m)
-      ∙ ap (λ o. follow (demand o p ts) (λ x. onPoint (isPoint (x .domain)) x st)) (portion-at i p whole d)
+      onward _ (named-gives names p ts m) ∙ onward _ (ap (λ o. demand o p ts) (portion-at i p whole d))
 
-  portion-gives : {x : WrittenPortion} {l : List Token} → WritesPortion names x l → (st new : Store) → Fills x (positionsOf (x .order) (x .entries)) (boundOf (x .entries)) (x .numbers) st new
-      → ValidTokens l → length l ≤ byteLimit → (ts : List Token) → Looks (isMark opens) ts → portionOf names st (l ++ ts) ≡ done (record { what = new; rest = ts })
+  portion-gives : {x : WrittenPortion} {l : List Token} → WritesPortion names x l → (st new : Store) → FillsPortion x st new → ValidTokens l → length l ≤ byteLimit → (ts : List Token) → Looks (isMark opens) ts → portionOf names st (l ++ ts) ≡ done (record { what = new; rest = ts })
   unfolding subscriptedPortion positionsOf boundOf nestingLimit require
   portion-gives {x} (unsubscripted {k = k} whole p m w) st new f a h ts s = head-gives whole point p st (k ++ ts) m ∙ fills-take x p [] [] (x .numbers) st new f .takes w (a .1) ts s
   portion-gives {x} (subscripted {d = d} {es = es} {o = o} {a = b} {b = c} {c = k} whole p q m v once u w) st new f a h ts s =
@@ -215,12 +211,11 @@ module _ (names : List Name) where
       head-gives whole d p st _ m
       ∙ ap (λ t. onPoint t y st (mark opensList at q ∷ (b ++ (c ++ k)) ++ ts)) (entries-span v)
       ∙ ap (λ (l : List Token). subscriptedPortion names y st (mark opensList at q ∷ l)) (regroup b c k)
-      ∙ onward (λ _. entriesOf names d >>= λ es. require (noRepeats (marksOf es)) BadIndex p >>= λ _. readOrder names p (marksOf es) >>= λ o. runs y (positionsOf o es) (boundOf es) st) (bracket-gives opensList _ q (b ++ (c ++ (k ++ ts))) refl)
-      ∙ onward (λ es. require (noRepeats (marksOf es)) BadIndex p >>= λ _. readOrder names p (marksOf es) >>= λ o. runs y (positionsOf o es) (boundOf es) st) (entries-give v (shaped-left Valid b (c ++ k) (a .1 .1)) (c ++ (k ++ ts)))
-      ∙ ap (λ m. follow (require (noRepeats m) BadIndex p (c ++ (k ++ ts))) (λ _. readOrder names p m >>= λ o. runs y (positionsOf o es) (boundOf es) st)) (marks-are es)
-      ∙ ap (λ t. follow (require t BadIndex p (c ++ (k ++ ts))) (λ _. readOrder names p (marks es) >>= λ o. runs y (positionsOf o es) (boundOf es) st)) (repeats-none (marks es) once)
-      ∙ onward (λ o. runs y (positionsOf o es) (boundOf es) st) (order-gives once u p (k ++ ts) (omega (arith, h, length-append b (c ++ k), length-append c k)) (numbers-look w ts s))
-      ∙ fills-take x p (positionsOf o es) (boundOf es) (x .numbers) st new f .takes w (shaped-right Valid c k after) ts s
+      ∙ onward _ (bracket-gives opensList _ q (b ++ (c ++ (k ++ ts))) refl)
+      ∙ onward _ (entries-give v (shaped-left Valid b (c ++ k) (a .1 .1)) (c ++ (k ++ ts)))
+      ∙ onward _ (ap (λ t. require t BadIndex p (c ++ (k ++ ts))) (ap noRepeats (marks-are es) ∙ repeats-none (marks es) once))
+      ∙ onward _ (subst (λ l. readOrder names p l (c ++ (k ++ ts)) ≡ done (record { what = o; rest = k ++ ts })) (sym (marks-are es)) (order-gives once u p (k ++ ts) (omega (arith, h, length-append b (c ++ k), length-append c k)) (numbers-look w ts s)))
+      ∙ fills-take x p _ _ (x .numbers) st new f .takes w (shaped-right Valid c k after) ts s
     where
       regroup : (b c k : List Token) → (b ++ (c ++ k)) ++ ts ≡ b ++ (c ++ (k ++ ts))
       regroup b c k = simp append-assoc
@@ -248,11 +243,11 @@ module _ (names : List Name) where
   unfolding portionsOf CarriesOut look passed nameOf
   portions-give {l = l} {k = k} v w zero st new c a h b q ts = absurd (omega (arith, some-tokens v, length-append l k))
   portions-give {l = l} v noPortion (suc n) st new c a h b q ts =
-      onward (λ st. look >>= λ t. elim (isName t) as (λ _. Reader Store) [ true ↦ portionsOf names n st | false ↦ give st ])
+      onward _
       (portion-gives v st (c .0) (c .1) (shaped-left Valid l [] a) (omega (arith, h, b, length-append l [])) (mark closeWord at q ∷ ts) (portions-look noPortion q ts))
       ∙ ap (λ (st : Store). done (record { what = st; rest = mark closeWord at q ∷ ts })) (c .2)
   portions-give {l = l} v (onePortion {l = m} {k = k} u w) (suc n) st new c a h b q ts =
-      onward (λ st. look >>= λ t. elim (isName t) as (λ _. Reader Store) [ true ↦ portionsOf names n st | false ↦ give st ])
+      onward _
       (portion-gives v st (c .0) (c .1) (shaped-left Valid l (m ++ k) a) (omega (arith, h, b, length-append l (m ++ k))) ((m ++ k) ++ (mark closeWord at q ∷ ts)) (portions-look (onePortion u w) q ts))
       ∙ ap (λ (l : List Token). follow (look l) (λ t. elim (isName t) as (λ _. Reader Store) [ true ↦ portionsOf names n (c .0) | false ↦ give (c .0) ])) (append-assoc m k (mark closeWord at q ∷ ts))
       ∙ next-portion u n (c .0) (k ++ (mark closeWord at q ∷ ts))
@@ -268,9 +263,9 @@ module _ (names : List Name) where
       let rest : List Token = mark closeWord at r ∷ Text.end at t ∷ [] in
       let valid : ValidTokens ((l ++ k) ++ rest) = subst ValidTokens (sym (append-assoc l k rest)) (a .1 .1) in
       ap (λ o. follow o (λ g. readEnd >>= λ _. give g))
-      (onward (λ (x : Titled). portionsOf names byteLimit [] >>= λ st. readClose >>= λ _. give (record { title = x .title; store = st })) (string-gives s q (l ++ (k ++ rest)))
-      ∙ onward (λ st. readClose >>= λ _. give (record { title = s; store = st }))
-      (portions-give v w byteLimit [] st c (shaped-left Valid (l ++ k) rest valid) (omega (arith, h, length-append l k, length-append l (k ++ rest), length-append k rest)) (omega arith) r (Text.end at t ∷ [])))
+      (onward _ (string-gives s q (l ++ (k ++ rest)))
+      ∙ onward _
+      (portions-give v w _ [] st c (shaped-left Valid (l ++ k) rest valid) (omega (arith, h, length-append l k, length-append l (k ++ rest), length-append k rest)) (omega arith) r (Text.end at t ∷ [])))
 
 -- ---- in a text
 

@@ -23,7 +23,7 @@ use Rattle.language.specs.Phrases.{Means, indices, Writes, sort, declare
 use Rattle.language.specs.Named.{NamedDomain, NamedSort, NamedEntry}
 use Rattle.language.specs.Defined.{Has}
 use Rattle.language.specs.DataPhrases.{WrittenPortion, Rearranges, sortOf, WritesEntries, lastEntry, oneEntry, WritesOrder, leftToRight, inOrder, WritesPortion, unsubscripted, subscripted, WritesPortions, noPortion, onePortion, WritesData, noData, oneData}
-use Rattle.language.specs.CarriedOut.{Fills, CarriesOut}
+use Rattle.language.specs.CarriedOut.{FillsPortion, CarriesOut}
 use Rattle.language.specs.Demand3.{InPortion, Sooner, Filled, Supplied}
 use Rattle.language.proofs.Ordered.{rising-as}
 use Rattle.language.proofs.NamedRead.{Table, structure-named}
@@ -217,12 +217,12 @@ module _ {names : List Name} (table : Table names) (alone : All ApartEntry names
       go true h = h
       go false h = h
 
-  portion-gave : {x : WrittenPortion} {l : List Token} {st new : Store} → WritesPortion names x l → Fills x (positionsOf (x .order) (x .entries)) (boundOf (x .entries)) (x .numbers) st new → Gave x st new
+  portion-gave : {x : WrittenPortion} {l : List Token} {st new : Store} → WritesPortion names x l → FillsPortion x st new → Gave x st new
   unfolding positionsOf boundOf
   portion-gave {x} {st = st} {new = new} (unsubscripted whole p m w) f = gave x (fills-ran names x tt tt [] [] (x .numbers) st new refl none-open f)
   portion-gave {x} {st = st} {new = new} (subscripted {d = d} {es = es} {o = o} whole p q m w once v n) f =
       gave x
-      (fills-ran names x (domain-named whole d m) (domain-alone whole d m) (positionsOf o es) (boundOf es) (x .numbers) st new (bound-length es ∙ entries-many w) (opened o es once (order-rearranges once v)) f)
+      (fills-ran names x (domain-named whole d m) (domain-alone whole d m) _ _ (x .numbers) st new (bound-length es ∙ entries-many w) (opened o es once (order-rearranges once v)) f)
 
   portions-gave : {xs : List WrittenPortion} {l : List Token} {st new : Store} → WritesPortions names xs l → CarriesOut xs st new → GaveAll xs st new
   unfolding CarriesOut

@@ -37,7 +37,11 @@ Fills x [] b ns st new = (n : SignedNumber) × (ns ≡ n ∷ []) × Stores x (el
 Fills x (j ∷ js) b ns st new =
     (ks : List ℤ) × (positionRun (x .domain) b j (scopeOf st) ≡ done ks) × InTurn (λ k. Fills x js (setAt j k b)) ks ns st new
 
--- Fixed entries bind their positions first; marked ones run nested in the order list's order
+-- one portion: fixed entries bind their positions first; marked ones run nested in the order list's order
+abbrev pub FillsPortion : WrittenPortion → Store → Store → Type 0
+FillsPortion x st new = Fills x (positionsOf (x .order) (x .entries)) (boundOf (x .entries)) (x .numbers) st new
+
+-- one portion after another
 unfoldable pub CarriesOut : List WrittenPortion → Store → Store → Type 0
 CarriesOut [] st new = st ≡ new
-CarriesOut (x ∷ xs) st new = (mid : Store) × Fills x (positionsOf (x .order) (x .entries)) (boundOf (x .entries)) (x .numbers) st mid × CarriesOut xs mid new
+CarriesOut (x ∷ xs) st new = (mid : Store) × FillsPortion x st mid × CarriesOut xs mid new
