@@ -80,7 +80,7 @@ module _ (names : List Name) where
   runs-any : (x : Portion) (js : List ℕ) (b : Bound) (st : Store) → Reads (runs x js b st) Any
   unfolding runs
   runs-any x [] b st = number-any x _ st
-  runs-any x (j ∷ js) b st = then-look (λ t. then (lifted (positionRun (x .domain) b j (scopeOf st))) (λ ks l _. each-any _ (λ k st. runs-any x js _ st) ks st))
+  runs-any x (j ∷ js) b st = then-look (λ t. then (lifted (positionRun (x .domain) b j (scopeOf st))) (λ ks l _. each-any _ (λ k st. runs-any x js _ st) _ st))
 
   subscripted-any : (x : Portion) (st : Store) → Reads (subscriptedPortion names x st) Any
   unfolding subscriptedPortion
