@@ -1,7 +1,7 @@
 -- Demand 3 for every text and buffer length: where the answer's number is 0, the listing keeps the model's meaning, and its bytes
 -- are those of no other lines. Assumes nothing.
 use mathlib.Core.Path.{_≡_, refl, sym, _∙_, ap, subst}
-use mathlib.Core.List.{List, [], _∷_, _++_, append-assoc, append-nil}
+use mathlib.Core.List.{List, _++_}
 use Prim.Native.Nat.{ℕ, _-_}
 use native.Mathlib.Omega.{arith}
 use lib.Dec.{leb}
@@ -9,25 +9,23 @@ use lib.ListN.{length, replicate}
 use Rattle.rules.specs.declared.Refusal.{Refusal}
 use Rattle.rules.specs.declared.Refusal.the-variants.{LongText, StrangeByte, Misplaced, BadName, Unfit, Full, BadIndex, NotWhole, Outside, Missing, LongListing}
 use Rattle.rules.specs.Refusals.{refusalNumber}
-use Rattle.language.specs.All.{All, all-left, all-right}
+use Rattle.language.specs.All.{All}
 use Rattle.lexer.specs.Text.{Token, tokens}
-use Rattle.lexer.specs.Text
 use Rattle.language.specs.Outcome.{Outcome, done, refused, after, after-check, done-injective}
 use Rattle.language.specs.Listing.{linesOf, bytesOfAll}
 use Rattle.language.specs.Answer.{Answer, accepted, accepted-of, listingOf, listing, respond, answer}
 use Rattle.language.specs.Proper.{Proper}
-use Rattle.language.specs.Syntax.{Name, Structure}
+use Rattle.language.specs.Syntax.{Structure}
 use Rattle.language.specs.Phrases.{WritesStructure}
-use Rattle.language.specs.Data.{Given}
 use Rattle.language.specs.DataPhrases.{WrittenPortion, WritesData}
 use Rattle.language.specs.Model.{Model, readModel, start}
 use Rattle.language.specs.Demand3.{Begins, Supplied, Demand3, Statement}
 use Rattle.language.proofs.PhrasedModel.{structure-written}
 use Rattle.language.proofs.Facts.{model-read}
 use Rattle.language.proofs.Kept.{keeps}
-use Rattle.language.proofs.DefinedText.{model-named, accepted-defined}
-use Rattle.language.proofs.Ends.{WholeDigits, Digital, tokens-digital, end-last}
-use Rattle.language.proofs.PhrasedData.{ApartEntry, structure-apart, DataRead, data-read, all-supplied, ends}
+use Rattle.language.proofs.DefinedText.{accepted-defined}
+use Rattle.language.proofs.PhrasedData.{model-carried}
+use Rattle.language.proofs.DataGiven.{supplied}
 use Rattle.language.proofs.ProperText.{accepted-proper}
 use Rattle.language.proofs.Printing.{printed-once-filled}
 
@@ -58,34 +56,12 @@ record DataOf (m : Model) (behind : List Token) : Type 0 where
   writes : WritesData (m .structure .names) (m .given .title) portions behind
   supplied : Supplied (start m) portions
 
--- nothing stands behind a data section
-whole-section : (text : List ℕ) (names : List Name) (s : List ℕ) (xs : List WrittenPortion) (front l rest : List Token) → tokens text ≡ front ++ (l ++ rest) → WritesData names s xs l
-    → WritesData names s xs (l ++ rest)
-whole-section text names s xs front l rest e w =
-    let x = ends w in
-    let split : tokens text ≡ (front ++ (x .0)) ++ (record { kind = Text.end; place = x .1 } ∷ rest) =
-    e ∙ ap (λ k. front ++ (k ++ rest)) (x .2) ∙ ap (λ k. front ++ k) (append-assoc (x .0) (record { kind = Text.end; place = x .1 } ∷ []) rest) ∙ sym (append-assoc front (x .0) (record { kind = Text.end; place = x .1 } ∷ rest)) in
-    let none : rest ≡ [] = end-last text (front ++ (x .0)) rest (x .1) split in
-    subst (WritesData names s xs) (sym (ap (λ k. l ++ k) none ∙ append-nil l)) w
-
 data-of : (text : List ℕ) (m : Model) (e : readModel text ≡ done m) → DataOf m (written text m e .behind)
 unfolding start written
 data-of text m e =
-    let names = m .structure .names in
-    let r = model-read text m e in
-    let v = structure-written text (r .first) (r .structure-done) in
-    let table = model-named text m e .table in
-    let apart : All ApartEntry names = subst (λ (s : Structure). All ApartEntry (s .names)) (r .structure-is) (structure-apart (v .writes)) in
-    let w = data-read names table apart .reads (r .first .rest) (r .second) (r .data-done) in
-    let d = subst (λ (g : Given). DataRead names table apart g (w .phrase)) (r .given-is) (w .writes) in
-    let digital : Digital (v .phrase ++ (w .phrase ++ r .second .rest)) = subst Digital (v .taken ∙ ap (λ k. v .phrase ++ k) (w .taken)) (tokens-digital text) in
-    let writes = d .writes (all-left (λ t. WholeDigits (t .kind)) (w .phrase) _ (all-right (λ t. WholeDigits (t .kind)) (v .phrase) _ digital)) in
-    record {
-      portions = d .portions;
-      writes = subst (WritesData names (m .given .title) (d .portions)) (sym (w .taken))
-          (whole-section text names (m .given .title) (d .portions) (v .phrase) (w .phrase) (r .second .rest) (v .taken ∙ ap (λ k. v .phrase ++ k) (w .taken)) writes);
-      supplied = all-supplied (d .portions) (m .given .store) (d .gave);
-    }
+    let w = written text m e in
+    let c = model-carried text m (model-read text m e) (w .phrase) (w .parts) in
+    record { portions = c .portions; writes = c .writes; supplied = supplied (m .given .store) (w .writes) (c .writes) (c .in-order) }
 
 pub kept : Statement
 unfolding answer listing listingOf respond

@@ -7,7 +7,7 @@ use lib.Dec.{eqb}
 use lib.ListN.{length}
 use lib.IntN.{ℤ}
 use Rattle.rules.specs.declared.Refusal.the-variants.{Misplaced}
-use Rattle.rules.specs.Limits.{byteLimit, nestingLimit}
+use Rattle.rules.specs.Limits.{nestingLimit}
 use Rattle.lexer.specs.Marks.{plusSign, minusSign, comma, opens}
 use Rattle.lexer.specs.Text.{Token, Kind}
 use Rattle.lexer.specs.Text
@@ -66,7 +66,7 @@ module _ (names : List Name) where
 
   order-any : (p : ℕ) (marks : List ℕ) → Reads (readOrder names p marks) Any
   unfolding readOrder
-  order-any p marks = look-else (isMark opens) (then-bracket _ nestingLimit (λ q. then (indices-any byteLimit) (λ is l _. then-require _ _ _ (λ _ e. gives tt)))) (gives tt)
+  order-any p marks = look-else (isMark opens) (then-bracket _ nestingLimit (λ q. then (indices-any _) (λ is l _. then-require _ _ _ (λ _ e. gives tt)))) (gives tt)
 
   number-any : (x : Portion) (e : List ℤ) (st : Store) → Reads (readNumber x e st) Any
   unfolding readNumber
@@ -80,7 +80,7 @@ module _ (names : List Name) where
   runs-any : (x : Portion) (js : List ℕ) (b : Bound) (st : Store) → Reads (runs x js b st) Any
   unfolding runs
   runs-any x [] b st = number-any x _ st
-  runs-any x (j ∷ js) b st = then-look (λ t. then (lifted (positionRun (x .domain) b j (scopeOf st))) (λ ks l _. each-any _ (λ k st. runs-any x js _ st) ks st))
+  runs-any x (j ∷ js) b st = then-look (λ t. then (lifted (positionRun (x .domain) b j (scopeOf st))) (λ ks l _. each-any _ (λ k st. runs-any x js _ st) _ st))
 
   subscripted-any : (x : Portion) (st : Store) → Reads (subscriptedPortion names x st) Any
   unfolding subscriptedPortion

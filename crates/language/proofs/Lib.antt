@@ -44,10 +44,12 @@ pub mod DefinedText
 pub mod Extended
 pub mod Rearranged
 pub mod DataRuns
+pub mod DataGiven
 pub mod Ends
 pub mod PhrasedData
 pub mod OneWriting
 pub mod Pinned
+pub mod CompleteData
 pub mod Parts
 pub mod Fields
 pub mod Figures

@@ -233,7 +233,7 @@ module _ (names : List Name) where
 
 -- ---- in a text they are entered with fewer tokens than they have turns
 
-tokens-bounded : (text : List ℕ) → length (tokens text) ≤ suc byteLimit
+pub tokens-bounded : (text : List ℕ) → length (tokens text) ≤ suc byteLimit
 unfolding tokens
 tokens-bounded text = go (leb (length text) byteLimit) refl
   where

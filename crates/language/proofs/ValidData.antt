@@ -6,7 +6,7 @@ use mathlib.Core.List.{List, [], _∷_}
 use Prim.Native.Nat.{ℕ, zero, suc}
 use lib.Dec.{eqb}
 use lib.IntN.{ℤ}
-use Rattle.rules.specs.Limits.{byteLimit, nestingLimit}
+use Rattle.rules.specs.Limits.{nestingLimit}
 use Rattle.rules.specs.declared.Refusal.{Refusal}
 use Rattle.lexer.specs.Marks.{plusSign, minusSign, comma, opens, closesList, initWord}
 use Rattle.lexer.specs.Text.{Token, Kind, sameBytes}
@@ -210,7 +210,7 @@ module _ (names : List Name) (table : AllNames Valid names) where
   readOrder-valid p marks =
       then look-valid (λ t _.
       either (isMark opens t)
-      (then (bracketed opens nestingLimit) (λ _ _. then (orderFrom-valid byteLimit) (λ _ _. then (required _ _ _) (λ _ _. given tt))))
+      (then (bracketed opens nestingLimit) (λ _ _. then (orderFrom-valid _) (λ _ _. then (required _ _ _) (λ _ _. given tt))))
       (given tt))
 
 boundOf-small : (es : List Entry) → All SmallEntry es → SmallBound (boundOf es)
@@ -303,7 +303,7 @@ module _ (names : List Name) (table : AllNames Valid names) where
 
   dataOf-valid : Gives (dataOf names) ValidGiven
   unfolding dataOf
-  dataOf-valid = then string-read (λ s _. then (portionsOf-valid byteLimit [] tt) (λ st h. then readClose-valid (λ _ _. given h)))
+  dataOf-valid = then string-read (λ s _. then (portionsOf-valid _ [] tt) (λ st h. then readClose-valid (λ _ _. given h)))
 
   readEnd-valid : Gives readEnd Any
   unfolding readEnd

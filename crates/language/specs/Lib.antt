@@ -15,6 +15,7 @@ pub mod Evaluation
 pub mod Store
 pub mod Data
 pub mod DataPhrases
+pub mod CarriedOut
 pub mod Model
 pub mod Literals
 pub mod Named
