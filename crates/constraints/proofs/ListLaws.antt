@@ -10,7 +10,8 @@ use Rattle.rules.specs.declared.Refusal.{Refusal}
 use Rattle.rules.specs.declared.Refusal.the-variants.{Full}
 use Rattle.rules.specs.Limits.{constraintLimit}
 use Rattle.lexer.specs.Text.{Token}
-use Rattle.language.specs.Outcome.{Outcome, done, refused, refused-done}
+use Rattle.language.specs.Outcome.{Outcome, done, refused}
+use Rattle.language.proofs.Outcome.{refused-done}
 use Rattle.language.specs.Syntax.{Name, Constraint}
 use Rattle.language.specs.Reader.{Reader, Read, follow, _>>=_, give, refuse, look, isString}
 use Rattle.language.specs.Grammar.{constraintsOf}

@@ -8,7 +8,7 @@ use Rattle.rules.specs.declared.Refusal.{Refusal}
 use Rattle.rules.specs.Limits.{nestingLimit}
 use Rattle.lexer.specs.Marks.{atMost}
 use Rattle.lexer.specs.Text.{Token}
-use Rattle.language.specs.Outcome.{refused-done}
+use Rattle.language.proofs.Outcome.{refused-done}
 use Rattle.language.specs.Syntax.{Name, Formula, Spans, point, span}
 use Rattle.language.specs.Reader.{next}
 use Rattle.language.specs.Formulas.{inDomain}

@@ -12,8 +12,10 @@ use Rattle.rules.specs.declared.Refusal.the-variants.{Misplaced, BadIndex}
 use Rattle.rules.specs.Limits.{nestingLimit, indexLimit}
 use Rattle.lexer.specs.Marks.{opensList}
 use Rattle.lexer.specs.Text.{Token}
-use Rattle.language.specs.All.{All, all-right}
-use Rattle.language.specs.Outcome.{Outcome, done, refused, done-injective}
+use Rattle.language.specs.All.{All}
+use Rattle.language.proofs.All.{all-right}
+use Rattle.language.specs.Outcome.{Outcome, done, refused}
+use Rattle.language.proofs.Outcome.{done-injective}
 use Rattle.language.specs.Syntax.{Name, Sort, Spans, point, span}
 use Rattle.language.specs.Syntax
 use Rattle.language.specs.Reader.{Reader, Read, Used, follow, demand, require, expect, bracket, readKnown}

@@ -8,7 +8,8 @@ use lib.IntN.{pos}
 use Rattle.rules.specs.declared.Refusal.{Refusal}
 use Rattle.rules.specs.Limits.{nestingLimit, mantissaLimit}
 use Rattle.lexer.specs.Text.{Token}
-use Rattle.language.specs.Outcome.{Outcome, done, refused, _>>=_, done-injective, refused-done}
+use Rattle.language.specs.Outcome.{Outcome, done, refused, _>>=_}
+use Rattle.language.proofs.Outcome.{done-injective, refused-done}
 use Rattle.language.specs.Syntax.{Name, Formula, Spans, point, span}
 use Rattle.language.specs.Reader.{Read, asRead}
 use Rattle.language.specs.Scope.{Scope}

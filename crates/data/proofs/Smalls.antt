@@ -14,8 +14,10 @@ use Rattle.value.specs.Decimal.{Valid}
 use Rattle.lexer.specs.Marks.{plusSign, minusSign}
 use Rattle.lexer.specs.Text.{Token, Kind}
 use Rattle.lexer.specs.Text
-use Rattle.language.specs.All.{All, all-left, all-right}
-use Rattle.language.specs.Outcome.{done, some-injective, none-some}
+use Rattle.language.specs.All.{All}
+use Rattle.language.proofs.All.{all-left, all-right}
+use Rattle.language.specs.Outcome.{done}
+use Rattle.language.proofs.Outcome.{some-injective, none-some}
 use Rattle.language.specs.Syntax.{Name, Spans, point, span}
 use Rattle.language.specs.Reader.{Reader, Read, give, refuse, isMark}
 use Rattle.language.specs.Valid.{Small}

@@ -11,7 +11,8 @@ use Rattle.rules.specs.declared.Refusal.{Refusal}
 use Rattle.rules.specs.Limits.{nestingLimit}
 use Rattle.lexer.specs.Text.{Token}
 use Rattle.lexer.specs.Marks.{comma, equals, opens, closes, opensList}
-use Rattle.language.specs.Outcome.{done, done-injective}
+use Rattle.language.specs.Outcome.{done}
+use Rattle.language.proofs.Outcome.{done-injective}
 use Rattle.language.specs.Syntax.{Name, Sort, Spans, point}
 use Rattle.language.specs.Syntax
 use Rattle.language.specs.Reader.{Reader, Read, follow, _>>=_, give, look, isMark, expect, bracket}

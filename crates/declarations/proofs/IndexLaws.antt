@@ -13,7 +13,8 @@ use Rattle.rules.specs.declared.Refusal.the-variants.{Misplaced, Full}
 use Rattle.rules.specs.Limits.{indexLimit}
 use Rattle.lexer.specs.Text.{Token}
 use Rattle.lexer.specs.Marks.{comma, closesList}
-use Rattle.language.specs.Outcome.{Outcome, done, refused, done-injective}
+use Rattle.language.specs.Outcome.{Outcome, done, refused}
+use Rattle.language.proofs.Outcome.{done-injective}
 use Rattle.language.specs.Syntax.{Name}
 use Rattle.language.specs.Reader.{Reader, Read, follow, _>>=_, give, refuse, require, next, look, isMark, expect, Used, readKnown, isIndex, readIndex}
 use Rattle.language.specs.Declarations.{indicesOf}

@@ -14,7 +14,7 @@ use lib.IntN.{ℤ, pos, _+ℤ_}
 use lib.Signed.{_≤ℤ_, ltZ}
 use Rattle.rules.specs.Limits.{indexLimit}
 use Rattle.value.specs.declared.Value.{Value}
-use Rattle.value.specs.Integer.{add-parts, le-of-parts}
+use Rattle.rational.proofs.Integer.{add-parts, le-of-parts}
 use Rattle.lexer.specs.Text.{Token}
 use Rattle.language.specs.Scope.{Scope, Binding, bind}
 use Rattle.steps.specs.declared.scope.Scope.{Scope as HeldScope}

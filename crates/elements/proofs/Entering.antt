@@ -9,7 +9,7 @@ use lib.IntN.{ℤ, pos, negℤ, _+ℤ_}
 use lib.Signed.{_≤ℤ_, ltZ, leZ, ≤ℤ-refl}
 use Rattle.rules.specs.declared.Refusal.{Refusal}
 use Rattle.rules.specs.Limits.{indexLimit, nestingLimit}
-use Rattle.value.specs.Integer.{leZ-true, ≤ℤ-trans}
+use Rattle.rational.proofs.Integer.{leZ-true, ≤ℤ-trans}
 use Rattle.lexer.specs.Text.{Token}
 use Rattle.language.specs.Scope.{Scope, bind}
 use Rattle.walk.specs.Walk.{walkEntry, inDomainWalk}

@@ -12,7 +12,7 @@ use lib.IntN.{pos, _+ℤ_, _-ℤ_}
 use lib.Signed.{_≤ℤ_, ltZ}
 use Rattle.rules.specs.declared.Refusal.{Refusal}
 use Rattle.rules.specs.Limits.{indexLimit}
-use Rattle.value.specs.Integer.{up}
+use Rattle.rational.specs.Integer.{up}
 use Rattle.lexer.specs.Text.{Token}
 use Rattle.language.specs.Scope.{Scope, bind}
 use Rattle.evaluator.specs.Tables.{World}

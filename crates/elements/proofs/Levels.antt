@@ -12,7 +12,8 @@ use Rattle.rules.specs.declared.Refusal.{Refusal}
 use Rattle.rules.specs.declared.Refusal.the-variants.{NotWhole}
 use Rattle.rules.specs.Limits.{runLimit}
 use Rattle.lexer.specs.Text.{Token}
-use Rattle.language.specs.Outcome.{Outcome, done, refused, _>>=_, after, check, done-injective}
+use Rattle.language.specs.Outcome.{Outcome, done, refused, _>>=_, check}
+use Rattle.language.proofs.Outcome.{after, done-injective}
 use Rattle.language.specs.Syntax.{Formula, Name, Spans, point, span}
 use Rattle.language.specs.Reader.{Read, asRead}
 use Rattle.language.specs.Scope.{Scope, bind}

@@ -8,7 +8,8 @@ use lib.IntN.{ℤ, pos, negsuc, natAbs, negℤ, _+ℤ_, _-ℤ_}
 use lib.Signed.{_≤ℤ_, mag, ltZ, leZ}
 use mir.Syntax.{w64}
 use mir.Val.{SFits, toZ, ofZ}
-use Rattle.value.specs.Integer.{up, down, add-parts, neg-up, neg-down, le-of-parts}
+use Rattle.rational.specs.Integer.{up, down}
+use Rattle.rational.proofs.Integer.{add-parts, neg-up, neg-down, le-of-parts}
 use Rattle.value.proofs.Integers.{back, mag-le}
 use Rattle.steps.proofs.Runs.{parts-size}
 use Rattle.elements.specs.declared.here.Level.{Level}

@@ -8,7 +8,8 @@ use native.Mathlib.Nat.{mul-le-mul-right, suc-mul, pow-zero, pow-succ', mod-lt}
 use lib.ListN.{length}
 use lib.IntN.{pos, _+ℤ_, _-ℤ_}
 use lib.Signed.{_≤ℤ_, ltZ}
-use Rattle.value.specs.Integer.{up, add-parts, le-parts}
+use Rattle.rational.specs.Integer.{up}
+use Rattle.rational.proofs.Integer.{add-parts, le-parts}
 use Rattle.elements.specs.declared.here.Level.{Level}
 use Rattle.elements.specs.Held.{wordBase, ahead, rank}
 use Rattle.elements.proofs.Numbers.{less, difference}

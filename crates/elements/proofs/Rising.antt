@@ -8,7 +8,8 @@ use native.Mathlib.Omega.{arith}
 use lib.IntN.{ℤ, pos, _+ℤ_}
 use lib.Signed.{_≤ℤ_}
 use Rattle.language.specs.Outcome.{Outcome, done, refused, _>>=_}
-use Rattle.language.specs.Listed.{At, In, in-nil, in-append, in-cons, in-here, in-later}
+use Rattle.language.specs.Listed.{At, In}
+use Rattle.language.proofs.Listed.{in-nil, in-append, in-cons, in-here, in-later}
 use Rattle.language.specs.Ranges.{range}
 use Rattle.language.specs.Scope.{Scope, bind}
 use Rattle.language.specs.Syntax.{Formula, Spans, point, span}

@@ -8,7 +8,8 @@ use native.Mathlib.Omega.{arith}
 use lib.IntN.{ℤ, pos, negsuc, negℤ, _+ℤ_}
 use lib.Signed.{_≤ℤ_}
 use Rattle.rules.specs.declared.Refusal.{Refusal}
-use Rattle.value.specs.Integer.{up, down, by-parts, add-parts, neg-up, neg-down, le-parts, le-of-parts}
+use Rattle.rational.specs.Integer.{up, down}
+use Rattle.rational.proofs.Integer.{by-parts, add-parts, neg-up, neg-down, le-parts, le-of-parts}
 use Rattle.language.specs.Ranges.{upFrom, range}
 use Rattle.elements.specs.Elements.{Walked, finished, stopped, reaches, followed, chained, Behind}
 use Rattle.elements.proofs.Walks.{After, behind-followed}

@@ -8,7 +8,7 @@ use lib.ListN.{length, take}
 use lib.IntN.{ℤ, pos, _+ℤ_, _-ℤ_}
 use lib.Signed.{ltZ}
 use Rattle.rules.specs.Limits.{indexLimit}
-use Rattle.value.specs.Integer.{up}
+use Rattle.rational.specs.Integer.{up}
 use Rattle.lexer.specs.Text.{Token}
 use Rattle.language.specs.Scope.{Binding}
 use Rattle.steps.specs.declared.scope.Scope.{Scope as HeldScope}

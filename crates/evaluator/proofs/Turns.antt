@@ -11,7 +11,8 @@ use Rattle.value.specs.declared.Value.{Value}
 use Rattle.value.specs.declared.Fit.{Fit}
 use Rattle.value.specs.declared.Fit.the-variants.{Fits, TooBig}
 use Rattle.value.specs.Decimal.{Valid, zeroValue, sumOf, ifInRange}
-use Rattle.value.specs.Integer.{up, down, add-parts, neg-up, neg-down}
+use Rattle.rational.specs.Integer.{up, down}
+use Rattle.rational.proofs.Integer.{add-parts, neg-up, neg-down}
 use Rattle.value.proofs.Ranges.{valid-both}
 use Rattle.value.proofs.Operations.{sum-valid, zero-valid}
 use Rattle.lexer.specs.Text.{Token}

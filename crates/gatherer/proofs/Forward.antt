@@ -15,7 +15,8 @@ use Rattle.value.specs.Decimal.{sumOf, productOf}
 use Rattle.lexer.specs.Marks.{minusSign, timesSign, opens, sumWord}
 use Rattle.lexer.specs.Text.{Token, Kind}
 use Rattle.lexer.specs.Text
-use Rattle.language.specs.Outcome.{Outcome, done, refused, orRefuse, fitting, refused-done}
+use Rattle.language.specs.Outcome.{Outcome, done, refused, orRefuse, fitting}
+use Rattle.language.proofs.Outcome.{refused-done}
 use Rattle.language.specs.Syntax.{Spans, Name, Sort, point, span}
 use Rattle.language.specs.Syntax
 use Rattle.language.specs.Reader.{Reader, _>>=_, give, refuse, lift, passed, next, look, isMark, Used, find}

@@ -11,9 +11,11 @@ use Rattle.rules.specs.declared.Refusal.the-variants.{LongText, StrangeByte, Mi
 use Rattle.rules.specs.Refusals.{refusalNumber}
 use Rattle.language.specs.All.{All}
 use Rattle.lexer.specs.Text.{Token, tokens}
-use Rattle.language.specs.Outcome.{Outcome, done, refused, after, after-check, done-injective}
+use Rattle.language.specs.Outcome.{Outcome, done, refused}
+use Rattle.language.proofs.Outcome.{after, after-check, done-injective}
 use Rattle.language.specs.Listing.{linesOf, bytesOfAll}
-use Rattle.language.specs.Answer.{Answer, accepted, accepted-of, listingOf, listing, respond, answer}
+use Rattle.language.specs.Answer.{Answer, accepted, listingOf, listing, respond, answer}
+use Rattle.language.proofs.Answer.{accepted-of}
 use Rattle.language.specs.Proper.{Proper}
 use Rattle.language.specs.Syntax.{Structure}
 use Rattle.language.specs.Phrases.{WritesStructure}

@@ -5,9 +5,11 @@ use mathlib.Core.Bool.{Bool, true, false, cond}
 use mathlib.Core.Option.{Option, none, some}
 use mathlib.Core.List.{List, [], _∷_}
 use Rattle.value.specs.Number.{exactly}
-use Rattle.language.specs.Listed.{In, in-nil, in-cons, in-here, in-later}
-use Rattle.value.specs.Rational.{_⊑_, ⊑-trans, ⊑-refl}
-use Rattle.language.specs.Outcome.{none-some, some-injective}
+use Rattle.language.specs.Listed.{In}
+use Rattle.language.proofs.Listed.{in-nil, in-cons, in-here, in-later}
+use Rattle.value.specs.Rational.{_⊑_}
+use Rattle.value.proofs.Rational.{⊑-trans, ⊑-refl}
+use Rattle.language.proofs.Outcome.{none-some, some-injective}
 use Rattle.value.specs.declared.Value.{Value}
 use Rattle.value.specs.Decimal.{zeroValue, isAtMost}
 use Rattle.language.specs.Numbering.{Entry, picked, extreme, isAtLeast, largest, smallest}

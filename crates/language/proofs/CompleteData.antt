@@ -13,9 +13,10 @@ use borrow.Author.Tests.{lt-ltb}
 use Rattle.rules.specs.declared.Refusal.the-variants.{Misplaced, BadIndex}
 use Rattle.rules.specs.Limits.{byteLimit, nestingLimit, dataLimit}
 use Rattle.value.specs.declared.Value.{Value}
-use Rattle.value.specs.Integer.{*ℤ-id}
-use Rattle.value.specs.Fraction.{_≈_, integer}
-use Rattle.value.specs.Rational.{whole, floor, exact, rational-integer}
+use Rattle.rational.proofs.Integer.{*ℤ-id}
+use Rattle.rational.specs.Fraction.{_≈_, integer}
+use Rattle.value.specs.Rational.{whole, floor}
+use Rattle.value.proofs.Rational.{exact, rational-integer}
 use Rattle.value.specs.Decimal.{Valid, tenths, frac, negate, wholeOf, ofWhole}
 use Rattle.value.specs.Number.{exactly}
 use Rattle.value.proofs.Integers.{natAbs-mul}

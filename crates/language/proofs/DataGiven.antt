@@ -11,9 +11,11 @@ use lib.ListN.{length}
 use lib.IntN.{ℤ}
 use Rattle.value.specs.declared.Value.{Value}
 use Rattle.lexer.specs.Text.{Token}
-use Rattle.language.specs.Listed.{At, In, Distinct, at-length, in-nil, in-cons, in-here, in-later, distinct-nil}
-use Rattle.language.specs.All.{All, all-at, all-with}
-use Rattle.language.specs.Outcome.{none-some}
+use Rattle.language.specs.Listed.{At, In, Distinct}
+use Rattle.language.proofs.Listed.{at-length, in-nil, in-cons, in-here, in-later, distinct-nil}
+use Rattle.language.specs.All.{All}
+use Rattle.language.proofs.All.{all-at, all-with}
+use Rattle.language.proofs.Outcome.{none-some}
 use Rattle.language.specs.Syntax.{Name, Sort, Spans, Structure, point, span}
 use Rattle.language.specs.Syntax
 use Rattle.language.specs.Scope.{Scope}

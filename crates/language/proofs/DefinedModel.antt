@@ -11,9 +11,12 @@ use lib.ListN.{length}
 use lib.IntN.{ℤ}
 use Rattle.rules.specs.declared.Refusal.the-variants.{Missing}
 use Rattle.value.specs.declared.Value.{Value}
-use Rattle.language.specs.Listed.{At, In, in-nil, in-cons}
-use Rattle.language.specs.All.{All, all-at, all-in}
-use Rattle.language.specs.Outcome.{done, check, after, refused-done}
+use Rattle.language.specs.Listed.{At, In}
+use Rattle.language.proofs.Listed.{in-nil, in-cons}
+use Rattle.language.specs.All.{All}
+use Rattle.language.proofs.All.{all-at, all-in}
+use Rattle.language.specs.Outcome.{done, check}
+use Rattle.language.proofs.Outcome.{after, refused-done}
 use Rattle.language.specs.Scope.{Scope, bind}
 use Rattle.language.specs.Syntax.{Name, Sort, Spans, point, span, Constraint}
 use Rattle.language.specs.Syntax

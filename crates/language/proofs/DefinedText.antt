@@ -4,7 +4,8 @@ use mathlib.Core.List.{List}
 use Prim.Native.Nat.{ℕ}
 use Rattle.language.specs.Outcome.{done}
 use Rattle.language.specs.Model.{Model, readModel}
-use Rattle.language.specs.Answer.{Accepted, accepted, accepted-of}
+use Rattle.language.specs.Answer.{Accepted, accepted}
+use Rattle.language.proofs.Answer.{accepted-of}
 use Rattle.language.specs.Named.{NamedStructure}
 use Rattle.language.specs.Defined.{DefinedModel}
 use Rattle.language.proofs.PhrasedModel.{structure-written}

@@ -10,7 +10,8 @@ use native.Mathlib.Omega.{arith}
 use lib.ListN.{length}
 use lib.IntN.{ℤ, pos, negsuc}
 use borrow.Author.Tests.{eq-eqb}
-use Rattle.language.specs.Listed.{At, In, in-nil, in-cons, in-here, in-later, in-left, in-right}
+use Rattle.language.specs.Listed.{At, In}
+use Rattle.language.proofs.Listed.{in-nil, in-cons, in-here, in-later, in-left, in-right}
 use Rattle.language.specs.Outcome.{done}
 use Rattle.language.specs.Scope.{Scope, unbound, sameWhole, sameElement}
 use Rattle.language.specs.Syntax.{Formulas, Spans, Sort, Name}

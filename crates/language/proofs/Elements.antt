@@ -6,10 +6,14 @@ use mathlib.Core.List.{List, [], _∷_}
 use Prim.Native.Nat.{ℕ, _<_}
 use lib.IntN.{ℤ}
 use lib.Signed.{_≤ℤ_}
-use Rattle.language.specs.Listed.{In, in-nil, in-cons, in-here}
-use Rattle.language.specs.Ranges.{range, in-range, range-in}
-use Rattle.value.specs.Rational.{floor, ceiling, floor-is, ceiling-is}
-use Rattle.language.specs.Outcome.{Outcome, done, after}
+use Rattle.language.specs.Listed.{In}
+use Rattle.language.proofs.Listed.{in-nil, in-cons, in-here}
+use Rattle.language.specs.Ranges.{range}
+use Rattle.language.proofs.Ranges.{in-range, range-in}
+use Rattle.value.specs.Rational.{floor, ceiling}
+use Rattle.value.proofs.Rational.{floor-is, ceiling-is}
+use Rattle.language.specs.Outcome.{Outcome, done}
+use Rattle.language.proofs.Outcome.{after}
 use Rattle.language.specs.Scope.{Scope, bind}
 use Rattle.language.specs.Syntax.{Formula, Spans, point, span}
 use Rattle.language.specs.Evaluation.{limitsOf, runOf, eval}

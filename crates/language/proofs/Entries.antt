@@ -10,10 +10,13 @@ use lib.Dec.{ltb}
 use lib.ListN.{length, length-map}
 use lib.IntN.{ℤ}
 use Rattle.value.specs.Number.{exactly}
-use Rattle.language.specs.Listed.{At, In, in-nil, in-cons, in-here, in-later}
-use Rattle.value.specs.Rational.{ℚ, 𝟎, neg, neg-mono, neg-neg, neg-add, neg-mul, neg-zero}
+use Rattle.language.specs.Listed.{At, In}
+use Rattle.language.proofs.Listed.{in-nil, in-cons, in-here, in-later}
+use Rattle.value.specs.Rational.{ℚ, 𝟎, neg}
+use Rattle.value.proofs.Rational.{neg-mono, neg-neg, neg-add, neg-mul, neg-zero}
 use Rattle.rules.specs.declared.Refusal.the-variants.{Full, Outside}
-use Rattle.language.specs.Outcome.{Outcome, done, _>>=_, after, after-check, some-of, done-injective}
+use Rattle.language.specs.Outcome.{Outcome, done, _>>=_}
+use Rattle.language.proofs.Outcome.{after, after-check, some-of, done-injective}
 use Rattle.rules.specs.Limits.{variableLimit}
 use Rattle.value.specs.declared.Value.{Value}
 use Rattle.language.specs.Scope.{Scope, unbound}

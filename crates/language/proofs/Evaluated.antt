@@ -6,9 +6,11 @@ use lib.Dec.{leb}
 use lib.IntN.{ℤ}
 use Rattle.value.specs.Number.{exactly}
 use Rattle.language.specs.Ranges.{range}
-use Rattle.value.specs.Rational.{ℚ, _⊕_, neg, floor, ceiling, floor-whole, ceiling-whole, add-zero, zero-add, add-assoc}
+use Rattle.value.specs.Rational.{ℚ, _⊕_, neg, floor, ceiling}
+use Rattle.value.proofs.Rational.{floor-whole, ceiling-whole, add-zero, zero-add, add-assoc}
 use Rattle.rules.specs.declared.Refusal.the-variants.{BadIndex, NotWhole, Missing}
-use Rattle.language.specs.Outcome.{fits-of, after-whole, Outcome, done, after, after-some, after-check, some-of, done-injective}
+use Rattle.language.specs.Outcome.{Outcome, done}
+use Rattle.language.proofs.Outcome.{fits-of, after-whole, after, after-some, after-check, some-of, done-injective}
 use Rattle.rules.specs.Limits.{runLimit}
 use Rattle.value.specs.declared.Value.{Value}
 use Rattle.value.specs.declared.Whole.the-variants.{Number}

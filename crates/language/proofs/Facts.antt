@@ -15,14 +15,17 @@ use Rattle.lexer.specs.Marks.{initWord, closeWord}
 use Rattle.value.specs.declared.Value.{Value}
 use Rattle.lexer.specs.Text.{Token, literal, sameBytes, tokens}
 use Rattle.lexer.proofs.Same.{same-bytes-refl}
-use Rattle.language.specs.Outcome.{Outcome, done, refused, done-injective, refused-done}
+use Rattle.language.specs.Outcome.{Outcome, done, refused}
+use Rattle.language.proofs.Outcome.{done-injective, refused-done}
 use Rattle.language.specs.Syntax.{Name, Sort, Constraint, Structure}
 use Rattle.language.specs.Reader.{Read, Reader, _>>=_, give, next, isMark, require, readString, Used, find}
 use Rattle.language.specs.Grammar.{structure}
 use Rattle.language.specs.Data.{Given, portionsOf, readClose, dataOf, readEnd, readData}
 use Rattle.language.specs.Model.{Model, model, readModel, whatOf}
-use Rattle.language.specs.Listed.{In, Distinct, distinct-nil, distinct-cons, distinct-append, in-cons, in-nil, map-at}
-use Rattle.language.specs.All.{All, all-with}
+use Rattle.language.specs.Listed.{In, Distinct}
+use Rattle.language.proofs.Listed.{distinct-nil, distinct-cons, distinct-append, in-cons, in-nil, map-at}
+use Rattle.language.specs.All.{All}
+use Rattle.language.proofs.All.{all-with}
 use Rattle.language.specs.Literals.{AllSort, AllNames, AllLiterals}
 use Rattle.language.specs.Phrases.{_at_, Unknown, Writes, constraint, constraints, oneConstraint, lastConstraint, moreConstraints, with, WritesList, lastName, oneName, WritesOptionalList, noList, aList, WritesDeclarations, sixLists, WritesStructure, wholeModel}
 use Rattle.language.proofs.Taken.{Wrote, after-read, next-read, string-read}

@@ -6,7 +6,8 @@ use Prim.Native.Nat.{ℕ, _<_}
 use native.Mathlib.Omega.{arith}
 use lib.Dec.{lit<}
 use Rattle.rules.specs.Characters.{tab, lineFeed}
-use Rattle.language.specs.All.{All, all-append, all-weaken}
+use Rattle.language.specs.All.{All}
+use Rattle.language.proofs.All.{all-append, all-weaken}
 use Rattle.language.specs.Proper.{Visible, Text}
 use Rattle.language.specs.Listing.{fields}
 

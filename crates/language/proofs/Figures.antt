@@ -15,7 +15,8 @@ use Rattle.value.specs.Literal.{literalOf, isLiteral, before, after, allDigits}
 use Rattle.value.specs.Printed.{digits, natural, minusSign, places, printed, printedWhole}
 use Rattle.value.proofs.ReadBack.{readBack, read-back, printed-unique}
 use Rattle.language.specs.Listing.{upperField}
-use Rattle.language.specs.All.{All, all-append, all-weaken}
+use Rattle.language.specs.All.{All}
+use Rattle.language.proofs.All.{all-append, all-weaken}
 use Rattle.language.specs.Valid.{Small, SmallElement, ValidUpper}
 use Rattle.language.specs.Proper.{Visible, Text}
 

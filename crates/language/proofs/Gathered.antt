@@ -11,10 +11,13 @@ use lib.ListN.{length, getD, set, replicate, length-set, length-map, length-repl
 use lib.IntN.{ℤ, pos, negsuc}
 use borrow.Author.Tests.{eqb-true}
 use Rattle.value.specs.Number.{exactly}
-use Rattle.language.specs.Listed.{At, at-length}
-use Rattle.value.specs.Rational.{ℚ, 𝟎, _⊕_, _⊗_, ring, add-zero, zero-add, add-assoc, mul-add, mul-assoc, mul-zero, zero-mul, one-mul, mul-neg, neg-mul, neg-add, neg-neg, neg-zero}
+use Rattle.language.specs.Listed.{At}
+use Rattle.language.proofs.Listed.{at-length}
+use Rattle.value.specs.Rational.{ℚ, 𝟎, _⊕_, _⊗_}
+use Rattle.value.proofs.Rational.{ring, add-zero, zero-add, add-assoc, mul-add, mul-assoc, mul-zero, zero-mul, one-mul, mul-neg, neg-mul, neg-add, neg-neg, neg-zero}
 use Rattle.rules.specs.declared.Refusal.the-variants.{Outside}
-use Rattle.language.specs.Outcome.{after-fits, none-some, Outcome, done, after, some-of, done-injective, some-injective}
+use Rattle.language.specs.Outcome.{Outcome, done}
+use Rattle.language.proofs.Outcome.{after-fits, none-some, after, some-of, done-injective, some-injective}
 use Rattle.value.specs.declared.Value.{Value}
 use Rattle.value.specs.Decimal.{zeroValue, oneValue, sumOf, productOf}
 use Rattle.language.specs.Scope.{Scope, bind, unbound, sameWhole, sameElement}

@@ -8,9 +8,12 @@ use Prim.Native.Nat.{ℕ, suc}
 use lib.IntN.{ℤ}
 use lib.ListN.{length, length-map}
 use Rattle.value.specs.Number.{exactly}
-use Rattle.language.specs.Listed.{At, In, at-getD, at-map}
-use Rattle.value.specs.Rational.{ℚ, 𝟎, _⊑_, ⊑-refl, ⊑-trans, ⊑-antisym}
-use Rattle.language.specs.Outcome.{done, after, done-injective}
+use Rattle.language.specs.Listed.{At, In}
+use Rattle.language.proofs.Listed.{at-getD, at-map}
+use Rattle.value.specs.Rational.{ℚ, 𝟎, _⊑_}
+use Rattle.value.proofs.Rational.{⊑-refl, ⊑-trans, ⊑-antisym}
+use Rattle.language.specs.Outcome.{done}
+use Rattle.language.proofs.Outcome.{after, done-injective}
 use Rattle.value.specs.declared.Value.{Value}
 use Rattle.language.specs.Scope.{Scope}
 use Rattle.language.specs.Syntax.{Formula, Name, Relation, atMost, atLeast, equal, Side, bare, form}

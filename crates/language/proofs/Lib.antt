@@ -1,3 +1,8 @@
+pub mod Answer
+pub mod Ranges
+pub mod All
+pub mod Listed
+pub mod Outcome
 pub mod Meant
 pub mod Taken
 pub mod Phrased

@@ -9,8 +9,10 @@ use native.Mathlib.Omega.{arith}
 use native.Mathlib.Decide.{ℕ-discrete}
 use lib.Dec.{ltb}
 use lib.ListN.{length, getD}
-use Rattle.language.specs.Listed.{At, In, at-getD, in-nil, in-cons, in-here, in-later, in-left, in-right}
-use Rattle.language.specs.All.{All, all-in, in-all, all-append, all-weaken}
+use Rattle.language.specs.Listed.{At, In}
+use Rattle.language.proofs.Listed.{at-getD, in-nil, in-cons, in-here, in-later, in-left, in-right}
+use Rattle.language.specs.All.{All}
+use Rattle.language.proofs.All.{all-in, in-all, all-append, all-weaken}
 use Rattle.value.specs.declared.Value.{Value}
 use Rattle.value.specs.Decimal.{zeroValue, isZero}
 use Rattle.language.specs.Syntax.{Name}

@@ -6,7 +6,8 @@ use Prim.Native.Nat.{ℕ}
 use Rattle.value.specs.declared.Value.{Value}
 use Rattle.lexer.specs.Text.{Token}
 use Rattle.language.specs.Syntax.{Sort, Name}
-use Rattle.language.specs.All.{All, all-at}
+use Rattle.language.specs.All.{All}
+use Rattle.language.proofs.All.{all-at}
 use Rattle.language.specs.Literals.{AllFormula, AllFormulas, AllSpans, AllForm, AllTerm, AllSide, AllConstraint, AllSort, AllName, AllNames}
 use Rattle.language.specs.Phrases
 use Rattle.language.specs.Phrases.{Means, Phrase, formula, primary, run, subscripts, formulas, entry, entries, domain, anyDomain, formTerm, signedTerms, linearForm, body, side, constraint, constraints, indexList, declaredDomain, sort, Writes, oneTerm, plusTerm, minusTerm, addition, difference, onePrimary, product, integer, real, declared, sumOver, nested, runOver, unsubscripted, inBrackets, lastFormula, oneFormula, between, lastEntry, oneEntry, inParentheses, noDomain, aDomain, unsigned, signed, noTerm, plusNext, minusNext, multiple, aVariable, aSigma, discrete, continuous, sigmaOver, innerSigma, innerForm, oneConstraint, alone, withSign, withFactor, withSigma, withSecond, lastConstraint, moreConstraints, noSubscripts, withDomain, lastIndex, oneIndex, indexSort, integerSort, realSort, formulaSort, discreteSort, continuousSort}

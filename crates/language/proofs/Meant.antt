@@ -8,7 +8,7 @@ use native.Mathlib.Omega.{arith}
 use Rattle.lexer.specs.Text.{sameBytes}
 use Rattle.lexer.proofs.Same.{same-bytes-equal, same-bytes-refl}
 use Rattle.language.specs.Listed.{At}
-use Rattle.language.specs.Outcome.{some-injective, none-some}
+use Rattle.language.proofs.Outcome.{some-injective, none-some}
 use Rattle.language.specs.Syntax.{Name, Sort}
 use Rattle.language.specs.Reader.{Used, find}
 use Rattle.language.specs.Phrases.{Means, Unknown}

@@ -10,8 +10,10 @@ use native.Mathlib.Omega.{arith}
 use lib.Dec.{ltb}
 use lib.ListN.{length}
 use borrow.Author.Tests.{ltb-true, lt-ltb}
-use Rattle.language.specs.Listed.{At, In, Split, at-unique, at-length, at-append, in-nil, in-cons, in-here, in-later, in-append, in-left, in-right, in-map, map-in, distinct-from-map}
-use Rattle.language.specs.Outcome.{none-some, done}
+use Rattle.language.specs.Listed.{At, In}
+use Rattle.language.proofs.Listed.{Split, at-unique, at-length, at-append, in-nil, in-cons, in-here, in-later, in-append, in-left, in-right, in-map, map-in, distinct-from-map}
+use Rattle.language.specs.Outcome.{done}
+use Rattle.language.proofs.Outcome.{none-some}
 use Rattle.language.specs.Scope.{Scope}
 use Rattle.language.specs.Syntax.{Name, Sort, Spans, Relation, Side, bare, form}
 use Rattle.language.specs.Syntax

@@ -8,9 +8,12 @@ use native.Mathlib.Omega.{arith}
 use native.Mathlib.Nat.{le-of-suc-le-suc}
 use lib.IntN.{ℤ, pos, negℤ, _+ℤ_}
 use lib.Signed.{_≤ℤ_}
-use Rattle.value.specs.Integer.{up, le-parts, add-parts}
-use Rattle.language.specs.Listed.{At, In, Distinct, Split, at-length, at-append, in-nil, map-in, distinct-nil, distinct-cons}
-use Rattle.language.specs.Ranges.{upFrom, range, in-upFrom}
+use Rattle.rational.specs.Integer.{up}
+use Rattle.rational.proofs.Integer.{le-parts, add-parts}
+use Rattle.language.specs.Listed.{At, In, Distinct}
+use Rattle.language.proofs.Listed.{Split, at-length, at-append, in-nil, map-in, distinct-nil, distinct-cons}
+use Rattle.language.specs.Ranges.{upFrom, range}
+use Rattle.language.proofs.Ranges.{in-upFrom}
 use Rattle.language.specs.Demand3.{Rising, Precedes}
 
 module _ {A : Type 0} {R : A → A → Type 0} where

@@ -12,7 +12,8 @@ use Rattle.rules.specs.Characters.{code, tab, lineFeed}
 use Rattle.value.specs.Printed.{printedWhole}
 use Rattle.value.proofs.ReadBack.{printed-unique}
 use Rattle.language.specs.Listing.{Line, lpLine, rowLine, varLine, colLine, endLine, fields, bytesOf, bytesOfAll}
-use Rattle.language.specs.All.{All, all-append}
+use Rattle.language.specs.All.{All}
+use Rattle.language.proofs.All.{all-append}
 use Rattle.language.specs.Proper.{Visible, Text, Proper}
 use Rattle.language.proofs.Parts.{wordOf, fieldsOf, partsOf, bytes-parts}
 use Rattle.language.proofs.Fields.{NoLineFeed, text-line, fields-once, fields-line}

@@ -16,15 +16,17 @@ use Rattle.value.proofs.Operations.{zero-valid}
 use Rattle.value.proofs.Ranges.{and-left, and-right}
 use Rattle.value.proofs.Reading.{literal-valid}
 use Rattle.lexer.specs.Text.{isSmall, inName, inString}
-use Rattle.language.specs.Listed.{at-map}
-use Rattle.language.specs.All.{All, all-at, in-all, all-append, all-left, all-right, all-getD, all-weaken}
+use Rattle.language.proofs.Listed.{at-map}
+use Rattle.language.specs.All.{All}
+use Rattle.language.proofs.All.{all-at, in-all, all-append, all-left, all-right, all-getD, all-weaken}
 use Rattle.language.specs.Outcome.{done}
 use Rattle.language.specs.Syntax.{Name, Constraint}
 use Rattle.language.specs.Syntax
 use Rattle.language.specs.Model.{Model}
 use Rattle.language.specs.Numbering.{Variable, Row, Fact, bound, row, Entry, keep, lessRow, equalRow, Lp, lessRows, equalRows, rows, generate}
 use Rattle.language.specs.Listing.{colLine, endLine, rightOf, coefficientsOf, rowLines, varLines, columnLines, colLines, linesOf}
-use Rattle.language.specs.Answer.{Accepted, accepted, accepted-of}
+use Rattle.language.specs.Answer.{Accepted, accepted}
+use Rattle.language.proofs.Answer.{accepted-of}
 use Rattle.language.specs.Valid.{ValidRow, ValidVariable, ValidFact, ValidEntry, ValidProblem}
 use Rattle.language.specs.Proper.{Visible, Text, Proper}
 use Rattle.language.specs.Demand3.{sourceOf}

@@ -16,8 +16,10 @@ use Rattle.value.specs.declared.Fit.{Fit}
 use Rattle.value.specs.declared.Fit.the-variants.{Fits, TooBig}
 use Rattle.value.specs.Literal.{isDigit, literalOf}
 use Rattle.lexer.specs.Marks.{Word, capitalWords, smallWords, atMost, atLeast}
-use Rattle.language.specs.Listed.{In, in-here, in-later}
-use Rattle.language.specs.All.{All, all-left, all-right}
+use Rattle.language.specs.Listed.{In}
+use Rattle.language.proofs.Listed.{in-here, in-later}
+use Rattle.language.specs.All.{All}
+use Rattle.language.proofs.All.{all-left, all-right}
 use Rattle.lexer.specs.Text.{Kind, Token, Step, mark, name, literal, string, end, wrong, step, front, behind, sameBytes, isBlank, isSmall, inName, among, nameStep, isCapital, wordStep, isSign, orderStep, literalKind, valued, pointed, literalStep, noBrace, inString, strange, wellShaped, stringStep, stepAt, isWrong, tokensFrom, uncounted, counted, tokens}
 
 -- ---- shapes

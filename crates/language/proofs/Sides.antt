@@ -9,7 +9,7 @@ use Prim.Native.Nat.{ℕ, zero, suc}
 use native.Mathlib.Omega.{arith}
 use Rattle.lexer.specs.Marks.{opens, closes, opensList, closesList}
 use Rattle.lexer.specs.Text.{Token, mark, name, string}
-use Rattle.language.specs.Outcome.{some-injective}
+use Rattle.language.proofs.Outcome.{some-injective}
 use Rattle.language.specs.Syntax.{Formula, Formulas, Spans, Name, Sort, Side, Constraint, Form, Term, point, span, bare, form, also, factor}
 use Rattle.language.specs.Syntax
 use Rattle.language.specs.Reader.{markOf, nameOf, isMark, Used}

@@ -11,8 +11,10 @@ use borrow.Author.Tests.{eqb-true, eq-eqb}
 use Rattle.value.specs.Number.{exactly}
 use Rattle.value.specs.Rational.{_⊑_}
 use Rattle.value.specs.declared.Value.{Value}
-use Rattle.language.specs.Listed.{At, In, Distinct, at-unique}
-use Rattle.language.specs.Outcome.{none-some, done, some-injective}
+use Rattle.language.specs.Listed.{At, In, Distinct}
+use Rattle.language.proofs.Listed.{at-unique}
+use Rattle.language.specs.Outcome.{done}
+use Rattle.language.proofs.Outcome.{none-some, some-injective}
 use Rattle.language.specs.Scope.{Scope}
 use Rattle.language.specs.Syntax.{Formula, Relation, atMost, atLeast, equal, Side, bare, form}
 use Rattle.language.specs.Written.{value, subscripts}

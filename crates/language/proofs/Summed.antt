@@ -8,7 +8,8 @@ use lib.ListN.{length, getD, length-map}
 use borrow.Author.Tests.{eq-eqb, ne-eqb}
 use Rattle.value.specs.Number.{exactly}
 use Rattle.language.specs.Listed.{At}
-use Rattle.value.specs.Rational.{ℚ, 𝟎, _⊕_, _⊗_, add-zero, zero-add, add-assoc, zero-mul}
+use Rattle.value.specs.Rational.{ℚ, 𝟎, _⊕_, _⊗_}
+use Rattle.value.proofs.Rational.{add-zero, zero-add, add-assoc, zero-mul}
 use Rattle.value.specs.declared.Value.{Value}
 use Rattle.value.specs.Decimal.{zeroValue, isZero}
 use Rattle.language.specs.Syntax.{Name}

@@ -12,12 +12,16 @@ use lib.Signed.{_≤ℤ_}
 use Rattle.rules.specs.declared.Refusal.the-variants.{BadIndex, Missing}
 use Rattle.value.specs.declared.Value.{Value}
 use Rattle.value.specs.declared.Whole.the-variants.{Number, NotWhole as noNumber}
-use Rattle.value.specs.Integer.{up, down, le-parts}
+use Rattle.rational.specs.Integer.{up, down}
+use Rattle.rational.proofs.Integer.{le-parts}
 use Rattle.value.specs.Decimal.{Valid, zeroValue, sumOf, productOf, wholeOf}
 use Rattle.value.proofs.Operations.{sum-valid, product-valid, negate-valid, zero-valid, ofWhole-valid}
-use Rattle.language.specs.Ranges.{range, in-range}
-use Rattle.language.specs.All.{All, in-all}
-use Rattle.language.specs.Outcome.{Outcome, done, after, after-some, after-whole, some-of, fits-of, done-injective, some-injective, none-some}
+use Rattle.language.specs.Ranges.{range}
+use Rattle.language.proofs.Ranges.{in-range}
+use Rattle.language.specs.All.{All}
+use Rattle.language.proofs.All.{in-all}
+use Rattle.language.specs.Outcome.{Outcome, done}
+use Rattle.language.proofs.Outcome.{after, after-some, after-whole, some-of, fits-of, done-injective, some-injective, none-some}
 use Rattle.language.specs.Scope.{Binding, Scope, bind, unbound, boundTo}
 use Rattle.language.specs.Syntax.{Formula, Formulas, Spans, datum, minus, plus, times, sum, point, span}
 use Rattle.language.specs.Syntax

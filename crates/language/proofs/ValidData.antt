@@ -16,7 +16,8 @@ use Rattle.value.specs.Decimal.{Valid}
 use Rattle.value.proofs.Integers.{natAbs-neg}
 use Rattle.value.proofs.Operations.{negate-valid}
 use Rattle.language.specs.All.{All}
-use Rattle.language.specs.Outcome.{Outcome, done, refused, done-injective, refused-done, some-injective, none-some}
+use Rattle.language.specs.Outcome.{Outcome, done, refused}
+use Rattle.language.proofs.Outcome.{done-injective, refused-done, some-injective, none-some}
 use Rattle.language.specs.Syntax.{Name, Sort, Spans, point, span}
 use Rattle.language.specs.Syntax
 use Rattle.language.specs.Reader.{Read, Reader, _>>=_, give, refuse, lift, passed, next, look, isMark, isName, demand, require, expect, bracket, readString, Used, find, found, known, readKnown, readIndex}

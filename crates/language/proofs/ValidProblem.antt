@@ -15,8 +15,10 @@ use Rattle.rules.specs.declared.Refusal.the-variants.{Full}
 use Rattle.value.specs.declared.Value.{Value}
 use Rattle.value.specs.Decimal.{Valid, zeroValue, oneValue, sumOf, productOf, isAtMost}
 use Rattle.value.proofs.Operations.{sum-valid, negate-valid, zero-valid}
-use Rattle.language.specs.All.{All, all-with, all-set, all-replicate, all-map}
-use Rattle.language.specs.Outcome.{done, check-of, after, after-fits, after-check, done-injective, some-injective, none-some}
+use Rattle.language.specs.All.{All}
+use Rattle.language.proofs.All.{all-with, all-set, all-replicate, all-map}
+use Rattle.language.specs.Outcome.{done}
+use Rattle.language.proofs.Outcome.{check-of, after, after-fits, after-check, done-injective, some-injective, none-some}
 use Rattle.language.specs.Scope.{Scope, bind}
 use Rattle.language.specs.Syntax.{Name, Sort, Spans, Form, Term, also, factor, variable, sigma, Formula, Constraint, Relation, atMost, atLeast, equal, Side, bare, form}
 use Rattle.language.specs.Syntax

@@ -13,7 +13,8 @@ use Rattle.value.specs.declared.Value.{Value}
 use Rattle.value.specs.Decimal.{Valid}
 use Rattle.value.proofs.Operations.{zero-valid}
 use Rattle.language.specs.All.{All}
-use Rattle.language.specs.Outcome.{done, after, after-check, done-injective, some-injective, none-some}
+use Rattle.language.specs.Outcome.{done}
+use Rattle.language.proofs.Outcome.{after, after-check, done-injective, some-injective, none-some}
 use Rattle.language.specs.Syntax.{Spans, point, span}
 use Rattle.language.specs.Scope.{Scope, sameElement}
 use Rattle.language.specs.Evaluation.{limitsOf, eval, within, isNone}

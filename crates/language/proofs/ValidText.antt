@@ -8,7 +8,8 @@ use Rattle.lexer.specs.Text.{tokens}
 use Rattle.language.specs.Outcome.{done}
 use Rattle.language.specs.Model.{Model, readModel, start}
 use Rattle.language.specs.Numbering.{Lp, generate}
-use Rattle.language.specs.Answer.{Accepted, accepted, accepted-of}
+use Rattle.language.specs.Answer.{Accepted, accepted}
+use Rattle.language.proofs.Answer.{accepted-of}
 use Rattle.language.specs.Literals.{AllLiterals}
 use Rattle.language.specs.Valid.{ValidScope, ValidStore, ValidProblem}
 use Rattle.language.proofs.Shapes.{AllShaped, shaped-right, tokens-shaped}

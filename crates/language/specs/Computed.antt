@@ -5,7 +5,7 @@ use Prim.Native.Nat.{ℕ}
 use Rattle.value.specs.declared.Value.{Value}
 use Rattle.rules.specs.Characters.{bytes}
 use Rattle.rules.specs.Limits.{byteLimit, tokenLimit, nameLength, stringLength, digitLimit, mantissaLimit, scaleLimit, nameLimit, constraintLimit, dataLimit, variableLimit, rowLimit, nestingLimit, runLimit, indexLimit}
-use Rattle.value.specs.Fraction.{_⊕_, _⊗_}
+use Rattle.rational.specs.Fraction.{_⊕_, _⊗_}
 use Rattle.value.specs.Decimal.{tenths, frac, withSign, seek, choose, fitOf, sumOf, productOf, negate, isAtMost, isZero, wholeOf, ofWhole}
 use Rattle.value.specs.Literal.{isDigit, allDigits, digitOf, numberFrom, before, after, isLiteral, literalOf}
 use Rattle.value.specs.Printed.{digits, widthFrom, natural, minusSign, places, printed, printedWhole}

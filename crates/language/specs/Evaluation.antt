@@ -8,7 +8,7 @@ use lib.ListN.{length}
 use lib.IntN.{ℤ, pos, _+ℤ_, _-ℤ_}
 use lib.Signed.{leZ}
 use Rattle.language.specs.Ranges.{upFrom}
-use Rattle.value.specs.Integer.{up}
+use Rattle.rational.specs.Integer.{up}
 use Rattle.rules.specs.declared.Refusal.the-variants.{BadIndex, NotWhole, Outside, Missing}
 use Rattle.language.specs.Outcome.{Outcome, done, refused, _>>=_, orRefuse, fitting, wholeNumber, check}
 use Rattle.rules.specs.Limits.{runLimit, indexLimit}

@@ -7,14 +7,15 @@ use lib.ListN.{length}
 use Rattle.rules.specs.Limits.{indexLimit, nestingLimit, constraintLimit}
 use Rattle.lexer.specs.Marks.{openWord, colon}
 use Rattle.lexer.specs.Text.{Token, tokens}
-use Rattle.language.specs.Outcome.{done, done-injective}
+use Rattle.language.specs.Outcome.{done}
+use Rattle.language.proofs.Outcome.{done-injective}
 use Rattle.language.specs.Syntax.{Sort, Spans, Name, Structure, point, span}
 use Rattle.language.specs.Reader.{Read, expect, readString}
 use Rattle.language.specs.Linear.{linearAt}
 use Rattle.language.specs.Declarations.{declarations}
 use Rattle.language.specs.Grammar.{readGoal, constraintsOf, structure}
 use Rattle.language.specs.Model.{Model, readModel}
-use Rattle.language.specs.All.{all-with}
+use Rattle.language.proofs.All.{all-with}
 use Rattle.language.specs.Phrases.{Writes, indices, domain, declaredDomain, sort, inParentheses, noSubscripts, withDomain, indexSort, integerSort, realSort, formulaSort, discreteSort, continuousSort, WritesList, lastName, oneName, WritesOptionalList, noList, aList, WritesDeclarations, sixLists, WritesStructure, wholeModel}
 use Rattle.language.proofs.Taken.{after-read}
 use Rattle.language.proofs.PhrasedModel.{structure-written}

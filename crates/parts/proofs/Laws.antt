@@ -10,7 +10,7 @@ use Rattle.rules.specs.declared.Refusal.{Refusal}
 use Rattle.rules.specs.Limits.{nestingLimit, indexLimit}
 use Rattle.lexer.specs.Text.{Token}
 use Rattle.lexer.specs.Marks.{opens, closes, comma}
-use Rattle.language.specs.Outcome.{refused-done}
+use Rattle.language.proofs.Outcome.{refused-done}
 use Rattle.language.specs.Syntax.{Name, Spans, point, Relation, atMost, atLeast, equal}
 use Rattle.language.specs.Reader.{Reader, Titled, follow, _>>=_, give, next, look, demand, stringOf, isMark, expect, bracket, readString, readIndex}
 use Rattle.language.specs.Formulas.{Entry, inDomain, entryOf, spanOf, entriesOf, domainOf, optionalDomain, formulaAt}

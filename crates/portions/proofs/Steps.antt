@@ -17,7 +17,8 @@ use Rattle.rules.specs.declared.Refusal.the-variants.{Misplaced, Missing}
 use Rattle.value.specs.Decimal.{negate}
 use Rattle.value.proofs.Integers.{sfits, back, natAbs-neg}
 use Rattle.lexer.specs.Text.{Token, sameBytes}
-use Rattle.language.specs.Outcome.{Outcome, done, refused, some-injective, none-some}
+use Rattle.language.specs.Outcome.{Outcome, done, refused}
+use Rattle.language.proofs.Outcome.{some-injective, none-some}
 use Rattle.language.specs.Syntax.{Name, Sort}
 use Rattle.language.specs.Reader.{Reader, Read, follow, give, next, nameOf, stringOf, demand, require, readString, Used, find, found, known, readKnown, isIndex, readIndex}
 use Rattle.language.specs.Data.{marked, digitsOf, withMinus, signedEntry, entryBy, readEntry, valueOf, signedValue, readClose, isEnd, readEnd}

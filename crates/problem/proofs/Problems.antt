@@ -9,7 +9,8 @@ use lib.IntN.{ℤ}
 use Rattle.rules.specs.declared.Refusal.{Refusal}
 use Rattle.rules.specs.Limits.{nestingLimit, variableLimit}
 use Rattle.language.specs.Outcome.{Outcome, done, refused, _>>=_}
-use Rattle.language.specs.All.{All, in-all, all-weaken}
+use Rattle.language.specs.All.{All}
+use Rattle.language.proofs.All.{in-all, all-weaken}
 use Rattle.language.specs.Listed.{In}
 use Rattle.language.specs.Syntax.{Name, Constraint}
 use Rattle.language.specs.Scope.{Scope}

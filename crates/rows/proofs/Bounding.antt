@@ -14,7 +14,8 @@ use Rattle.value.specs.declared.Value.{Value}
 use Rattle.value.specs.Decimal.{Valid, isAtMost, inRange}
 use Rattle.value.proofs.Operations.{valid-at-most}
 use Rattle.language.specs.Syntax.{Relation, atMost, atLeast, equal}
-use Rattle.language.specs.All.{All, all-with}
+use Rattle.language.specs.All.{All}
+use Rattle.language.proofs.All.{all-with}
 use Rattle.language.specs.Numbering.{Fact, bound, row, Entry, isRow, picked, extreme, isAtLeast, boundAt, lowerAt, upperAt}
 use Rattle.store.specs.Packed.{packed, unpacked}
 use Rattle.store.proofs.Keys.{digit-above}

@@ -14,7 +14,8 @@ use Rattle.rules.specs.Limits.{rowLimit}
 use Rattle.value.specs.declared.Value.{Value}
 use Rattle.value.specs.Decimal.{Valid}
 use Rattle.language.specs.Syntax.{Relation}
-use Rattle.language.specs.Listed.{At, Split, at-append, at-length}
+use Rattle.language.specs.Listed.{At}
+use Rattle.language.proofs.Listed.{Split, at-append, at-length}
 use Rattle.language.specs.Numbering.{Variable, Row, Fact, Entry, isRow, isEqual, keep, anyRow, lessRow, equalRow}
 use Rattle.language.specs.Listing.{rightOf, coefficientsOf}
 use Rattle.store.specs.declared.Key.{Key}

@@ -12,8 +12,10 @@ use Rattle.rules.specs.Limits.{byteLimit, variableLimit, rowLimit}
 use Rattle.value.specs.Printed.{Written}
 use Rattle.value.proofs.Writing.{written-then}
 use Rattle.lexer.specs.View.{partOf}
-use Rattle.language.specs.All.{All, all-at, all-append, all-left, all-right}
-use Rattle.language.specs.Listed.{At, at-length, at-getD}
+use Rattle.language.specs.All.{All}
+use Rattle.language.proofs.All.{all-at, all-append, all-left, all-right}
+use Rattle.language.specs.Listed.{At}
+use Rattle.language.proofs.Listed.{at-length, at-getD}
 use Rattle.language.specs.Model.{Model}
 use Rattle.language.specs.Numbering.{Entry, Lp, keep, lessRow, equalRow, lessRows, equalRows, rows}
 use Rattle.language.specs.Listing.{Line, lpLine, endLine, rightOf, coefficientsOf, rowLines, varLines, colLines, linesOf}

@@ -15,7 +15,8 @@ use Rattle.rules.specs.Limits.{variableLimit, rowLimit}
 use Rattle.value.specs.declared.Value.{Value}
 use Rattle.value.specs.Decimal.{zeroValue, isZero}
 use Rattle.value.specs.Gathering.{ofMillionths}
-use Rattle.language.specs.Listed.{At, Split, at-length, at-append, at-left, at-right}
+use Rattle.language.specs.Listed.{At}
+use Rattle.language.proofs.Listed.{Split, at-length, at-append, at-left, at-right}
 use Rattle.language.specs.Numbering.{Variable, Row, Entry, keep, lessRow, equalRow}
 use Rattle.language.specs.Listing.{Line, rowLine, colLine, rightOf, coefficientsOf, rowLines, columnLines, colLines}
 use Rattle.rows.specs.Counts.{RowOf}

@@ -10,7 +10,7 @@ use Rattle.rules.specs.Limits.{tokenLimit, nestingLimit}
 use Rattle.lexer.specs.Marks.{minusSign, timesSign, sigmaWord}
 use Rattle.lexer.specs.Text.{Token, Kind}
 use Rattle.lexer.specs.Text
-use Rattle.language.specs.Outcome.{refused-done}
+use Rattle.language.proofs.Outcome.{refused-done}
 use Rattle.language.specs.Syntax.{Name, Formulas, Spans, Form, Term, also, factor, variable, sigma, Side, bare, form}
 use Rattle.language.specs.Syntax
 use Rattle.language.specs.Reader.{Reader, follow, _>>=_, give, next, look, markOf, isMark, expect}

@@ -12,7 +12,7 @@ use Rattle.value.specs.declared.Value.{Value}
 use Rattle.lexer.specs.Marks.{sigmaWord}
 use Rattle.lexer.specs.Text.{Token, Kind}
 use Rattle.lexer.specs.Text
-use Rattle.language.specs.Outcome.{refused-done}
+use Rattle.language.proofs.Outcome.{refused-done}
 use Rattle.language.specs.Syntax.{Name, Formula, Formulas, Spans, Relation, Side, bare, form}
 use Rattle.language.specs.Reader.{asRead}
 use Rattle.language.specs.Linear.{aSigma, aVariable, aPrimary, headBy}

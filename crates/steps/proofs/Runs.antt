@@ -16,7 +16,8 @@ use mir.Facts.{toZ-ofZ, toZ-pos}
 use Rattle.rules.specs.declared.Refusal.the-variants.{BadIndex, NotWhole, Outside}
 use Rattle.rules.specs.Limits.{mantissaLimit, runLimit, indexLimit}
 use Rattle.value.specs.declared.Value.{Value}
-use Rattle.value.specs.Integer.{up, down, add-parts, neg-up, neg-down, le-parts, leZ-true}
+use Rattle.rational.specs.Integer.{up, down}
+use Rattle.rational.proofs.Integer.{add-parts, neg-up, neg-down, le-parts, leZ-true}
 use Rattle.value.proofs.Integers.{mag-le, natAbs-add, natAbs-sub, back}
 use Rattle.value.proofs.Ranges.{and-right}
 use Rattle.language.specs.Ranges.{upFrom}

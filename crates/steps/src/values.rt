@@ -10,7 +10,7 @@ ghost use Prim.Native.Nat.{_/_, _%_, _≤_};
 ghost use lib.Dec.{leb};
 ghost use lib.IntN.{pos, natAbs, _+ℤ_, _-ℤ_};
 ghost use Rattle.rules.specs.Limits.{mantissaLimit, runLimit};
-ghost use Rattle.value.specs.Integer.{up};
+ghost use Rattle.rational.specs.Integer.{up};
 ghost use Rattle.value.specs.Decimal.{zeroValue, productOf, sumOf, ifInRange};
 ghost use Rattle.store.specs.Element.{listOf, extended};
 ghost use Rattle.steps.specs.Values.{fittedAt, signedValue, wholeAnswer, boundAnswer, SmallSpan, LengthIs, RunIs, NumberIs, BindsNth, Tests, KnownIs};

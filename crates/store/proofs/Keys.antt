@@ -13,7 +13,8 @@ use lib.ListN.{length, getD}
 use lib.IntN.{ℤ, pos, negsuc, natAbs, _+ℤ_}
 use lib.Signed.{_≤ℤ_}
 use Rattle.rules.specs.Limits.{mantissaLimit, indexLimit}
-use Rattle.value.specs.Integer.{up, down, by-parts, add-parts, le-parts, le-of-parts}
+use Rattle.rational.specs.Integer.{up, down}
+use Rattle.rational.proofs.Integer.{by-parts, add-parts, le-parts, le-of-parts}
 use Rattle.language.specs.Scope.{sameElement}
 use Rattle.language.specs.Demand3.{Precedes}
 use Rattle.store.specs.Key.{digitOf, digitAt, nameBound, nameDigit, paired, threeWords, keyNumber, keyOf}

@@ -13,7 +13,8 @@ use mir.Val.{SFits, toZ, ofZ}
 use mir.Facts.{toZ-ofZ, toZ-pos}
 use Rattle.rules.specs.Limits.{mantissaLimit, scaleLimit}
 use Rattle.value.specs.declared.Value.{Value}
-use Rattle.value.specs.Integer.{up, down, by-parts, add-parts}
+use Rattle.rational.specs.Integer.{up, down}
+use Rattle.rational.proofs.Integer.{by-parts, add-parts}
 use Rattle.store.specs.Key.{digitOf}
 use Rattle.store.specs.Packed.{packed, unpacked}
 use Rattle.store.proofs.Keys.{digit-out, digit-parts, digit-below}

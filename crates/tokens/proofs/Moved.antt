@@ -11,7 +11,8 @@ use Rattle.rules.specs.declared.Refusal.the-variants.{Misplaced, BadName, Full}
 use Rattle.lexer.specs.Text.{Token}
 use Rattle.lexer.specs.Text
 use Rattle.lexer.specs.Marks.{opens, comma, minusSign}
-use Rattle.language.specs.Outcome.{Outcome, done, refused, done-injective, refused-done}
+use Rattle.language.specs.Outcome.{Outcome, done, refused}
+use Rattle.language.proofs.Outcome.{done-injective, refused-done}
 use Rattle.language.specs.Syntax.{Name, Sort}
 use Rattle.language.specs.Reader.{Used, Reader, Read, follow, _>>=_, give, next, look, isMark, nameOf, demand, require, expect, bracket, found, known, readKnown, readIndex, isIndex}
 use Rattle.language.specs.Formulas.{isSum, Signed, readSign, headOf}

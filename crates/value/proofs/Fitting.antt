@@ -12,7 +12,7 @@ use lib.IntN.{ℤ, pos, natAbs, _*ℤ_}
 use Rattle.rules.specs.Limits.{mantissaLimit, scaleLimit}
 use Rattle.value.specs.declared.Value.{Value}
 use Rattle.value.specs.declared.Fit.the-variants.{Fits, TooBig}
-use Rattle.value.specs.Fraction.{Fraction, _≈_}
+use Rattle.rational.specs.Fraction.{Fraction, _≈_}
 use Rattle.value.specs.Decimal.{Valid, tenths, frac, withSign, Lowest, at, none, seek, choose, ten, fitOf}
 use Rattle.value.proofs.Integers.{natAbs-mul, withSign-scale, withSign-own, withSign-size, withSign-cross}
 use Rattle.value.proofs.Scales.{Sought, sought-first, sought-next, fit-found, choose-fits, divides, ten-pos}

@@ -16,12 +16,12 @@ use Rattle.rules.specs.Limits.{mantissaLimit, scaleLimit}
 use Rattle.value.specs.declared.Value.{Value}
 use Rattle.value.specs.declared.Fit.{Fit}
 use Rattle.value.specs.declared.Fit.the-variants.{Fits, TooBig}
-use Rattle.value.specs.Fraction.{_≈_}
+use Rattle.rational.specs.Fraction.{_≈_}
 use Rattle.value.specs.Decimal.{Valid, tenths, frac, sumOf, inRange}
 use Rattle.value.specs.Gathering.{millionths, ofMillionths, isFit, countLimit, isCount, gathers, Gathered, Counts}
 use Rattle.value.proofs.Integers.{natAbs-mul}
 use Rattle.value.proofs.Scales.{ten-pos}
-use Rattle.value.specs.FractionLaws.{≈-sym, ≈-trans, ⊕-cong}
+use Rattle.rational.proofs.Fraction.{≈-sym, ≈-trans, ⊕-cong}
 use Rattle.value.proofs.Tenths.{tenths-sum}
 use Rattle.value.proofs.Fitting.{fitOf-exact, fitOf-valid, fitOf-cong, fitOf-≈}
 use Rattle.value.proofs.Ranges.{and-false, and-left, and-right, valid-in-range}

@@ -13,7 +13,7 @@ use mir.Syntax.{w64}
 use mir.Val.{SFits, toZ, ofZ}
 use mir.Facts.{toZ-ofZ}
 use Rattle.value.specs.Decimal.{withSign}
-use Rattle.value.specs.Integer.{*ℤ-assoc, *ℤ-+ℤ, negℤ-*ℤ}
+use Rattle.rational.proofs.Integer.{*ℤ-assoc, *ℤ-+ℤ, negℤ-*ℤ}
 
 -- ---- sizes
 

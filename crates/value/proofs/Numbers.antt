@@ -9,10 +9,11 @@ use lib.IntN.{ℤ, pos, negsuc, natAbs, _*ℤ_, zero-*ℤ}
 use Rattle.value.specs.declared.Value.{Value}
 use Rattle.value.specs.declared.Fit.the-variants.{Fits}
 use Rattle.value.specs.declared.Whole.the-variants.{Number, NotWhole}
-use Rattle.value.specs.Integer.{*ℤ-id, leZ-true, leZ-false, le-leZ}
-use Rattle.value.specs.Fraction.{Fraction, _≈_, _≼_, opposite, integer}
-use Rattle.value.specs.FractionLaws.{≈-same}
-use Rattle.value.specs.Rational.{𝟎, 𝟏, _⊕_, _⊗_, neg, whole, rational, sound, exact, rational-integer, rational-⊕, rational-⊖, rational-⊗, rational-opposite, rational-⊑, _⊑_, whole-zero, whole-one}
+use Rattle.rational.proofs.Integer.{*ℤ-id, leZ-true, leZ-false, le-leZ}
+use Rattle.rational.specs.Fraction.{Fraction, _≈_, _≼_, opposite, integer}
+use Rattle.rational.proofs.Fraction.{≈-same}
+use Rattle.value.specs.Rational.{𝟎, 𝟏, _⊕_, _⊗_, neg, whole, rational, sound, _⊑_}
+use Rattle.value.proofs.Rational.{exact, rational-integer, rational-⊕, rational-⊖, rational-⊗, rational-opposite, rational-⊑, whole-zero, whole-one}
 use Rattle.value.specs.Decimal.{Valid, tenths, frac, fitOf, sumOf, differenceOf, productOf, negate, isAtMost, isZero, zeroValue, oneValue, wholeOf, ofWhole}
 use Rattle.value.specs.Number.{exactly}
 use Rattle.value.proofs.Fitting.{fitOf-exact, unique}

@@ -12,11 +12,11 @@ use Rattle.rules.specs.Limits.{mantissaLimit, scaleLimit}
 use Rattle.value.specs.declared.Value.{Value}
 use Rattle.value.specs.declared.Fit.the-variants.{Fits, TooBig}
 use Rattle.value.specs.declared.Whole.the-variants.{Number, NotWhole}
-use Rattle.value.specs.Fraction.{_≈_, _≼_, _⊕_, _⊖_, _⊗_, opposite}
+use Rattle.rational.specs.Fraction.{_≈_, _≼_, _⊕_, _⊖_, _⊗_, opposite}
 use Rattle.value.specs.Decimal.{Valid, tenths, frac, fitOf, sumOf, differenceOf, productOf, negate, isAtMost, isZero, wholeOf, ofWhole, inRange, zeroValue}
 use Rattle.value.specs.Gathering.{millionths, ofMillionths}
 use Rattle.value.proofs.Integers.{natAbs-neg, natAbs-mul}
-use Rattle.value.specs.FractionLaws.{≈-trans, ⊕-cong, opposite-cong, ⊖-is}
+use Rattle.rational.proofs.Fraction.{≈-trans, ⊕-cong, opposite-cong, ⊖-is}
 use Rattle.value.proofs.Tenths.{tenths-sum, tenths-product, tenths-opposite, tenths-scale}
 use Rattle.value.proofs.Fitting.{fitOf-exact, fitOf-valid, fitOf-cong, fitOf-refused}
 use Rattle.value.proofs.Ranges.{range-small, range-places, valid-in-range}

@@ -3,8 +3,8 @@ use mathlib.Core.Path.{_≡_, refl, sym, ap}
 use Prim.Native.Nat.{ℕ, _+_, _^_}
 use lib.Pow.{pow-add}
 use lib.IntN.{ℤ, pos, negℤ, _+ℤ_, _*ℤ_}
-use Rattle.value.specs.Integer.{ringℤ}
-use Rattle.value.specs.Fraction.{_≈_, _⊕_, _⊗_, opposite}
+use Rattle.rational.proofs.Integer.{ringℤ}
+use Rattle.rational.specs.Fraction.{_≈_, _⊕_, _⊗_, opposite}
 use Rattle.value.specs.Decimal.{tenths}
 
 tenths-cross : (a b c : ℤ) → (a +ℤ b) *ℤ (c *ℤ c) ≡ (a *ℤ c +ℤ b *ℤ c) *ℤ c

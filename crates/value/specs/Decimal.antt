@@ -13,7 +13,7 @@ use Rattle.value.specs.declared.Fit.{Fit}
 use Rattle.value.specs.declared.Fit.the-variants.{Fits, TooBig}
 use Rattle.value.specs.declared.Whole.{Whole}
 use Rattle.value.specs.declared.Whole.the-variants.{Number, NotWhole}
-use Rattle.value.specs.Fraction.{Fraction, _⊕_, _⊖_, _⊗_}
+use Rattle.rational.specs.Fraction.{Fraction, _⊕_, _⊖_, _⊗_}
 
 -- the number that z / 10^s is, as a fraction
 unfoldable pub tenths : ℤ → ℕ → Fraction

@@ -1,6 +1,3 @@
-pub mod Integer
-pub mod Fraction
-pub mod FractionLaws
 pub mod Rational
 pub mod Decimal
 pub mod Number

@@ -11,7 +11,8 @@ use Rattle.rules.specs.declared.Refusal.{Refusal}
 use Rattle.rules.specs.declared.Refusal.the-variants.{Full}
 use Rattle.rules.specs.Limits.{variableLimit}
 use Rattle.language.specs.Outcome.{Outcome, done, refused}
-use Rattle.language.specs.All.{All, all-with, all-getD}
+use Rattle.language.specs.All.{All}
+use Rattle.language.proofs.All.{all-with, all-getD}
 use Rattle.language.specs.Scope.{Scope}
 use Rattle.language.specs.Syntax.{Spans}
 use Rattle.language.specs.Evaluation.{over}

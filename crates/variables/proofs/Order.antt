@@ -10,8 +10,10 @@ use Rattle.lexer.specs.Text.{Token}
 use Rattle.lexer.specs.Marks.{comma, semicolon, equals, indexWord, integerWord, realWord, formulaWord, discreteWord, continuousWord}
 use Rattle.rules.specs.Limits.{tokenLimit, nestingLimit}
 use Rattle.rules.specs.declared.Refusal.the-variants.{Misplaced}
-use Rattle.language.specs.Outcome.{Outcome, done, refused, refused-done, done-injective, some-injective, none-some}
-use Rattle.language.specs.All.{All, all-append}
+use Rattle.language.specs.Outcome.{Outcome, done, refused}
+use Rattle.language.proofs.Outcome.{refused-done, done-injective, some-injective, none-some}
+use Rattle.language.specs.All.{All}
+use Rattle.language.proofs.All.{all-append}
 use Rattle.language.specs.Syntax.{Name, Sort, Spans, Formula}
 use Rattle.language.specs.Syntax
 use Rattle.language.specs.Reader.{Reader, Read, follow, _>>=_, give, next, look, isMark, require, expect}

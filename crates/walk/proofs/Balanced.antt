@@ -13,7 +13,7 @@ use Rattle.rules.specs.Limits.{tokenLimit}
 use Rattle.lexer.specs.Marks.{plusSign, minusSign, timesSign, comma, opens, closes, opensList, closesList, sumWord, sigmaWord}
 use Rattle.lexer.specs.Text.{Token, Kind}
 use Rattle.lexer.specs.Text
-use Rattle.language.specs.Outcome.{refused-done}
+use Rattle.language.proofs.Outcome.{refused-done}
 use Rattle.language.specs.Syntax.{Formula, Spans, Name, Sort, Form, Term, factor, variable, point, span}
 use Rattle.language.specs.Syntax
 use Rattle.language.specs.Reader.{Reader, _>>=_, give, refuse, next, look, markOf, isMark, expect, bracket, known, readIndex}

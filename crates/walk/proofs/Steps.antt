@@ -10,7 +10,8 @@ use Rattle.rules.specs.declared.Refusal.the-variants.{Misplaced}
 use Rattle.lexer.specs.Marks.{comma, opens}
 use Rattle.lexer.specs.Text.{Token, Kind, sameBytes}
 use Rattle.lexer.specs.Text
-use Rattle.language.specs.Outcome.{Outcome, done, refused, _>>=_, done-injective, refused-done, some-injective, none-some}
+use Rattle.language.specs.Outcome.{Outcome, done, refused, _>>=_}
+use Rattle.language.proofs.Outcome.{done-injective, refused-done, some-injective, none-some}
 use Rattle.language.specs.Syntax.{Name}
 use Rattle.language.specs.Reader.{Reader, Read, follow, asRead, refuse, passed, next, look, isMark, nameOf, demand, require, expect, bracket, Used, find, found, known, readKnown, isIndex, readIndex}
 use Rattle.language.specs.Formulas.{headOf}

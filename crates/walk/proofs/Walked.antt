@@ -13,7 +13,8 @@ use Rattle.value.specs.Decimal.{zeroValue, sumOf, productOf}
 use Rattle.lexer.specs.Marks.{minusSign, timesSign, comma, opens, closes, opensList, closesList, sumWord}
 use Rattle.lexer.specs.Text.{Token, Kind}
 use Rattle.lexer.specs.Text
-use Rattle.language.specs.Outcome.{Outcome, done, refused, fitting, done-injective}
+use Rattle.language.specs.Outcome.{Outcome, done, refused, fitting}
+use Rattle.language.proofs.Outcome.{done-injective}
 use Rattle.language.specs.Outcome as Outcome
 use Rattle.language.specs.Syntax.{Formula, Formulas, Spans, Name, Sort, point, span, datum, plus, times}
 use Rattle.language.specs.Syntax

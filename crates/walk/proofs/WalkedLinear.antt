@@ -12,7 +12,8 @@ use Rattle.value.specs.declared.Value.{Value}
 use Rattle.value.specs.Decimal.{productOf}
 use Rattle.lexer.specs.Marks.{minusSign, timesSign, comma, closes, sigmaWord}
 use Rattle.lexer.specs.Text.{Token}
-use Rattle.language.specs.Outcome.{Outcome, done, refused, fitting, refused-done}
+use Rattle.language.specs.Outcome.{Outcome, done, refused, fitting}
+use Rattle.language.proofs.Outcome.{refused-done}
 use Rattle.language.specs.Syntax.{Formulas, Spans, Name, Form, Term, also, factor, variable}
 use Rattle.language.specs.Syntax
 use Rattle.language.specs.Reader.{Reader, asRead, _>>=_, give, lift, next, look, isMark, expect}

@@ -2,11 +2,12 @@
 -- Sum, difference and product are those of fractions in general; a decimal is the case of a power of ten below.
 -- Assumes nothing.
 use mathlib.Core.Path.{_≡_}
+use mathlib.Core.Bool.{Bool}
 use Prim.Native.Nat.{ℕ, _*_, _<_}
 use native.Mathlib.Nat.{mul-pos}
 use lib.IntN.{ℤ, pos, negℤ, _+ℤ_, _-ℤ_, _*ℤ_}
 use lib.Dec.{lit<}
-use lib.Signed.{_≤ℤ_}
+use lib.Signed.{_≤ℤ_, leZ, shrZ}
 
 pub record Fraction : Type 0 where
   pub num : ℤ
@@ -41,3 +42,11 @@ opposite p = record { num = negℤ (p .num); den = p .den; positive = p .positiv
 -- an integer as a fraction
 unfoldable pub integer : ℤ → Fraction
 integer z = record { num = z; den = 1; positive = lit< tt }
+
+-- the order, as a test that computes
+abbrev pub isAtMost : Fraction → Fraction → Bool
+isAtMost p q = leZ (p .num *ℤ pos (q .den)) (q .num *ℤ pos (p .den))
+
+-- the largest integer that is not above: the numerator divided by the denominator, rounded down
+abbrev pub wholePart : Fraction → ℤ
+wholePart p = shrZ (p .num) (p .den)

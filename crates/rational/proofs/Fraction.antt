@@ -2,12 +2,14 @@
 -- `_≼_` is an order that goes with them. Each law is an identity or a step of order in ℤ, stated over variables: in p, q, r
 -- the numerators are a, b, c and the denominators x, y, z. Assumes nothing.
 use mathlib.Core.Path.{_≡_, refl, sym, _∙_, ap, ap₂, subst, subst₂}
-use mathlib.Core.Logic.{_⊎_}
+use mathlib.Core.Logic.{_↔_, _⊎_}
+use mathlib.Core.Bool.{Bool, true, false}
+use lib.Dec.{T}
 use Prim.Native.Nat.{ℕ, _*_, _<_}
 use lib.IntN.{ℤ, pos, negℤ, _+ℤ_, _*ℤ_, negℤ-negℤ, +ℤ-invr, zero-*ℤ}
-use lib.Signed.{_≤ℤ_}
-use Rattle.value.specs.Integer.{ringℤ, *ℤ-id, *ℤ-negℤ, negℤ-*ℤ, negℤ-mono, +ℤ-mono, *ℤ-mono, *ℤ-mono-up, *ℤ-cancel-≤, ≤ℤ-trans, ≤ℤ-antisym, ≤ℤ-of-≡, ≤ℤ-total}
-use Rattle.value.specs.Fraction.{Fraction, _≈_, _≼_, _⊕_, _⊖_, _⊗_, opposite, integer}
+use lib.Signed.{_≤ℤ_, leZ, leZ-yes, shrZ, ≤ℤ-refl}
+use Rattle.rational.proofs.Integer.{ringℤ, *ℤ-id, *ℤ-negℤ, negℤ-*ℤ, negℤ-mono, +ℤ-mono, *ℤ-mono, *ℤ-mono-up, *ℤ-cancel-≤, ≤ℤ-trans, ≤ℤ-antisym, ≤ℤ-of-≡, ≤ℤ-total, leZ-false, shrZ-is}
+use Rattle.rational.specs.Fraction.{Fraction, _≈_, _≼_, _⊕_, _⊖_, _⊗_, opposite, integer, isAtMost, wholePart}
 
 -- the denominator as an integer
 abbrev below : Fraction → ℤ
@@ -223,3 +225,43 @@ integer-≼ a b h = *ℤ-mono 1 h
 pub ≼-integer : (a b : ℤ) → integer a ≼ integer b → a ≤ℤ b
 unfolding _≼_ integer
 ≼-integer a b h = *ℤ-cancel-≤ 1 (integer a .positive) h
+
+-- ---- the order, as a test that computes
+
+same-bool : (s t : Bool) → (T s → T t) → (T t → T s) → s ≡ t
+same-bool true true f g = refl
+same-bool true false f g = absurd (f tt)
+same-bool false true f g = absurd (g tt)
+same-bool false false f g = refl
+
+pub passes : (p q : Fraction) → p ≼ q → T (isAtMost p q)
+unfolding _≼_
+passes p q h = h .le
+
+pub passed : (p q : Fraction) → T (isAtMost p q) → p ≼ q
+unfolding _≼_
+passed p q t = leZ-yes t
+
+pub failed : (p q : Fraction) → isAtMost p q ≡ false → q ≼ p
+unfolding _≼_
+failed p q e = leZ-false (p .num *ℤ pos (q .den)) (q .num *ℤ pos (p .den)) e
+
+pub same-test : (p p′ q q′ : Fraction) → p ≈ p′ → q ≈ q′ → isAtMost p q ≡ isAtMost p′ q′
+same-test p p′ q q′ s t =
+    same-bool _ _ (λ h. passes p′ q′ (≼-cong p p′ q q′ s t (passed p q h)))
+    (λ h. passes p q (≼-cong p′ p q′ q (≈-sym p p′ s) (≈-sym q q′ t) (passed p′ q′ h)))
+
+-- ---- the whole part
+
+pub whole-part : (p : Fraction) (k : ℤ) → (integer k ≼ p) ↔ (k ≤ℤ wholePart p)
+unfolding _≼_ integer
+whole-part p k = (
+  λ h. shrZ-is (p .num) (p .den) k (p .positive) .0 (subst (λ t. (k *ℤ pos (p .den)) ≤ℤ t) (*ℤ-id (p .num)) h),
+  λ h. subst (λ t. (k *ℤ pos (p .den)) ≤ℤ t) (sym (*ℤ-id (p .num))) (shrZ-is (p .num) (p .den) k (p .positive) .1 h),
+)
+
+pub same-part : (p q : Fraction) → p ≈ q → wholePart p ≡ wholePart q
+same-part p q s = ≤ℤ-antisym (below-part p q s) (below-part q p (≈-sym p q s))
+  where
+    below-part : (p q : Fraction) → p ≈ q → wholePart p ≤ℤ wholePart q
+    below-part p q s = whole-part q _ .0 (≼-trans (integer (wholePart p)) p q (whole-part p _ .1 (≤ℤ-refl _)) (≼-≈ p q s))

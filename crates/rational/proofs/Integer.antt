@@ -11,15 +11,7 @@ use lib.Dec.{T, T-prop, ltb, leb→le, le→leb}
 use lib.IntN.{ℤ, pos, negsuc, _+ℤ_, _*ℤ_, negℤ, subℕ, +ℤ-assoc, +ℤ-comm, +ℤ-idl, +ℤ-idr, zero-*ℤ, *ℤ-zero, *ℤ-comm, negℤ-+ℤ, negℤ-negℤ}
 use lib.Signed.{_≤ℤ_, leZ, leZ-yes, shrZ, ≤ℤ-refl}
 use borrow.Author.Tests.{ltb-true, ltb-false, leb-false}
-
--- the two parts of an integer
-abbrev pub up : ℤ → ℕ
-up (pos n) = n
-up (negsuc n) = 0
-
-abbrev pub down : ℤ → ℕ
-down (pos n) = 0
-down (negsuc n) = suc n
+use Rattle.rational.specs.Integer.{up, down}
 
 pub one-part : (z : ℤ) → 0 < up z → down z ≡ 0
 one-part (pos n) h = refl
