@@ -17,7 +17,7 @@ use Rattle.value.proofs.Writing.{written-none, written-then}
 use Rattle.listing.specs.Shown.{shownNatural}
 use Rattle.listing.proofs.Showing.{shown-most, whole-is, natural-read, natural-none}
 use Rattle.listing.proofs.Writing.{field-then, line-end, written-from}
-use Rattle.frames.proofs.Laws.{part-length}
+use Rattle.cases.proofs.frames.Laws.{part-length}
 use Rattle.cases.specs.Told.{oneOf, nonzeroOf, told}
 
 -- ---- a number

@@ -1,6 +1,8 @@
 // Runs the stored cases through the entry point, and writes for each its answer: a line of number, place, length and the count
 // of bytes behind the listing that are not zero, parted by tabs; and then the listing. tests/cases/make writes the input, in
 // frames, and what must come out, from the stored cases.
+mod frames;
+
 use frames::Given;
 use generator::Answer;
 ghost use mathlib.Core.Path.{_≡_};

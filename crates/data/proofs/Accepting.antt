@@ -19,7 +19,7 @@ use Rattle.language.specs.Evaluation.{wholeAt, within}
 use Rattle.language.specs.Store.{Store, Portion, scopeOf, wholeIf, accept}
 use Rattle.language.specs.Data.{readNumber}
 use Rattle.tokens.specs.Stored.{from}
-use Rattle.walk.proofs.WalkedDomain.{within-walk}
+use Rattle.onepass.proofs.WalkedDomain.{within-walk}
 use Rattle.store.specs.declared.Element.{Element}
 use Rattle.store.specs.Element.{listOf}
 use Rattle.store.specs.Key.{nameBound}
@@ -27,10 +27,10 @@ use Rattle.evaluator.specs.declared.Passed.{Passed}
 use Rattle.evaluator.specs.declared.Passed.the-variants as passed
 use Rattle.evaluator.specs.Cycle.{passedOutcome, onlyOutcome, WithinIs}
 use Rattle.evaluator.proofs.Names.{size-count, only-as}
-use Rattle.portions.specs.declared.numbers.Numbered.{Numbered}
-use Rattle.portions.specs.declared.numbers.Numbered.the-variants as number
-use Rattle.portions.specs.Readers.{Says, numbered, Number as Signed, numberIn}
-use Rattle.portions.proofs.Joined.{number-joined}
+use Rattle.data.specs.declared.reading.numbers.Numbered.{Numbered}
+use Rattle.data.specs.declared.reading.numbers.Numbered.the-variants as number
+use Rattle.data.specs.Reading.Readers.{Says, numbered, Number as Signed, numberIn}
+use Rattle.data.proofs.reading.Joined.{number-joined}
 use Rattle.data.specs.declared.entering.Accepted.{Accepted}
 use Rattle.data.specs.declared.entering.Accepted.the-variants as accepted
 use Rattle.data.specs.declared.entering.Taken.{Taken}

@@ -27,13 +27,13 @@ use Rattle.tokens.proofs.Moved.{look-is}
 use Rattle.store.specs.declared.Element.{Element}
 use Rattle.store.specs.Element.{listOf}
 use Rattle.store.proofs.Elements as Elements
-use Rattle.steps.specs.declared.values.Limits.{Limits}
-use Rattle.steps.specs.Values.{NumberIs}
+use Rattle.evaluator.specs.declared.steps.values.Limits.{Limits}
+use Rattle.evaluator.specs.Steps.Values.{NumberIs}
 use Rattle.evaluator.proofs.Turns.{nth-small}
-use Rattle.portions.specs.declared.entries.Entries.{Entries}
-use Rattle.portions.specs.Few.{numbersOf}
-use Rattle.portions.specs.Entries.{entriesOf}
-use Rattle.portions.proofs.Lists.{length-few}
+use Rattle.data.specs.declared.reading.entries.Entries.{Entries}
+use Rattle.data.specs.Reading.Few.{numbersOf}
+use Rattle.data.specs.Reading.Entries.{entriesOf}
+use Rattle.data.proofs.reading.Lists.{length-few}
 use Rattle.data.specs.declared.entering.Taken.{Taken}
 use Rattle.data.specs.declared.entering.Taken.the-variants as taken
 use Rattle.data.specs.declared.running.Portion.{Portion as Worked}

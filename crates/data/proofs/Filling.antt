@@ -24,10 +24,10 @@ use Rattle.tokens.specs.Stored.{kindOf, token, bytesFrom, spelling, from, Sees,
 use Rattle.tokens.proofs.Tables.{mark-of, mark-same, no-name}
 use Rattle.tokens.proofs.Moved.{look-is, next-is}
 use Rattle.evaluator.specs.Ground.{Ground}
-use Rattle.portions.specs.declared.ends.Titled.{Titled as Title}
-use Rattle.portions.specs.declared.ends.Titled.the-variants as title
-use Rattle.portions.specs.Readers.{Says, titled, passed}
-use Rattle.portions.proofs.Joined.{follow-follow}
+use Rattle.data.specs.declared.reading.ends.Titled.{Titled as Title}
+use Rattle.data.specs.declared.reading.ends.Titled.the-variants as title
+use Rattle.data.specs.Reading.Readers.{Says, titled, passed}
+use Rattle.data.proofs.reading.Joined.{follow-follow}
 use Rattle.data.specs.declared.Given.the-variants as given
 use Rattle.data.specs.declared.entering.Taken.{Taken}
 use Rattle.data.specs.declared.entering.Taken.the-variants as taken

@@ -19,14 +19,14 @@ use Rattle.tokens.specs.declared.Seen.the-variants as seen
 use Rattle.tokens.specs.Stored.{token, from, size, Sees, Looks, Named, Moves}
 use Rattle.tokens.proofs.Moved.{next-is, stood, stuck}
 use Rattle.formulas.specs.Cycle.{insideIn, partIn}
-use Rattle.walk.specs.Walk.{skip, nameNumber}
-use Rattle.walk.specs.Entries.{read, ReadsEntry, ReadsSpans}
-use Rattle.walk.proofs.Steps.{same-what, same-rest, skip-next, skip-expect}
-use Rattle.steps.specs.Passing.{Skips}
-use Rattle.steps.specs.Names.{indexNumber}
-use Rattle.steps.proofs.Numbers.{index-of}
-use Rattle.portions.specs.declared.few.Few.{Few}
-use Rattle.portions.specs.Few.{Keeps, Adds}
+use Rattle.onepass.specs.Walk.{skip, nameNumber}
+use Rattle.onepass.specs.Entries.{read, ReadsEntry, ReadsSpans}
+use Rattle.onepass.proofs.Steps.{same-what, same-rest, skip-next, skip-expect}
+use Rattle.evaluator.specs.Steps.Passing.{Skips}
+use Rattle.evaluator.specs.Steps.Names.{indexNumber}
+use Rattle.evaluator.proofs.steps.Numbers.{index-of}
+use Rattle.data.specs.declared.reading.few.Few.{Few}
+use Rattle.data.specs.Reading.Few.{Keeps, Adds}
 use Rattle.data.specs.declared.layouts.Span.{Span}
 use Rattle.data.specs.declared.layouts.Span.the-variants as passed
 use Rattle.data.specs.declared.layouts.Layout.{Layout}

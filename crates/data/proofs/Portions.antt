@@ -28,19 +28,19 @@ use Rattle.tokens.specs.declared.Known.{Known}
 use Rattle.tokens.specs.declared.Known.the-variants as known
 use Rattle.tokens.specs.Stored.{from, size, Shaped, Knowing, Knows}
 use Rattle.tokens.proofs.Tables.{false-true}
-use Rattle.steps.specs.Names.{rowWord}
-use Rattle.steps.proofs.Numbers.{found-numbered}
+use Rattle.evaluator.specs.Steps.Names.{rowWord}
+use Rattle.evaluator.proofs.steps.Numbers.{found-numbered}
 use Rattle.evaluator.specs.Tables.{DomainAt, Stands}
 use Rattle.evaluator.specs.Ground.{Ground}
 use Rattle.evaluator.proofs.Names.{below-length}
-use Rattle.portions.specs.declared.few.Few.{Few}
-use Rattle.portions.specs.declared.entries.Entries.{Entries}
-use Rattle.portions.specs.declared.heads.Plan.{Plan}
-use Rattle.portions.specs.declared.heads.Plan.the-variants as plan
-use Rattle.portions.specs.Few.{Keeps}
-use Rattle.portions.specs.Entries.{entriesOf}
-use Rattle.portions.specs.Lists.{listIn, Head, orderIn, restIn, headIn, planned, Heads}
-use Rattle.portions.proofs.Joined.{entries-joined, portion-joined}
+use Rattle.data.specs.declared.reading.few.Few.{Few}
+use Rattle.data.specs.declared.reading.entries.Entries.{Entries}
+use Rattle.data.specs.declared.reading.heads.Plan.{Plan}
+use Rattle.data.specs.declared.reading.heads.Plan.the-variants as plan
+use Rattle.data.specs.Reading.Few.{Keeps}
+use Rattle.data.specs.Reading.Entries.{entriesOf}
+use Rattle.data.specs.Reading.Lists.{listIn, Head, orderIn, restIn, headIn, planned, Heads}
+use Rattle.data.proofs.reading.Joined.{entries-joined, portion-joined}
 use Rattle.data.specs.declared.entering.Taken.{Taken}
 use Rattle.data.specs.declared.entering.Taken.the-variants as taken
 use Rattle.data.specs.declared.layouts.Layout.{Layout}

@@ -18,23 +18,23 @@ use Rattle.language.specs.Store.{Store, stored, Portion, Bound, bindIf, positio
 use Rattle.language.specs.Store as Store
 use Rattle.language.specs.Data.{boundOf}
 use Rattle.tokens.specs.Stored.{from, size}
-use Rattle.walk.specs.Walk as walk
-use Rattle.walk.specs.Entries.{ReadsEntry}
-use Rattle.walk.proofs.WalkedDomain.{entry-walk}
-use Rattle.steps.specs.declared.scope.Scope.{Scope as Held}
-use Rattle.steps.specs.declared.values.Bounds.{Bounds}
-use Rattle.steps.specs.declared.values.Runs.{Runs}
-use Rattle.steps.specs.declared.values.Runs.the-variants as runs
-use Rattle.steps.specs.Scopes.{scopeOf}
-use Rattle.steps.specs.Values.{limitsIn, SmallLimits, RunIs}
-use Rattle.steps.specs.Values as Values
+use Rattle.onepass.specs.Walk as walk
+use Rattle.onepass.specs.Entries.{ReadsEntry}
+use Rattle.onepass.proofs.WalkedDomain.{entry-walk}
+use Rattle.evaluator.specs.declared.steps.scope.Scope.{Scope as Held}
+use Rattle.evaluator.specs.declared.steps.values.Bounds.{Bounds}
+use Rattle.evaluator.specs.declared.steps.values.Runs.{Runs}
+use Rattle.evaluator.specs.declared.steps.values.Runs.the-variants as runs
+use Rattle.evaluator.specs.Steps.Scopes.{scopeOf}
+use Rattle.evaluator.specs.Steps.Values.{limitsIn, SmallLimits, RunIs}
+use Rattle.evaluator.specs.Steps.Values as Values
 use Rattle.evaluator.specs.Tables.{World}
 use Rattle.evaluator.specs.Cycle.{entryIn, boundsOutcome, SmallEntered, EntryIs}
 use Rattle.evaluator.specs.declared.Entered.{Entered}
 use Rattle.evaluator.specs.declared.Entered.the-variants as entered
-use Rattle.portions.specs.declared.entries.Entries.{Entries}
-use Rattle.portions.specs.Few.{numbersOf}
-use Rattle.portions.specs.Entries.{entriesOf}
+use Rattle.data.specs.declared.reading.entries.Entries.{Entries}
+use Rattle.data.specs.Reading.Few.{numbersOf}
+use Rattle.data.specs.Reading.Entries.{entriesOf}
 use Rattle.data.specs.declared.running.Portion.{Portion as Worked}
 use Rattle.data.specs.declared.running.Run.{Run}
 use Rattle.data.specs.declared.running.Run.the-variants as run

@@ -23,16 +23,16 @@ use Rattle.language.specs.Data.{Entry, fixed, marked, boundOf}
 use Rattle.store.specs.declared.Element.{Element}
 use Rattle.store.specs.Element.{listOf, extended}
 use Rattle.store.proofs.Elements.{extended-room}
-use Rattle.steps.specs.declared.scope.Scope.{Scope as Held}
-use Rattle.steps.specs.Scopes.{binding, bindingsOf, boundMore, scopeOf, Small}
-use Rattle.steps.proofs.Scopes.{scope-bind, small-none, small-bind}
-use Rattle.portions.specs.declared.few.Few.{Few}
-use Rattle.portions.specs.declared.entries.Entry.{Entry as Slot}
-use Rattle.portions.specs.declared.entries.Entry.the-variants.{Fixed, Marked}
-use Rattle.portions.specs.declared.entries.Entries.{Entries}
-use Rattle.portions.specs.Few.{numbersOf}
-use Rattle.portions.specs.Entries.{entryOf, entriesOf}
-use Rattle.portions.proofs.Marks.{entries-few, entry-here}
+use Rattle.evaluator.specs.declared.steps.scope.Scope.{Scope as Held}
+use Rattle.evaluator.specs.Steps.Scopes.{binding, bindingsOf, boundMore, scopeOf, Small}
+use Rattle.evaluator.proofs.steps.Scopes.{scope-bind, small-none, small-bind}
+use Rattle.data.specs.declared.reading.few.Few.{Few}
+use Rattle.data.specs.declared.reading.entries.Entry.{Entry as Slot}
+use Rattle.data.specs.declared.reading.entries.Entry.the-variants.{Fixed, Marked}
+use Rattle.data.specs.declared.reading.entries.Entries.{Entries}
+use Rattle.data.specs.Reading.Few.{numbersOf}
+use Rattle.data.specs.Reading.Entries.{entryOf, entriesOf}
+use Rattle.data.proofs.reading.Marks.{entries-few, entry-here}
 use Rattle.data.specs.Running.{before, SmallIf, SmallPositions, Before}
 
 -- ---- positions bound

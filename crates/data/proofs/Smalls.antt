@@ -25,7 +25,7 @@ use Rattle.language.specs.Data.{Entry, fixed, marked, digitsOf, signedEntry, en
 use Rattle.language.proofs.Taken.{Reads, gives, refuses, weaken, then, then-next, then-demand, then-require, then-expect, then-known}
 use Rattle.language.proofs.ValidData.{withMinus-small, signedValue-valid}
 use Rattle.tokens.specs.Stored.{kindPart, placePart, payloadPart, kindOf, token, view, from, size}
-use Rattle.portions.specs.Readers.{literalIn, numberIn}
+use Rattle.data.specs.Reading.Readers.{literalIn, numberIn}
 use Rattle.data.specs.Running.{SmallIf}
 
 -- ---- tokens whose literals are values

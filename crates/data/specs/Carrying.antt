@@ -8,11 +8,11 @@ use Rattle.language.specs.Evaluation.{lengthOf}
 use Rattle.language.specs.Store.{Store, Portion, setAt}
 use Rattle.language.specs.Data.{boundOf, eachRead, runs}
 use Rattle.tokens.specs.Stored.{from}
-use Rattle.steps.specs.declared.values.Limits.{Limits}
-use Rattle.steps.specs.Values.{limitsIn, SmallLimits}
-use Rattle.portions.specs.declared.entries.Entries.{Entries}
-use Rattle.portions.specs.Few.{numbersOf}
-use Rattle.portions.specs.Entries.{entriesOf}
+use Rattle.evaluator.specs.declared.steps.values.Limits.{Limits}
+use Rattle.evaluator.specs.Steps.Values.{limitsIn, SmallLimits}
+use Rattle.data.specs.declared.reading.entries.Entries.{Entries}
+use Rattle.data.specs.Reading.Few.{numbersOf}
+use Rattle.data.specs.Reading.Entries.{entriesOf}
 use Rattle.data.specs.declared.entering.Taken.{Taken}
 use Rattle.data.specs.declared.running.Portion.{Portion as Worked}
 use Rattle.data.specs.Stores.{Stores}

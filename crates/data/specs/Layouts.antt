@@ -8,11 +8,11 @@ use Rattle.language.specs.Syntax.{Name, Formula, Spans, point}
 use Rattle.language.specs.Syntax
 use Rattle.tokens.specs.declared.Seen.the-variants as seen
 use Rattle.tokens.specs.Stored.{token, from, size, Sees, Named}
-use Rattle.walk.specs.Walk.{nameNumber}
-use Rattle.walk.specs.Entries.{ReadsEntry, ReadsSpans}
-use Rattle.steps.specs.Names.{indexNumber}
+use Rattle.onepass.specs.Walk.{nameNumber}
+use Rattle.onepass.specs.Entries.{ReadsEntry, ReadsSpans}
+use Rattle.evaluator.specs.Steps.Names.{indexNumber}
 use Rattle.evaluator.specs.Ground.{Ground}
-use Rattle.portions.specs.Few.{numbersOf}
+use Rattle.data.specs.Reading.Few.{numbersOf}
 use Rattle.data.specs.declared.layouts.Span.{Span}
 use Rattle.data.specs.declared.layouts.Span.the-variants as passed
 use Rattle.data.specs.declared.layouts.Layout.{Layout}

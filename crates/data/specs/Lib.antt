@@ -5,3 +5,4 @@ pub mod Taking
 pub mod Carrying
 pub mod Portions
 pub mod Sections
+pub mod Reading

@@ -10,10 +10,10 @@ use Rattle.language.specs.Reader.{Reader, _>>=_, give, demand, Used}
 use Rattle.language.specs.Store.{Store, Portion, portionBy}
 use Rattle.language.specs.Data.{boundOf, isPoint, runs, subscriptedPortion}
 use Rattle.tokens.specs.Stored.{from, size, Shaped}
-use Rattle.steps.specs.Names.{rowWord}
+use Rattle.evaluator.specs.Steps.Names.{rowWord}
 use Rattle.evaluator.specs.Tables.{DomainAt}
 use Rattle.evaluator.specs.Ground.{Ground}
-use Rattle.portions.specs.Lists.{Head, headIn}
+use Rattle.data.specs.Reading.Lists.{Head, headIn}
 use Rattle.data.specs.declared.entering.Taken.{Taken}
 use Rattle.data.specs.Stores.{Stores}
 use Rattle.data.specs.Taking.{TakenIs}

@@ -17,16 +17,16 @@ use Rattle.language.specs.Store as Store
 use Rattle.language.specs.Data.{boundOf}
 use Rattle.language.specs.All.{All}
 use Rattle.language.specs.Valid.{Small as SmallNumber}
-use Rattle.steps.specs.declared.scope.Scope.{Scope as Held}
-use Rattle.steps.specs.declared.values.Bounds.{Bounds}
-use Rattle.steps.specs.Scopes.{scopeOf, Small}
-use Rattle.steps.specs.Values.{limitsIn, SmallLimits}
+use Rattle.evaluator.specs.declared.steps.scope.Scope.{Scope as Held}
+use Rattle.evaluator.specs.declared.steps.values.Bounds.{Bounds}
+use Rattle.evaluator.specs.Steps.Scopes.{scopeOf, Small}
+use Rattle.evaluator.specs.Steps.Values.{limitsIn, SmallLimits}
 use Rattle.tokens.specs.Stored.{size}
 use Rattle.evaluator.specs.Tables.{DomainAt}
-use Rattle.portions.specs.declared.few.Few.{Few}
-use Rattle.portions.specs.declared.entries.Entries.{Entries}
-use Rattle.portions.specs.Few.{numbersOf}
-use Rattle.portions.specs.Entries.{entriesOf}
+use Rattle.data.specs.declared.reading.few.Few.{Few}
+use Rattle.data.specs.declared.reading.entries.Entries.{Entries}
+use Rattle.data.specs.Reading.Few.{numbersOf}
+use Rattle.data.specs.Reading.Entries.{entriesOf}
 use Rattle.data.specs.declared.running.Portion.{Portion as Worked}
 use Rattle.data.specs.declared.running.Run.{Run}
 use Rattle.data.specs.declared.running.Run.the-variants as run

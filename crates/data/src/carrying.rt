@@ -1,16 +1,16 @@
 // A portion: its name, its head, and its numbers.
 use super::entering::Taken;
 use super::layouts;
+use super::reading::entries::Entries;
+use super::reading::few::Few;
+use super::reading::heads::Plan;
 use super::running;
 use super::running::Portion;
-use portions::entries::Entries;
-use portions::few::Few;
-use portions::heads::Plan;
 use tokens::Known;
 use tokens::sorts;
 ghost use mathlib.Core.Path.{_≡_};
 ghost use Rattle.language.specs.Data.{portionOf};
-ghost use Rattle.portions.specs.Lists.{Heads};
+ghost use Rattle.data.specs.Reading.Lists.{Heads};
 ghost use Rattle.data.specs.Portions.{headFor, CarriesOut, Uses, Fills};
 
 // The head of a portion whose name stands at `place` and has `count` indices; without indices there is none.
@@ -20,7 +20,7 @@ fn head_of(text: &[u8], names: &[u64], tokens: &[u64], at: usize, place: u64, co
     if count == 0 {
         return Plan::Runs(Few::none(), Entries::none(), at);
     }
-    portions::heads::head(text, names, tokens, at, place, count)
+    super::reading::heads::head(text, names, tokens, at, place, count)
 }
 
 // The head and the numbers of a portion: its name's number and place, how many indices it has, whether it is an integer.
@@ -41,7 +41,7 @@ fn carry_out(
     let head = head_of(text, names, tokens, at, place, count as usize);
     match head {
         Plan::Runs(order, entries, a) => {
-            let start = steps::names::word_of(names, name, 4) as usize;
+            let start = evaluator::steps::names::word_of(names, name, 4) as usize;
             let layout = layouts::layout_of(text, names, tokens, name, start, count);
             let x = Portion {
                 name,

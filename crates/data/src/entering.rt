@@ -1,7 +1,7 @@
 // One number: its tests, and its row in the store.
+use super::reading::numbers::Numbered;
 use super::running::Portion;
 use evaluator::Passed;
-use portions::numbers::Numbered;
 use store::Element;
 use store::Insertion;
 use value::Value;
@@ -105,7 +105,7 @@ pub fn take(
 ) -> Taken
     ensures { λ r. ⌜ Takes (now (names .entry)) (now (tokens .entry)) (now (table .entry)) given at x e r (now (table .exit)) ⌝ }
 {
-    let number = portions::numbers::number(tokens, at);
+    let number = super::reading::numbers::number(tokens, at);
     match number {
         Numbered::Of(v, p, a) => {
             let done = accept(names, tokens, table, given, x, e, p, v);

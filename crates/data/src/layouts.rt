@@ -1,7 +1,7 @@
 // A declared domain laid out: where each of its entries begins, and its index. So the limits of any position can be read by
 // themselves.
+use super::reading::few::Few;
 use lexer::marks;
-use portions::few::Few;
 use tokens::Move;
 use tokens::Seen;
 ghost use mathlib.Core.Path.{_≡_};
@@ -38,13 +38,13 @@ fn pass_entry(text: &[u8], names: &[u64], tokens: &[u64], level: usize, at: usiz
     let Seen::Token(k, p, x, b) = token else {
         return Span::Nothing;
     };
-    let i = steps::names::index_number(tokens, level, a);
-    let c = steps::passing::skip(tokens, b);
+    let i = evaluator::steps::names::index_number(tokens, level, a);
+    let c = evaluator::steps::passing::skip(tokens, b);
     let upper = formulas::inside(text, names, tokens, c, rules::NESTING_LIMIT);
     let Move::At(d) = upper else {
         return Span::Nothing;
     };
-    let next = steps::passing::skip(tokens, d);
+    let next = evaluator::steps::passing::skip(tokens, d);
     Span::Of(i, next)
 }
 

@@ -2,6 +2,7 @@
 pub mod carrying;
 pub mod entering;
 pub mod layouts;
+pub mod reading;
 pub mod running;
 pub mod sections;
 
@@ -24,7 +25,7 @@ pub fn read(text: &[u8], names: &[u64], tokens: &[u64], table: &mut [u64; 8192],
     let data = sections::optional_section(text, names, tokens, table, at);
     match data {
         Section::Of(p, n, count, a) => {
-            let end = portions::ends::end(tokens, a);
+            let end = reading::ends::end(tokens, a);
             match end {
                 Move::At(b) => Given::Of(p, n, count),
                 Move::Refused(m, q) => Given::Refused(m, q),

@@ -1,22 +1,22 @@
 // The positions of a portion that run, each with its own declared limits.
 use super::entering::Taken;
 use super::layouts::Layout;
+use super::reading::entries::Entries;
+use super::reading::entries::Entry;
+use super::reading::few::Few;
 use evaluator::Context;
 use evaluator::Entered;
-use portions::entries::Entries;
-use portions::entries::Entry;
-use portions::few::Few;
-use steps::scope::Scope;
-use steps::values::Bounds;
-use steps::values::Limits;
-use steps::values::Runs;
+use evaluator::steps::scope::Scope;
+use evaluator::steps::values::Bounds;
+use evaluator::steps::values::Limits;
+use evaluator::steps::values::Runs;
 use store::Element;
 use tokens::Seen;
 ghost use mathlib.Core.Path.{_≡_};
 ghost use Prim.Native.Nat.{_<_};
 ghost use Rattle.language.specs.Data.{boundOf};
 ghost use Rattle.language.specs.Store.{elementOf};
-ghost use Rattle.portions.specs.Entries.{entriesOf};
+ghost use Rattle.data.specs.Reading.Entries.{entriesOf};
 ghost use Rattle.store.specs.Element.{listOf};
 ghost use Rattle.data.specs.Running.{Before, RunsFrom, PositionRuns};
 ghost use Rattle.data.specs.Carrying.{RunsTo, EachTo};
@@ -83,7 +83,7 @@ fn run_of(sc: Scope, b: Bounds) -> Run
     ensures { λ r. ⌜ RunsFrom sc b r ⌝ }
 {
     let l = b.limits;
-    let run = steps::values::run(sc, l, b.number, b.place);
+    let run = evaluator::steps::values::run(sc, l, b.number, b.place);
     match run {
         Runs::Count(n) => Run::Of(l, n),
         Runs::Refused(n, p) => Run::Refused(n, p),
@@ -175,7 +175,7 @@ fn each(
     let mut count = given;
     let mut i = 0;
     while i < n {
-        let z = steps::values::nth_number(l, i);
+        let z = evaluator::steps::values::nth_number(l, i);
         let inner = bound.fix(j, z);
         let r = runs(names, tokens, table, count, a, x, k + 1, inner);
         let Taken::At(b, c) = r else {

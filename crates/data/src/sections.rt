@@ -1,9 +1,9 @@
 // The data section: its title, one or more portions, and `CLOSE`.
 use super::carrying::portion;
 use super::entering::Taken;
+use super::reading::ends;
+use super::reading::ends::Titled;
 use lexer::marks;
-use portions::ends;
-use portions::ends::Titled;
 use tokens::Move;
 use tokens::Seen;
 use tokens::kinds;

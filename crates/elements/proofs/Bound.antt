@@ -17,8 +17,8 @@ use Rattle.value.specs.declared.Value.{Value}
 use Rattle.rational.proofs.Integer.{add-parts, le-of-parts}
 use Rattle.lexer.specs.Text.{Token}
 use Rattle.language.specs.Scope.{Scope, Binding, bind}
-use Rattle.steps.specs.declared.scope.Scope.{Scope as HeldScope}
-use Rattle.steps.specs.Scopes.{bindingsOf, scopeOf, AllSmall, Small}
+use Rattle.evaluator.specs.declared.steps.scope.Scope.{Scope as HeldScope}
+use Rattle.evaluator.specs.Steps.Scopes.{bindingsOf, scopeOf, AllSmall, Small}
 use Rattle.elements.specs.declared.here.Level.{Level as HeldLevel}
 use Rattle.elements.specs.declared.here.Here.{Here as HeldHere}
 use Rattle.elements.specs.Levels.{Level, hereOf, atNumber}

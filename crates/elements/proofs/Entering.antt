@@ -12,14 +12,14 @@ use Rattle.rules.specs.Limits.{indexLimit, nestingLimit}
 use Rattle.rational.proofs.Integer.{leZ-true, ≤ℤ-trans}
 use Rattle.lexer.specs.Text.{Token}
 use Rattle.language.specs.Scope.{Scope, bind}
-use Rattle.walk.specs.Walk.{walkEntry, inDomainWalk}
-use Rattle.steps.specs.declared.scope.Scope.{Scope as HeldScope}
-use Rattle.steps.specs.declared.values.Bounds.{Bounds as HeldBounds}
-use Rattle.steps.specs.declared.values.Runs.{Runs}
-use Rattle.steps.specs.declared.values.Runs.the-variants as runs
-use Rattle.steps.specs.Scopes.{bindingsOf}
+use Rattle.onepass.specs.Walk.{walkEntry, inDomainWalk}
+use Rattle.evaluator.specs.declared.steps.scope.Scope.{Scope as HeldScope}
+use Rattle.evaluator.specs.declared.steps.values.Bounds.{Bounds as HeldBounds}
+use Rattle.evaluator.specs.declared.steps.values.Runs.{Runs}
+use Rattle.evaluator.specs.declared.steps.values.Runs.the-variants as runs
+use Rattle.evaluator.specs.Steps.Scopes.{bindingsOf}
 use Rattle.language.specs.Evaluation as Evaluation
-use Rattle.steps.specs.Values.{limitsIn, SmallLimits, runOutcome, RunIs}
+use Rattle.evaluator.specs.Steps.Values.{limitsIn, SmallLimits, runOutcome, RunIs}
 use Rattle.evaluator.specs.declared.Entered.{Entered}
 use Rattle.evaluator.specs.declared.Entered.the-variants as entered
 use Rattle.evaluator.specs.Tables.{World}

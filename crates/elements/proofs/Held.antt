@@ -14,7 +14,7 @@ use mir.Val.{toZ, ofZ}
 use Rattle.rules.specs.Limits.{indexLimit}
 use Rattle.value.proofs.Integers.{back}
 use Rattle.store.specs.Element.{listOf}
-use Rattle.steps.specs.Scopes.{boundIf, bindingsOf}
+use Rattle.evaluator.specs.Steps.Scopes.{boundIf, bindingsOf}
 use Rattle.elements.specs.declared.here.Level.{Level}
 use Rattle.elements.specs.declared.here.Here.{Here}
 use Rattle.elements.specs.Held.{held, one-more, no-level, numberOf, bound, scopeAt}

@@ -19,9 +19,9 @@ use Rattle.language.specs.Reader.{Read, asRead}
 use Rattle.language.specs.Scope.{Scope, bind}
 use Rattle.language.specs.Ranges.{range}
 use Rattle.language.specs.Evaluation.{Limits, limitsOf, lengthOf, fresh, runOf, eval}
-use Rattle.walk.specs.Walk.{Walk, Bounds, walkEntry, inDomainWalk}
-use Rattle.walk.specs.Entries.{ReadsEntry, ReadsSpans, indexCount}
-use Rattle.walk.proofs.WalkedDomain.{entry-walk}
+use Rattle.onepass.specs.Walk.{Walk, Bounds, walkEntry, inDomainWalk}
+use Rattle.onepass.specs.Entries.{ReadsEntry, ReadsSpans, indexCount}
+use Rattle.onepass.proofs.WalkedDomain.{entry-walk}
 use Rattle.elements.specs.Elements.{Walked, finished, stopped, reaches, followed, chained, overRun, Behind, mapped, Here, inFront, elementsOf}
 use Rattle.elements.specs.Levels.{Level, hereOf, deeper, levelOf, atNumber, turnOf, runFrom, walkRun, walkElements}
 use Rattle.elements.proofs.Walks.{mapped-mapped, mapped-chained, behind-mapped}

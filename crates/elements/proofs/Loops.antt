@@ -18,8 +18,8 @@ use Rattle.language.specs.Demand3.{Precedes}
 use Rattle.tokens.specs.Stored.{size}
 use Rattle.store.specs.declared.Element.{Element}
 use Rattle.store.specs.Element.{listOf, Subscripts}
-use Rattle.steps.specs.declared.scope.Scope.{Scope as HeldScope}
-use Rattle.steps.specs.Scopes.{bindingsOf, Small}
+use Rattle.evaluator.specs.declared.steps.scope.Scope.{Scope as HeldScope}
+use Rattle.evaluator.specs.Steps.Scopes.{bindingsOf, Small}
 use Rattle.evaluator.specs.Tables.{World, DomainAt}
 use Rattle.evaluator.specs.Cycle.{seenBy, under, nothingBound, tokensAt}
 use Rattle.evaluator.proofs.Names.{size-count}

@@ -11,7 +11,7 @@ use mir.Val.{SFits, toZ, ofZ}
 use Rattle.rational.specs.Integer.{up, down}
 use Rattle.rational.proofs.Integer.{add-parts, neg-up, neg-down, le-of-parts}
 use Rattle.value.proofs.Integers.{back, mag-le}
-use Rattle.steps.proofs.Runs.{parts-size}
+use Rattle.evaluator.proofs.steps.Runs.{parts-size}
 use Rattle.elements.specs.declared.here.Level.{Level}
 use Rattle.elements.specs.Held.{stepped, wordBase, StepsUp}
 use Rattle.elements.proofs.Runs.{up-is, range-size}

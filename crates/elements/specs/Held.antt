@@ -11,7 +11,7 @@ use Rattle.rules.specs.Limits.{indexLimit}
 use Rattle.rational.specs.Integer.{up}
 use Rattle.lexer.specs.Text.{Token}
 use Rattle.language.specs.Scope.{Binding}
-use Rattle.steps.specs.declared.scope.Scope.{Scope as HeldScope}
+use Rattle.evaluator.specs.declared.steps.scope.Scope.{Scope as HeldScope}
 use Rattle.elements.specs.declared.here.Level.{Level as HeldLevel}
 use Rattle.elements.specs.declared.here.Here.{Here as HeldHere}
 use Rattle.elements.specs.Levels.{Level}

@@ -9,7 +9,7 @@ use Rattle.language.specs.Reader.{Read}
 use Rattle.language.specs.Scope.{Scope, bind}
 use Rattle.language.specs.Ranges.{range}
 use Rattle.language.specs.Evaluation.{runOf}
-use Rattle.walk.specs.Walk.{Walk, Bounds, walkEntry}
+use Rattle.onepass.specs.Walk.{Walk, Bounds, walkEntry}
 use Rattle.elements.specs.Elements.{Walked, finished, stopped, reaches, chained, overRun, mapped, Here, inFront}
 
 -- a run under way: its index, the number that it stands at, its upper limit, and the tokens behind its entry

@@ -9,7 +9,7 @@ use lib.Signed.{_≤ℤ_}
 use Rattle.rules.specs.Limits.{mantissaLimit, indexLimit}
 use Rattle.lexer.specs.Text.{Token}
 use Rattle.language.specs.Scope.{Scope}
-use Rattle.walk.specs.Walk.{inDomainWalk}
+use Rattle.onepass.specs.Walk.{inDomainWalk}
 use Rattle.evaluator.specs.Tables.{World}
 use Rattle.evaluator.specs.Cycle.{seenBy, nothingBound, tokensAt}
 use Rattle.elements.specs.declared.here.Level.{Level as HeldLevel}

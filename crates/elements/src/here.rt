@@ -1,13 +1,13 @@
 // An element of a domain as the runs that are under way at it: at most four, by value.
-use steps::scope::Scope;
-use steps::values::Bounds;
+use evaluator::steps::scope::Scope;
+use evaluator::steps::values::Bounds;
 use store::Element;
 ghost use mathlib.Core.Path.{_≡_};
 ghost use mathlib.Core.List.{[], map};
 ghost use lib.Signed.{leZ, ltZ};
 ghost use lib.ListN.{length, getD, take};
 ghost use Rattle.store.specs.Element.{listOf};
-ghost use Rattle.steps.specs.Scopes.{bindingsOf};
+ghost use Rattle.evaluator.specs.Steps.Scopes.{bindingsOf};
 ghost use Rattle.elements.specs.Held.{StepsUp, held, one-more, no-level, numberOf, bound};
 
 // A run under way: its index, the number at which it stands, its upper limit, and the position behind its entry.

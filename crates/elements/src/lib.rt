@@ -3,10 +3,10 @@
 // under way are kept with an element, so a limit is evaluated once for each run.
 use evaluator::Context;
 use evaluator::Entered;
+use evaluator::steps::values;
+use evaluator::steps::values::Runs;
 use here::Here;
 use here::Level;
-use steps::values;
-use steps::values::Runs;
 ghost use Rattle.elements.specs.Steps.{FirstIs, NextIs, InsideIs, TurnsAre, AfterIs};
 
 pub mod here;

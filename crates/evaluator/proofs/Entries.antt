@@ -13,22 +13,22 @@ use Rattle.language.specs.Syntax.{Name}
 use Rattle.language.specs.Reader.{Reader, follow, asRead, _>>=_, give, lift, next}
 use Rattle.language.specs.Scope.{Scope}
 use Rattle.language.specs.Evaluation.{wholeAt}
-use Rattle.walk.specs.Walk.{skip, nameNumber, walkPart, walkInside, walkEntry, Bounds}
-use Rattle.walk.specs.Entries.{read}
-use Rattle.walk.proofs.Steps.{on}
+use Rattle.onepass.specs.Walk.{skip, nameNumber, walkPart, walkInside, walkEntry, Bounds}
+use Rattle.onepass.specs.Entries.{read}
+use Rattle.onepass.proofs.Steps.{on}
 use Rattle.tokens.specs.declared.Seen.{Seen}
 use Rattle.tokens.specs.declared.Seen.the-variants as seen
 use Rattle.tokens.specs.Stored.{token, Sees, Looks}
 use Rattle.tokens.proofs.Moved.{next-is}
-use Rattle.steps.specs.declared.scope.Scope.{Scope as Held}
-use Rattle.steps.specs.declared.values.Answer.{Answer}
-use Rattle.steps.specs.declared.values.Answer.the-variants as answer
-use Rattle.steps.specs.declared.values.Bounds as code
-use Rattle.steps.specs.Scopes.{Small}
-use Rattle.steps.specs.Passing.{Skips}
-use Rattle.steps.specs.Names.{indexNumber}
-use Rattle.steps.specs.Values.{wholeAnswer, limitsIn, SmallLimits}
-use Rattle.steps.proofs.Numbers.{index-of}
+use Rattle.evaluator.specs.declared.steps.scope.Scope.{Scope as Held}
+use Rattle.evaluator.specs.declared.steps.values.Answer.{Answer}
+use Rattle.evaluator.specs.declared.steps.values.Answer.the-variants as answer
+use Rattle.evaluator.specs.declared.steps.values.Bounds as code
+use Rattle.evaluator.specs.Steps.Scopes.{Small}
+use Rattle.evaluator.specs.Steps.Passing.{Skips}
+use Rattle.evaluator.specs.Steps.Names.{indexNumber}
+use Rattle.evaluator.specs.Steps.Values.{wholeAnswer, limitsIn, SmallLimits}
+use Rattle.evaluator.proofs.steps.Numbers.{index-of}
 use Rattle.evaluator.specs.declared.Entered.{Entered}
 use Rattle.evaluator.specs.declared.Entered.the-variants as entered
 use Rattle.evaluator.specs.Tables.{World}

@@ -28,24 +28,24 @@ use Rattle.language.specs.Reader.{Reader, Read, follow, asRead, _>>=_, give, li
 use Rattle.language.specs.Formulas.{readSign}
 use Rattle.language.specs.Scope.{Scope}
 use Rattle.language.specs.Evaluation.{wholeAt, Limits}
-use Rattle.walk.specs.Walk.{Walk, skip, negatedValue, walkFactors, walkTerm, walkSummands, walkFormula, walkPart, walkLimits, walkPrimary, walkInside, valueAt, walkEntry, Bounds}
-use Rattle.walk.specs.Entries.{read}
-use Rattle.walk.proofs.Steps.{on}
+use Rattle.onepass.specs.Walk.{Walk, skip, negatedValue, walkFactors, walkTerm, walkSummands, walkFormula, walkPart, walkLimits, walkPrimary, walkInside, valueAt, walkEntry, Bounds}
+use Rattle.onepass.specs.Entries.{read}
+use Rattle.onepass.proofs.Steps.{on}
 use Rattle.tokens.specs.declared.Seen.{Seen}
 use Rattle.tokens.specs.declared.Seen.the-variants as seen
 use Rattle.tokens.specs.Stored.{token, from, Sees, Looks}
 use Rattle.tokens.proofs.Moved.{next-is}
-use Rattle.steps.specs.declared.scope.Scope.{Scope as Held}
-use Rattle.steps.specs.declared.passing.Lead.{Lead}
-use Rattle.steps.specs.declared.passing.Lead.the-variants as lead
-use Rattle.steps.specs.declared.values.Answer.{Answer}
-use Rattle.steps.specs.declared.values.Answer.the-variants as answer
-use Rattle.steps.specs.declared.values.Limits as code
-use Rattle.steps.specs.Scopes.{Small}
-use Rattle.steps.specs.Passing.{Skips, Led, Leads}
-use Rattle.steps.specs.Names.{indexNumber}
-use Rattle.steps.specs.Values.{fittedAt, signedValue, wholeBy, wholeAnswer, limitsIn, SmallLimits}
-use Rattle.steps.proofs.Numbers.{index-of}
+use Rattle.evaluator.specs.declared.steps.scope.Scope.{Scope as Held}
+use Rattle.evaluator.specs.declared.steps.passing.Lead.{Lead}
+use Rattle.evaluator.specs.declared.steps.passing.Lead.the-variants as lead
+use Rattle.evaluator.specs.declared.steps.values.Answer.{Answer}
+use Rattle.evaluator.specs.declared.steps.values.Answer.the-variants as answer
+use Rattle.evaluator.specs.declared.steps.values.Limits as code
+use Rattle.evaluator.specs.Steps.Scopes.{Small}
+use Rattle.evaluator.specs.Steps.Passing.{Skips, Led, Leads}
+use Rattle.evaluator.specs.Steps.Names.{indexNumber}
+use Rattle.evaluator.specs.Steps.Values.{fittedAt, signedValue, wholeBy, wholeAnswer, limitsIn, SmallLimits}
+use Rattle.evaluator.proofs.steps.Numbers.{index-of}
 use Rattle.evaluator.specs.declared.Limited.{Limited}
 use Rattle.evaluator.specs.declared.Limited.the-variants as limited
 use Rattle.evaluator.specs.declared.Entered.{Entered}

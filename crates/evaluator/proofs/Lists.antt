@@ -20,23 +20,23 @@ use Rattle.language.specs.Syntax.{Name, Spans, point, span}
 use Rattle.language.specs.Reader.{Reader, Read, follow, asRead, _>>=_, give, lift}
 use Rattle.language.specs.Scope.{Scope, bind}
 use Rattle.language.specs.Evaluation.{wholeAt}
-use Rattle.walk.specs.Walk.{skip, walkPart, walkList, walkSubscripts, walkInside, walkWithin, walkEntry, inDomainWalk, Bounds}
-use Rattle.walk.specs.Entries.{read}
-use Rattle.walk.proofs.Steps.{on}
+use Rattle.onepass.specs.Walk.{skip, walkPart, walkList, walkSubscripts, walkInside, walkWithin, walkEntry, inDomainWalk, Bounds}
+use Rattle.onepass.specs.Entries.{read}
+use Rattle.onepass.proofs.Steps.{on}
 use Rattle.tokens.specs.Stored.{size}
 use Rattle.store.specs.declared.Element.{Element}
 use Rattle.store.specs.Element.{listOf, extended, Subscripts}
 use Rattle.store.proofs.Elements.{extended-room, subscripts-none, subscripts-extended}
-use Rattle.steps.specs.declared.scope.Scope.{Scope as Held}
-use Rattle.steps.specs.declared.values.Answer.{Answer}
-use Rattle.steps.specs.declared.values.Answer.the-variants as answer
-use Rattle.steps.specs.declared.values.Bounds as code
-use Rattle.steps.specs.declared.values.Tested.{Tested}
-use Rattle.steps.specs.declared.values.Tested.the-variants as tested
-use Rattle.steps.specs.Scopes.{bindingsOf, boundMore, scopeOf, Small}
-use Rattle.steps.specs.Passing.{Skips}
-use Rattle.steps.specs.Values.{limitsIn, insideLimits, TestedAs, Tests}
-use Rattle.steps.proofs.Scopes.{scope-bind, small-none, small-bind}
+use Rattle.evaluator.specs.declared.steps.scope.Scope.{Scope as Held}
+use Rattle.evaluator.specs.declared.steps.values.Answer.{Answer}
+use Rattle.evaluator.specs.declared.steps.values.Answer.the-variants as answer
+use Rattle.evaluator.specs.declared.steps.values.Bounds as code
+use Rattle.evaluator.specs.declared.steps.values.Tested.{Tested}
+use Rattle.evaluator.specs.declared.steps.values.Tested.the-variants as tested
+use Rattle.evaluator.specs.Steps.Scopes.{bindingsOf, boundMore, scopeOf, Small}
+use Rattle.evaluator.specs.Steps.Passing.{Skips}
+use Rattle.evaluator.specs.Steps.Values.{limitsIn, insideLimits, TestedAs, Tests}
+use Rattle.evaluator.proofs.steps.Scopes.{scope-bind, small-none, small-bind}
 use Rattle.evaluator.specs.declared.Numbers.the-variants as numbers
 use Rattle.evaluator.specs.declared.Entered.{Entered}
 use Rattle.evaluator.specs.declared.Entered.the-variants as entered

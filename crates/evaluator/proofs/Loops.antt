@@ -22,19 +22,19 @@ use Rattle.language.specs.Syntax.{Name}
 use Rattle.language.specs.Reader.{Reader, Read, follow, asRead, _>>=_, give, lift, look, isMark}
 use Rattle.language.specs.Formulas.{isSum}
 use Rattle.language.specs.Scope.{Scope}
-use Rattle.walk.specs.Walk.{Walk, skip, negatedValue, walkFactors, walkSummands}
-use Rattle.walk.specs.Entries.{read}
-use Rattle.walk.proofs.Steps.{on}
+use Rattle.onepass.specs.Walk.{Walk, skip, negatedValue, walkFactors, walkSummands}
+use Rattle.onepass.specs.Entries.{read}
+use Rattle.onepass.proofs.Steps.{on}
 use Rattle.tokens.specs.declared.Seen.{Seen}
 use Rattle.tokens.specs.declared.Seen.the-variants as seen
 use Rattle.tokens.specs.Stored.{token, Sees, Looks}
 use Rattle.tokens.proofs.Moved.{look-is}
-use Rattle.steps.specs.declared.scope.Scope.{Scope as Held}
-use Rattle.steps.specs.declared.values.Answer.{Answer}
-use Rattle.steps.specs.declared.values.Answer.the-variants as answer
-use Rattle.steps.specs.Scopes.{Small}
-use Rattle.steps.specs.Values.{fittedAt, signedValue}
-use Rattle.steps.proofs.Passed.{is-mark, skips-seen}
+use Rattle.evaluator.specs.declared.steps.scope.Scope.{Scope as Held}
+use Rattle.evaluator.specs.declared.steps.values.Answer.{Answer}
+use Rattle.evaluator.specs.declared.steps.values.Answer.the-variants as answer
+use Rattle.evaluator.specs.Steps.Scopes.{Small}
+use Rattle.evaluator.specs.Steps.Values.{fittedAt, signedValue}
+use Rattle.evaluator.proofs.steps.Passed.{is-mark, skips-seen}
 use Rattle.evaluator.specs.Tables.{World}
 use Rattle.evaluator.specs.Cycle.{primaryIn, termIn, factorsIn, summandsIn, valueOutcome, ValidAnswer, seenBy, under, tokensAt, Values, Continues}
 use Rattle.evaluator.proofs.Laws.{stop, fitted-outcome, fitted-valid, signed-is, signed-valid, refused-is, value-is, value-valid}

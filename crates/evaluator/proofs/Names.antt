@@ -20,11 +20,11 @@ use Rattle.language.specs.Syntax
 use Rattle.language.specs.Reader.{asRead}
 use Rattle.language.specs.Scope.{unbound, boundTo}
 use Rattle.language.specs.Evaluation.{eval, within}
-use Rattle.walk.specs.Walk.{walkInside, walkFound, walkNamed, walkDatum, walkSubscripts}
-use Rattle.walk.specs.Entries.{read, indexCount}
-use Rattle.walk.proofs.Steps.{on, same-what}
-use Rattle.walk.proofs.Walked.{walked}
-use Rattle.walk.proofs.WalkedDomain.{within-walk, subscripts-count}
+use Rattle.onepass.specs.Walk.{walkInside, walkFound, walkNamed, walkDatum, walkSubscripts}
+use Rattle.onepass.specs.Entries.{read, indexCount}
+use Rattle.onepass.proofs.Steps.{on, same-what}
+use Rattle.onepass.proofs.Walked.{walked}
+use Rattle.onepass.proofs.WalkedDomain.{within-walk, subscripts-count}
 use Rattle.tokens.specs.Stored.{size, Shaped}
 use Rattle.tokens.proofs.Tables.{false-true}
 use Rattle.store.specs.declared.Element.{Element}
@@ -33,14 +33,14 @@ use Rattle.store.specs.Key.{nameBound, keyOf}
 use Rattle.store.specs.Table.{lookup}
 use Rattle.store.specs.Packed.{unpacked}
 use Rattle.store.specs.Entries.{Keyed}
-use Rattle.steps.specs.declared.scope.Scope.{Scope as Held}
-use Rattle.steps.specs.declared.names.Listed.{Listed}
-use Rattle.steps.specs.declared.names.Listed.the-variants as listed
-use Rattle.steps.specs.declared.values.Answer.{Answer}
-use Rattle.steps.specs.declared.values.Answer.the-variants as answer
-use Rattle.steps.specs.Scopes.{bindingsOf, scopeOf, Small}
-use Rattle.steps.specs.Values.{boundBy, boundAnswer, wordAnswer, KnownIs}
-use Rattle.steps.proofs.Scopes.{small-to}
+use Rattle.evaluator.specs.declared.steps.scope.Scope.{Scope as Held}
+use Rattle.evaluator.specs.declared.steps.names.Listed.{Listed}
+use Rattle.evaluator.specs.declared.steps.names.Listed.the-variants as listed
+use Rattle.evaluator.specs.declared.steps.values.Answer.{Answer}
+use Rattle.evaluator.specs.declared.steps.values.Answer.the-variants as answer
+use Rattle.evaluator.specs.Steps.Scopes.{bindingsOf, scopeOf, Small}
+use Rattle.evaluator.specs.Steps.Values.{boundBy, boundAnswer, wordAnswer, KnownIs}
+use Rattle.evaluator.proofs.steps.Scopes.{small-to}
 use Rattle.evaluator.specs.declared.Numbers.{Numbers}
 use Rattle.evaluator.specs.declared.Numbers.the-variants as numbers
 use Rattle.evaluator.specs.declared.Passed.{Passed}

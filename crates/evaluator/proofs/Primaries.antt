@@ -15,22 +15,22 @@ use Rattle.value.specs.Decimal.{Valid}
 use Rattle.lexer.specs.Text.{Token}
 use Rattle.lexer.specs.Text
 use Rattle.language.specs.Outcome.{refused}
-use Rattle.walk.specs.Walk.{walkPrimaryBy, walkPrimary, walkInside}
-use Rattle.walk.specs.Entries.{read}
-use Rattle.walk.proofs.Steps.{on}
+use Rattle.onepass.specs.Walk.{walkPrimaryBy, walkPrimary, walkInside}
+use Rattle.onepass.specs.Entries.{read}
+use Rattle.onepass.proofs.Steps.{on}
 use Rattle.tokens.specs.declared.Seen.{Seen}
 use Rattle.tokens.specs.declared.Seen.the-variants as seen
 use Rattle.tokens.specs.Stored.{nameBytes, spelling, kindOf, token, from, Sees, Looks, Shaped}
 use Rattle.tokens.proofs.Tables.{false-true}
 use Rattle.tokens.proofs.Moved.{next-is}
-use Rattle.steps.specs.declared.scope.Scope.{Scope as Held}
-use Rattle.steps.specs.declared.names.Listed.{Listed}
-use Rattle.steps.specs.declared.names.Listed.the-variants as listed
-use Rattle.steps.specs.declared.values.Answer.{Answer}
-use Rattle.steps.specs.declared.values.Answer.the-variants as answer
-use Rattle.steps.specs.Scopes.{Small}
-use Rattle.steps.specs.Names.{numberPart, rowWord, listedOf}
-use Rattle.steps.proofs.Numbers.{unknown, known, row-of, row-shaped}
+use Rattle.evaluator.specs.declared.steps.scope.Scope.{Scope as Held}
+use Rattle.evaluator.specs.declared.steps.names.Listed.{Listed}
+use Rattle.evaluator.specs.declared.steps.names.Listed.the-variants as listed
+use Rattle.evaluator.specs.declared.steps.values.Answer.{Answer}
+use Rattle.evaluator.specs.declared.steps.values.Answer.the-variants as answer
+use Rattle.evaluator.specs.Steps.Scopes.{Small}
+use Rattle.evaluator.specs.Steps.Names.{numberPart, rowWord, listedOf}
+use Rattle.evaluator.proofs.steps.Numbers.{unknown, known, row-of, row-shaped}
 use Rattle.evaluator.specs.Tables.{World}
 use Rattle.evaluator.specs.Cycle.{primaryIn, partIn, sumIn, valueOutcome, ValidAnswer, seenBy, under, tokensAt, Values, Told, NamedIs}
 use Rattle.evaluator.proofs.Laws.{stop}

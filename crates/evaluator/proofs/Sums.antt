@@ -7,20 +7,20 @@ use Rattle.lexer.specs.Text.{Token}
 use Rattle.language.specs.Outcome.{refused}
 use Rattle.language.specs.Reader.{asRead}
 use Rattle.language.specs.Evaluation.{runOf}
-use Rattle.walk.specs.Walk.{walkHead, walkSum, walkLimits, walkInside}
-use Rattle.walk.specs.Entries.{read}
-use Rattle.walk.proofs.Steps.{on}
-use Rattle.steps.specs.declared.scope.Scope.{Scope as Held}
-use Rattle.steps.specs.declared.names.Headed.{Headed}
-use Rattle.steps.specs.declared.names.Headed.the-variants as headed
-use Rattle.steps.specs.declared.values.Answer.{Answer}
-use Rattle.steps.specs.declared.values.Answer.the-variants as answer
-use Rattle.steps.specs.declared.values.Limits as code
-use Rattle.steps.specs.declared.values.Runs.{Runs}
-use Rattle.steps.specs.declared.values.Runs.the-variants as runs
-use Rattle.steps.specs.Scopes.{Small}
-use Rattle.steps.specs.Names.{headOutcome, Heads}
-use Rattle.steps.specs.Values.{limitsIn, SmallLimits, runOutcome, RunIs}
+use Rattle.onepass.specs.Walk.{walkHead, walkSum, walkLimits, walkInside}
+use Rattle.onepass.specs.Entries.{read}
+use Rattle.onepass.proofs.Steps.{on}
+use Rattle.evaluator.specs.declared.steps.scope.Scope.{Scope as Held}
+use Rattle.evaluator.specs.declared.steps.names.Headed.{Headed}
+use Rattle.evaluator.specs.declared.steps.names.Headed.the-variants as headed
+use Rattle.evaluator.specs.declared.steps.values.Answer.{Answer}
+use Rattle.evaluator.specs.declared.steps.values.Answer.the-variants as answer
+use Rattle.evaluator.specs.declared.steps.values.Limits as code
+use Rattle.evaluator.specs.declared.steps.values.Runs.{Runs}
+use Rattle.evaluator.specs.declared.steps.values.Runs.the-variants as runs
+use Rattle.evaluator.specs.Steps.Scopes.{Small}
+use Rattle.evaluator.specs.Steps.Names.{headOutcome, Heads}
+use Rattle.evaluator.specs.Steps.Values.{limitsIn, SmallLimits, runOutcome, RunIs}
 use Rattle.evaluator.specs.declared.Limited.{Limited}
 use Rattle.evaluator.specs.declared.Limited.the-variants as limited
 use Rattle.evaluator.specs.Tables.{World}

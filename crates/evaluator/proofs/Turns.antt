@@ -21,16 +21,16 @@ use Rattle.language.specs.Syntax.{Name}
 use Rattle.language.specs.Scope.{Scope, bind}
 use Rattle.language.specs.Ranges.{upFrom}
 use Rattle.language.specs.Evaluation.{lengthOf, each, addTo}
-use Rattle.walk.specs.Walk.{walkInside, walkTurns, walkBody, valueOnly, restAs, behindBracket}
-use Rattle.walk.specs.Entries.{read}
-use Rattle.steps.specs.declared.scope.Scope.{Scope as Held}
-use Rattle.steps.specs.declared.values.Answer.{Answer}
-use Rattle.steps.specs.declared.values.Answer.the-variants as answer
-use Rattle.steps.specs.declared.values.Limits as code
-use Rattle.steps.specs.Scopes.{bindingsOf, boundMore, Small}
-use Rattle.steps.specs.Passing.{Ends}
-use Rattle.steps.specs.Values.{fittedAt, signedValue, limitsIn, SmallLimits, BindsNth}
-use Rattle.steps.proofs.Scopes.{scope-bind, small-bind}
+use Rattle.onepass.specs.Walk.{walkInside, walkTurns, walkBody, valueOnly, restAs, behindBracket}
+use Rattle.onepass.specs.Entries.{read}
+use Rattle.evaluator.specs.declared.steps.scope.Scope.{Scope as Held}
+use Rattle.evaluator.specs.declared.steps.values.Answer.{Answer}
+use Rattle.evaluator.specs.declared.steps.values.Answer.the-variants as answer
+use Rattle.evaluator.specs.declared.steps.values.Limits as code
+use Rattle.evaluator.specs.Steps.Scopes.{bindingsOf, boundMore, Small}
+use Rattle.evaluator.specs.Steps.Passing.{Ends}
+use Rattle.evaluator.specs.Steps.Values.{fittedAt, signedValue, limitsIn, SmallLimits, BindsNth}
+use Rattle.evaluator.proofs.steps.Scopes.{scope-bind, small-bind}
 use Rattle.evaluator.specs.Tables.{World}
 use Rattle.evaluator.specs.Cycle.{insideIn, valueOutcome, ValidAnswer, seenBy, under, tokensAt, Values, Ready, BodyIs}
 use Rattle.evaluator.proofs.Laws.{fitted-valid}

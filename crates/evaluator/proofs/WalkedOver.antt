@@ -9,9 +9,9 @@ use Rattle.language.specs.Syntax.{Formula, Spans, Name, point, span}
 use Rattle.language.specs.Reader.{Read, asRead}
 use Rattle.language.specs.Scope.{Scope, bind}
 use Rattle.language.specs.Evaluation.{Limits, limitsOf, runOf, each, eval, over}
-use Rattle.walk.specs.Walk.{walkEntry, inDomainWalk, Bounds}
-use Rattle.walk.specs.Entries.{ReadsSpans, indexCount}
-use Rattle.walk.proofs.WalkedDomain.{entry-walk}
+use Rattle.onepass.specs.Walk.{walkEntry, inDomainWalk, Bounds}
+use Rattle.onepass.specs.Entries.{ReadsSpans, indexCount}
+use Rattle.onepass.proofs.WalkedDomain.{entry-walk}
 use Rattle.evaluator.specs.WalkOver.{walkOver}
 
 module _ {A : Type 0} where

@@ -19,19 +19,19 @@ use Rattle.language.specs.Reader.{Reader, Read, _>>=_, give, lift, next, find}
 use Rattle.language.specs.Scope.{Scope}
 use Rattle.language.specs.Ranges.{upFrom}
 use Rattle.language.specs.Evaluation.{wholeAt, Limits, lengthOf}
-use Rattle.walk.specs.Walk.{Walk, skip, nameNumber, walkFactors, walkTerm, walkSummands, walkPart, walkBody, walkLimits, walkSum, walkSubscripts, walkDatum, walkFound, walkPrimary, walkInside, valueAt, Bounds, walkEntry, walkWithin, inDomainWalk}
+use Rattle.onepass.specs.Walk.{Walk, skip, nameNumber, walkFactors, walkTerm, walkSummands, walkPart, walkBody, walkLimits, walkSum, walkSubscripts, walkDatum, walkFound, walkPrimary, walkInside, valueAt, Bounds, walkEntry, walkWithin, inDomainWalk}
 use Rattle.tokens.specs.Stored.{from, size, Shaped}
 use Rattle.store.specs.declared.Element.{Element}
 use Rattle.store.specs.Element.{listOf, Subscripts}
-use Rattle.steps.specs.declared.scope.Scope.{Scope as Held}
-use Rattle.steps.specs.declared.names.Listed.{Listed}
-use Rattle.steps.specs.declared.names.Listed.the-variants as listed
-use Rattle.steps.specs.declared.values.Answer.{Answer}
-use Rattle.steps.specs.declared.values.Answer.the-variants as answer
-use Rattle.steps.specs.declared.values.Limits as code
-use Rattle.steps.specs.Scopes.{bindingsOf, scopeOf, Small}
-use Rattle.steps.specs.Names.{rowWord}
-use Rattle.steps.specs.Values.{limitsIn, SmallLimits}
+use Rattle.evaluator.specs.declared.steps.scope.Scope.{Scope as Held}
+use Rattle.evaluator.specs.declared.steps.names.Listed.{Listed}
+use Rattle.evaluator.specs.declared.steps.names.Listed.the-variants as listed
+use Rattle.evaluator.specs.declared.steps.values.Answer.{Answer}
+use Rattle.evaluator.specs.declared.steps.values.Answer.the-variants as answer
+use Rattle.evaluator.specs.declared.steps.values.Limits as code
+use Rattle.evaluator.specs.Steps.Scopes.{bindingsOf, scopeOf, Small}
+use Rattle.evaluator.specs.Steps.Names.{rowWord}
+use Rattle.evaluator.specs.Steps.Values.{limitsIn, SmallLimits}
 use Rattle.evaluator.specs.declared.Limited.{Limited}
 use Rattle.evaluator.specs.declared.Limited.the-variants as limited
 use Rattle.evaluator.specs.declared.Numbers.{Numbers}

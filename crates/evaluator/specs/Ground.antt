@@ -13,7 +13,7 @@ use Rattle.lexer.specs.Text.{Token}
 use Rattle.lexer.specs.Text
 use Rattle.language.specs.Syntax.{Name}
 use Rattle.tokens.specs.Stored.{from, Named}
-use Rattle.steps.specs.Names.{Resolved, rowWord}
+use Rattle.evaluator.specs.Steps.Names.{Resolved, rowWord}
 use Rattle.evaluator.specs.Tables.{Stands, Given, World}
 
 pub record Ground (s ns ts : List ℕ) : Type 0 where

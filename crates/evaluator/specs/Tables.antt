@@ -16,13 +16,13 @@ use Rattle.language.specs.Outcome.{done}
 use Rattle.language.specs.Syntax.{Formula, Spans, Name, Sort}
 use Rattle.language.specs.Syntax
 use Rattle.language.specs.Formulas.{formulaAt}
-use Rattle.walk.specs.Entries.{ReadsSpans}
+use Rattle.onepass.specs.Entries.{ReadsSpans}
 use Rattle.tokens.specs.Stored.{from, Named, size}
 use Rattle.store.specs.Key.{keyOf}
 use Rattle.store.specs.Table.{Sorted, lookup}
 use Rattle.store.specs.Packed.{unpacked}
 use Rattle.store.specs.Entries.{Keyed}
-use Rattle.steps.specs.Names.{Resolved, rowWord}
+use Rattle.evaluator.specs.Steps.Names.{Resolved, rowWord}
 
 -- ---- what was declared stands where the name's row says, read with the names before it
 

@@ -8,7 +8,7 @@ use Rattle.language.specs.Outcome.{Outcome, _>>=_}
 use Rattle.language.specs.Syntax.{Name}
 use Rattle.language.specs.Scope.{Scope, bind}
 use Rattle.language.specs.Evaluation.{runOf, each}
-use Rattle.walk.specs.Walk.{Walk, walkEntry}
+use Rattle.onepass.specs.Walk.{Walk, walkEntry}
 
 -- a step at each element of a domain with n entries, which stand at ts
 unfoldable pub walkOver : {A : Type 0} → List Name → Walk → ℕ → List Token → Scope → (Scope → List ℤ → A → Outcome A) → A → Outcome A

@@ -1,4 +1,6 @@
 // Formulas, sums, subscripts and domains evaluated over the stored tokens, which have been read before. `table` holds the data.
+pub mod steps;
+
 use lexer::marks;
 use steps::names::Headed;
 use steps::names::Listed;

@@ -19,20 +19,20 @@ use Rattle.language.specs.Syntax.{Name}
 use Rattle.language.specs.Reader.{Reader, Read, follow, _>>=_, lift, next}
 use Rattle.language.specs.Linear.{Head, aSigma, aVariable, aPrimary, headBy}
 use Rattle.language.specs.Numbering.{Row}
-use Rattle.walk.specs.Walk.{walkPrimaryBy, walkPrimary, walkInside}
-use Rattle.walk.specs.WalkLinear.{walkVariable, walkLinearTerm}
-use Rattle.walk.proofs.Steps.{on}
+use Rattle.onepass.specs.Walk.{walkPrimaryBy, walkPrimary, walkInside}
+use Rattle.onepass.specs.WalkLinear.{walkVariable, walkLinearTerm}
+use Rattle.onepass.proofs.Steps.{on}
 use Rattle.tokens.specs.declared.Seen.{Seen}
 use Rattle.tokens.specs.declared.Seen.the-variants as seen
 use Rattle.tokens.specs.Stored.{token, kindOf, Sees, Looks}
 use Rattle.tokens.proofs.Moved.{next-is}
-use Rattle.steps.specs.declared.scope.Scope.{Scope}
-use Rattle.steps.specs.declared.names.Listed.{Listed}
-use Rattle.steps.specs.declared.names.Listed.the-variants as listed
-use Rattle.steps.specs.declared.values.Answer.{Answer}
-use Rattle.steps.specs.declared.values.Answer.the-variants as answer
-use Rattle.steps.specs.Scopes.{Small}
-use Rattle.steps.specs.Values.{fittedAt}
+use Rattle.evaluator.specs.declared.steps.scope.Scope.{Scope}
+use Rattle.evaluator.specs.declared.steps.names.Listed.{Listed}
+use Rattle.evaluator.specs.declared.steps.names.Listed.the-variants as listed
+use Rattle.evaluator.specs.declared.steps.values.Answer.{Answer}
+use Rattle.evaluator.specs.declared.steps.values.Answer.the-variants as answer
+use Rattle.evaluator.specs.Steps.Scopes.{Small}
+use Rattle.evaluator.specs.Steps.Values.{fittedAt}
 use Rattle.evaluator.specs.Tables.{World}
 use Rattle.evaluator.specs.Cycle.{primaryIn, valueOutcome, ValidAnswer, seenBy, under, tokensAt, Values, Continues}
 use Rattle.evaluator.proofs.Laws.{stop, regroup, fitted-outcome, fitted-valid, refused-is, value-is, value-valid}

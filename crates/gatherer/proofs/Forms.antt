@@ -18,23 +18,23 @@ use Rattle.language.specs.Outcome.{Outcome, done, refused}
 use Rattle.language.specs.Reader.{Reader, Read, follow, _>>=_}
 use Rattle.language.specs.Formulas.{Signed, readSign}
 use Rattle.language.specs.Numbering.{Variable, Row, xor}
-use Rattle.walk.specs.Walk.{skip, valueAt}
-use Rattle.walk.specs.WalkLinear.{walkLinear, walkBodyForm, walkRuns, walkSigma, gatherAt}
-use Rattle.walk.specs.Entries.{read}
-use Rattle.walk.proofs.Steps.{on}
+use Rattle.onepass.specs.Walk.{skip, valueAt}
+use Rattle.onepass.specs.WalkLinear.{walkLinear, walkBodyForm, walkRuns, walkSigma, gatherAt}
+use Rattle.onepass.specs.Entries.{read}
+use Rattle.onepass.proofs.Steps.{on}
 use Rattle.tokens.specs.declared.Move.{Move}
 use Rattle.tokens.specs.declared.Move.the-variants as move
 use Rattle.tokens.specs.declared.Seen.{Seen}
 use Rattle.tokens.specs.declared.Seen.the-variants as seen
 use Rattle.tokens.specs.Stored.{token, Sees, Looks}
 use Rattle.tokens.proofs.Moved.{look-is}
-use Rattle.steps.specs.declared.scope.Scope.{Scope}
-use Rattle.steps.specs.declared.passing.Lead.{Lead}
-use Rattle.steps.specs.declared.passing.Lead.the-variants as lead
-use Rattle.steps.specs.declared.values.Limits as code
-use Rattle.steps.specs.Scopes.{Small}
-use Rattle.steps.specs.Passing.{Led, Leads}
-use Rattle.steps.proofs.Passed.{is-mark, skips-seen}
+use Rattle.evaluator.specs.declared.steps.scope.Scope.{Scope}
+use Rattle.evaluator.specs.declared.steps.passing.Lead.{Lead}
+use Rattle.evaluator.specs.declared.steps.passing.Lead.the-variants as lead
+use Rattle.evaluator.specs.declared.steps.values.Limits as code
+use Rattle.evaluator.specs.Steps.Scopes.{Small}
+use Rattle.evaluator.specs.Steps.Passing.{Led, Leads}
+use Rattle.evaluator.proofs.steps.Passed.{is-mark, skips-seen}
 use Rattle.evaluator.specs.Cycle.{limitsWalk, seenBy, under, tokensAt}
 use Rattle.evaluator.proofs.Laws.{stop}
 use Rattle.gatherer.specs.declared.Ending.{Ending}

@@ -23,9 +23,9 @@ use Rattle.language.specs.Reader.{Reader, _>>=_, give, refuse, lift, passed, ne
 use Rattle.language.specs.Formulas.{Signed, isSum, readSign}
 use Rattle.language.specs.Scope.{Scope, unbound}
 use Rattle.language.specs.Evaluation.{wholeAt, Limits, runOf, eval, within}
-use Rattle.walk.specs.Walk.{Walk, skip, nameNumber, opensBracket, closesBracket, behindBracket, negatedValue, restAs, walkFactors, walkTerm, walkSummands, walkFormula, walkPart, walkTurns, walkBody, walkHead, walkLimits, walkSum, walkList, walkSubscripts, walkDatum, walkNamed, walkFound, walkPrimaryBy, walkPrimary, walkInside}
-use Rattle.walk.specs.Entries.{read}
-use Rattle.walk.proofs.Steps.{after-read, same-rest}
+use Rattle.onepass.specs.Walk.{Walk, skip, nameNumber, opensBracket, closesBracket, behindBracket, negatedValue, restAs, walkFactors, walkTerm, walkSummands, walkFormula, walkPart, walkTurns, walkBody, walkHead, walkLimits, walkSum, walkList, walkSubscripts, walkDatum, walkNamed, walkFound, walkPrimaryBy, walkPrimary, walkInside}
+use Rattle.onepass.specs.Entries.{read}
+use Rattle.onepass.proofs.Steps.{after-read, same-rest}
 use Rattle.tokens.specs.declared.Seen.{Seen}
 use Rattle.tokens.specs.declared.Seen.the-variants as seen
 use Rattle.tokens.specs.Stored.{view, from, Sees, Looks}

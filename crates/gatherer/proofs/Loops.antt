@@ -22,23 +22,23 @@ use Rattle.language.specs.Scope.{bind}
 use Rattle.language.specs.Ranges.{upFrom}
 use Rattle.language.specs.Evaluation.{each}
 use Rattle.language.specs.Numbering.{Row, xor}
-use Rattle.walk.specs.Walk.{skip, restAs, behindBracket}
-use Rattle.walk.specs.WalkLinear.{rowOnly, walkLinearTerms, walkRuns}
-use Rattle.walk.specs.Entries.{read}
-use Rattle.walk.proofs.Steps.{on}
+use Rattle.onepass.specs.Walk.{skip, restAs, behindBracket}
+use Rattle.onepass.specs.WalkLinear.{rowOnly, walkLinearTerms, walkRuns}
+use Rattle.onepass.specs.Entries.{read}
+use Rattle.onepass.proofs.Steps.{on}
 use Rattle.tokens.specs.declared.Move.{Move}
 use Rattle.tokens.specs.declared.Move.the-variants as move
 use Rattle.tokens.specs.declared.Seen.{Seen}
 use Rattle.tokens.specs.declared.Seen.the-variants as seen
 use Rattle.tokens.specs.Stored.{token, Sees, Looks}
 use Rattle.tokens.proofs.Moved.{look-is}
-use Rattle.steps.specs.declared.scope.Scope.{Scope}
-use Rattle.steps.specs.declared.values.Limits as code
-use Rattle.steps.specs.Scopes.{bindingsOf, boundMore, Small}
-use Rattle.steps.specs.Passing.{Ends}
-use Rattle.steps.specs.Values.{BindsNth}
-use Rattle.steps.proofs.Scopes.{scope-bind, small-bind}
-use Rattle.steps.proofs.Passed.{is-mark, skips-seen}
+use Rattle.evaluator.specs.declared.steps.scope.Scope.{Scope}
+use Rattle.evaluator.specs.declared.steps.values.Limits as code
+use Rattle.evaluator.specs.Steps.Scopes.{bindingsOf, boundMore, Small}
+use Rattle.evaluator.specs.Steps.Passing.{Ends}
+use Rattle.evaluator.specs.Steps.Values.{BindsNth}
+use Rattle.evaluator.proofs.steps.Scopes.{scope-bind, small-bind}
+use Rattle.evaluator.proofs.steps.Passed.{is-mark, skips-seen}
 use Rattle.evaluator.specs.Cycle.{seenBy, under, tokensAt, Ready}
 use Rattle.evaluator.proofs.Laws.{stop}
 use Rattle.evaluator.proofs.Turns.{nth-small}

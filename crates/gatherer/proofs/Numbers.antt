@@ -17,8 +17,8 @@ use Rattle.language.specs.Syntax
 use Rattle.language.specs.Reader.{asRead, Used, find}
 use Rattle.language.specs.Linear.{aPrimary, headBySort, headByName, headBy}
 use Rattle.language.specs.Numbering.{numberOf}
-use Rattle.walk.specs.WalkLinear.{walkNumber}
-use Rattle.walk.proofs.Steps.{on}
+use Rattle.onepass.specs.WalkLinear.{walkNumber}
+use Rattle.onepass.proofs.Steps.{on}
 use Rattle.tokens.specs.declared.Seen.the-variants as seen
 use Rattle.tokens.specs.Stored.{nameBytes, spelling, kindOf, Looks, Shaped}
 use Rattle.tokens.proofs.Tables.{false-true}
@@ -30,12 +30,12 @@ use Rattle.store.specs.Key.{nameBound, keyOf}
 use Rattle.store.specs.Table.{Finds}
 use Rattle.store.specs.Entries.{Keyed}
 use Rattle.store.proofs.Held.{numbered-at, numbered-nothing}
-use Rattle.steps.specs.declared.scope.Scope.{Scope}
-use Rattle.steps.specs.declared.names.Listed.{Listed}
-use Rattle.steps.specs.declared.names.Listed.the-variants as listed
-use Rattle.steps.specs.Scopes.{Small}
-use Rattle.steps.specs.Names.{numberPart, rowWord, listedOf}
-use Rattle.steps.proofs.Numbers.{unknown, known, row-of, row-shaped}
+use Rattle.evaluator.specs.declared.steps.scope.Scope.{Scope}
+use Rattle.evaluator.specs.declared.steps.names.Listed.{Listed}
+use Rattle.evaluator.specs.declared.steps.names.Listed.the-variants as listed
+use Rattle.evaluator.specs.Steps.Scopes.{Small}
+use Rattle.evaluator.specs.Steps.Names.{numberPart, rowWord, listedOf}
+use Rattle.evaluator.proofs.steps.Numbers.{unknown, known, row-of, row-shaped}
 use Rattle.evaluator.specs.declared.Numbers.{Numbers}
 use Rattle.evaluator.specs.declared.Numbers.the-variants as numbers
 use Rattle.evaluator.specs.declared.Passed.{Passed}

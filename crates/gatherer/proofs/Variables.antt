@@ -15,19 +15,19 @@ use Rattle.language.specs.Syntax.{Spans}
 use Rattle.language.specs.Reader.{asRead}
 use Rattle.language.specs.Evaluation.{runOf}
 use Rattle.language.specs.Numbering.{Row, signed, addAt}
-use Rattle.walk.specs.Walk.{negatedValue, walkHead}
-use Rattle.walk.specs.WalkLinear.{walkNumber, walkVariable}
-use Rattle.walk.proofs.Steps.{on}
+use Rattle.onepass.specs.Walk.{negatedValue, walkHead}
+use Rattle.onepass.specs.WalkLinear.{walkNumber, walkVariable}
+use Rattle.onepass.proofs.Steps.{on}
 use Rattle.tokens.specs.declared.Move.the-variants as move
-use Rattle.steps.specs.declared.scope.Scope.{Scope}
-use Rattle.steps.specs.declared.names.Headed.{Headed}
-use Rattle.steps.specs.declared.names.Headed.the-variants as headed
-use Rattle.steps.specs.declared.values.Limits as code
-use Rattle.steps.specs.declared.values.Runs.{Runs}
-use Rattle.steps.specs.declared.values.Runs.the-variants as runs
-use Rattle.steps.specs.Scopes.{Small}
-use Rattle.steps.specs.Names.{headOutcome, Heads}
-use Rattle.steps.specs.Values.{signedValue, limitsIn, SmallLimits, runOutcome, RunIs}
+use Rattle.evaluator.specs.declared.steps.scope.Scope.{Scope}
+use Rattle.evaluator.specs.declared.steps.names.Headed.{Headed}
+use Rattle.evaluator.specs.declared.steps.names.Headed.the-variants as headed
+use Rattle.evaluator.specs.declared.steps.values.Limits as code
+use Rattle.evaluator.specs.declared.steps.values.Runs.{Runs}
+use Rattle.evaluator.specs.declared.steps.values.Runs.the-variants as runs
+use Rattle.evaluator.specs.Steps.Scopes.{Small}
+use Rattle.evaluator.specs.Steps.Names.{headOutcome, Heads}
+use Rattle.evaluator.specs.Steps.Values.{signedValue, limitsIn, SmallLimits, runOutcome, RunIs}
 use Rattle.evaluator.specs.declared.Limited.{Limited}
 use Rattle.evaluator.specs.declared.Limited.the-variants as limited
 use Rattle.evaluator.specs.Tables.{World}

@@ -18,18 +18,18 @@ use Rattle.language.specs.Linear.{Head, aVariable, aPrimary, headBy}
 use Rattle.language.specs.Ranges.{upFrom}
 use Rattle.language.specs.Evaluation.{runOf}
 use Rattle.language.specs.Numbering.{Variable, Row}
-use Rattle.walk.specs.Walk.{Walk, walkHead, walkPrimary, walkInside}
-use Rattle.walk.specs.WalkLinear.{Gatherer, walkNumber, walkVariable, walkLinearTerm, walkLinearTerms, walkLinear, noSigmaWalk, walkBodyForm, walkRuns, walkSigma, gatherAt}
+use Rattle.onepass.specs.Walk.{Walk, walkHead, walkPrimary, walkInside}
+use Rattle.onepass.specs.WalkLinear.{Gatherer, walkNumber, walkVariable, walkLinearTerm, walkLinearTerms, walkLinear, noSigmaWalk, walkBodyForm, walkRuns, walkSigma, gatherAt}
 use Rattle.tokens.specs.declared.Move.{Move}
 use Rattle.tokens.specs.declared.Move.the-variants as move
 use Rattle.tokens.specs.declared.Seen.the-variants as seen
 use Rattle.tokens.specs.Stored.{kindOf, from, size, Looks}
 use Rattle.store.specs.Entries.{Numbered as Held}
-use Rattle.steps.specs.declared.scope.Scope.{Scope}
-use Rattle.steps.specs.declared.names.Listed.{Listed}
-use Rattle.steps.specs.declared.names.Listed.the-variants as listed
-use Rattle.steps.specs.declared.values.Limits as code
-use Rattle.steps.specs.Scopes.{Small}
+use Rattle.evaluator.specs.declared.steps.scope.Scope.{Scope}
+use Rattle.evaluator.specs.declared.steps.names.Listed.{Listed}
+use Rattle.evaluator.specs.declared.steps.names.Listed.the-variants as listed
+use Rattle.evaluator.specs.declared.steps.values.Limits as code
+use Rattle.evaluator.specs.Steps.Scopes.{Small}
 use Rattle.evaluator.specs.Tables.{DomainAt, World}
 use Rattle.evaluator.specs.Cycle.{limitsWalk, seenBy, under, tokensAt, Ready}
 use Rattle.gatherer.specs.declared.Numbered.{Numbered}

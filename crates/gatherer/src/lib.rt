@@ -4,15 +4,15 @@ use evaluator::Context;
 use evaluator::Limited;
 use evaluator::Numbers;
 use evaluator::Passed;
+use evaluator::steps::names::Headed;
+use evaluator::steps::names::Listed;
+use evaluator::steps::passing;
+use evaluator::steps::passing::Lead;
+use evaluator::steps::values;
+use evaluator::steps::values::Answer;
+use evaluator::steps::values::Limits;
+use evaluator::steps::values::Runs;
 use lexer::marks;
-use steps::names::Headed;
-use steps::names::Listed;
-use steps::passing;
-use steps::passing::Lead;
-use steps::values;
-use steps::values::Answer;
-use steps::values::Limits;
-use steps::values::Runs;
 use tokens::Move;
 use tokens::Seen;
 use tokens::kinds;
@@ -90,7 +90,7 @@ pub fn variable_at(names: &[u64], tokens: &[u64], level: usize, at: usize, k: u6
     if k != kinds::NAME {
         return Listed::Nothing;
     }
-    let name = steps::names::name_at(names, tokens, at);
+    let name = evaluator::steps::names::name_at(names, tokens, at);
     match name {
         Listed::Name(i, sort, count, start) => {
             if level <= i {
@@ -474,7 +474,7 @@ fn sigma(
 fn run_of(names: &[u64], tokens: &[u64], table: &[u64], cx: Context, at: usize, p: u64) -> Running
     ensures { λ r. ⌜ RunningIs (cx .nest) p (now (names .entry)) (now (tokens .entry)) (now (table .entry)) (cx .given) (cx .level) (cx .scope) at r ⌝ }
 {
-    let head = steps::names::head(tokens, cx.level, at);
+    let head = evaluator::steps::names::head(tokens, cx.level, at);
     match head {
         Headed::Index(i, a) => {
             let both = evaluator::both_limits(names, tokens, table, cx, a, p);

@@ -27,8 +27,8 @@ use Rattle.tokens.specs.Stored.{spelling, bytesFrom, Named, rowsOf}
 use Rattle.listing.specs.Shown.{shownLines}
 use Rattle.listing.proofs.Lines.{lines-shown}
 use Rattle.evaluator.specs.Tables.{World}
-use Rattle.variables.specs.Order.{InOrder}
-use Rattle.variables.proofs.Order.{declarations-order}
+use Rattle.problem.specs.Variables.Order.{InOrder}
+use Rattle.problem.proofs.variables.Order.{declarations-order}
 use Rattle.model.specs.declared.Model.{Model as Tables}
 use Rattle.model.specs.declared.End.the-variants as end
 use Rattle.model.specs.ReadAs.{ModelAt, ReadAs}
@@ -38,10 +38,10 @@ use Rattle.rows.specs.declared.Filled.{Filled}
 use Rattle.problem.specs.declared.Problem.{Problem}
 use Rattle.problem.specs.declared.Problem.the-variants as problem
 use Rattle.problem.specs.Problem.{Poses, Holds, Generating, GeneratesAs}
-use Rattle.sheet.specs.declared.Sizes.{Sizes}
-use Rattle.sheet.specs.Shown.{Shown}
-use Rattle.sheet.specs.Shown as sheet
-use Rattle.sheet.proofs.Texts.{visible-inside}
+use Rattle.listing.specs.declared.sheet.Sizes.{Sizes}
+use Rattle.listing.specs.Sheet.Shown.{Shown}
+use Rattle.listing.specs.Sheet.Shown as sheet
+use Rattle.listing.proofs.sheet.Texts.{visible-inside}
 use Rattle.generator.specs.declared.Generated.{Generated}
 use Rattle.generator.specs.declared.Generated.the-variants as generated
 use Rattle.generator.specs.Generated.{Lists, behindBrace, ListsModel, ListsIn, Generates}

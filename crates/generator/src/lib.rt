@@ -1,14 +1,14 @@
 // The public entry point: a model text and a lent output buffer give a number, a place and a length.
+use listing::sheet::Sizes;
 use model::End;
 use model::Model;
 use problem::Problem;
-use sheet::Sizes;
 ghost use mathlib.Core.Path.{_≡_};
 ghost use Prim.Native.Nat.{_≤_};
 ghost use lib.ListN.{length, take, replicate};
 ghost use Rattle.rules.specs.Refusals.{refusalNumber};
 ghost use Rattle.tokens.specs.Stored.{rowsOf};
-ghost use Rattle.sheet.specs.Shown.{Lists};
+ghost use Rattle.listing.specs.Sheet.Shown.{Lists};
 ghost use Rattle.generator.specs.Contract.{Defined, Accepts, Meaning};
 ghost use Rattle.generator.specs.Generated.{behindBrace, ListsModel, ListsIn, Generates};
 
@@ -54,7 +54,7 @@ fn write(
     ensures { λ r. ⌜ Lists (now (text .entry)) (now (names .entry)) (now (tokens .entry)) (rowsOf (model .constraints) (now (constraints .entry))) (now (variables .entry)) (now (slots .entry)) (now (bounds .entry)) (now (counts .entry)) sizes (model .title) (behindBrace (model .section)) (model .bytes) (now (out .entry)) r (now (out .exit)) ⌝ }
 {
     let c = model.constraints * 5;
-    sheet::write(
+    listing::sheet::write(
         text,
         names,
         tokens,

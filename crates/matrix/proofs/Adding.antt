@@ -24,15 +24,15 @@ use Rattle.language.specs.Numbering.{Variable, Row, signed, gathered, Fact, bou
 use Rattle.tokens.specs.Stored.{Stands}
 use Rattle.store.specs.declared.Element.{Element}
 use Rattle.store.specs.Element.{listOf, Subscripts}
-use Rattle.steps.specs.declared.scope.Scope.{Scope}
-use Rattle.steps.specs.Scopes.{bindingsOf, scopeOf, Small}
-use Rattle.steps.proofs.Scopes.{small-none}
+use Rattle.evaluator.specs.declared.steps.scope.Scope.{Scope}
+use Rattle.evaluator.specs.Steps.Scopes.{bindingsOf, scopeOf, Small}
+use Rattle.evaluator.proofs.steps.Scopes.{small-none}
 use Rattle.evaluator.specs.declared.Passed.{Passed}
 use Rattle.evaluator.specs.declared.Passed.the-variants as passed
 use Rattle.evaluator.specs.Tables.{World}
 use Rattle.evaluator.specs.Cycle.{seenBy, nothingBound, under}
 use Rattle.constraints.specs.Rows.{SideAt}
-use Rattle.parts.specs.declared.Parts.{Parts}
+use Rattle.matrix.specs.declared.parts.Parts.{Parts}
 use Rattle.rows.specs.declared.Filled.{Filled}
 use Rattle.rows.specs.Slots.{countsAt, objectiveRow, nextSlot, RowsHeld, RowPut, Wrote}
 use Rattle.rows.specs.Bounds.{BoundsHeld, boundStated}
@@ -40,11 +40,11 @@ use Rattle.rows.proofs.Parts.{row-put}
 use Rattle.rows.proofs.Slotting.{rows-counted, next-within, row-added, bound-passed, objective-put}
 use Rattle.rows.proofs.Bounding.{bound-added, row-passed}
 use Rattle.gatherer.specs.Cycle.{Model}
-use Rattle.sides.specs.declared.Bounded.{Bounded}
-use Rattle.sides.specs.declared.Bounded.the-variants as bounded
-use Rattle.sides.specs.declared.Right.{Right}
-use Rattle.sides.specs.declared.Right.the-variants as right
-use Rattle.sides.specs.Answers.{isBare, boundOutcome, Sound, BoundIs, Holds, GathersTo, RowOn, Rowed, RightIs}
+use Rattle.matrix.specs.declared.sides.Bounded.{Bounded}
+use Rattle.matrix.specs.declared.sides.Bounded.the-variants as bounded
+use Rattle.matrix.specs.declared.sides.Right.{Right}
+use Rattle.matrix.specs.declared.sides.Right.the-variants as right
+use Rattle.matrix.specs.Sides.Answers.{isBare, boundOutcome, Sound, BoundIs, Holds, GathersTo, RowOn, Rowed, RightIs}
 use Rattle.matrix.specs.declared.Generated.the-variants as generated
 use Rattle.matrix.specs.Answers.{State, Added, Adds, Stays, Takes, RowAdds, BoundAdds, ObjectiveAdds, ObjectiveIs}
 

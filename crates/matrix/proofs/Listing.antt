@@ -21,13 +21,13 @@ use Rattle.evaluator.specs.declared.Passed.{Passed}
 use Rattle.evaluator.specs.declared.Passed.the-variants as passed
 use Rattle.evaluator.specs.Cycle.{nothingBound}
 use Rattle.constraints.specs.Rows.{RowOf, Rows}
-use Rattle.parts.specs.declared.Parts.{Parts}
-use Rattle.parts.specs.Parts.{Tells, rowAt, PartsAre}
+use Rattle.matrix.specs.declared.parts.Parts.{Parts}
+use Rattle.matrix.specs.Parts.Parts.{Tells, rowAt, PartsAre}
 use Rattle.rows.specs.declared.Filled.{Filled}
 use Rattle.rows.proofs.Slotting.{rows-none}
 use Rattle.rows.proofs.Bounding.{bounds-none}
 use Rattle.gatherer.specs.Cycle.{Model}
-use Rattle.sides.specs.Answers.{isBare, IsBare}
+use Rattle.matrix.specs.Sides.Answers.{isBare, IsBare}
 use Rattle.matrix.specs.declared.Generated.{Generated}
 use Rattle.matrix.specs.declared.Generated.the-variants as generated
 use Rattle.matrix.specs.Answers.{State, Added, Adds, AddsBounds, Stays, Takes, RowsAdd, BoundsAdd, OneAdds, AllAdd, Generates}

@@ -13,8 +13,8 @@ use Rattle.language.specs.Evaluation.{over}
 use Rattle.language.specs.Numbering.{Entry, addEntry}
 use Rattle.store.specs.declared.Element.{Element}
 use Rattle.store.specs.Element.{listOf}
-use Rattle.steps.specs.declared.scope.Scope.{Scope}
-use Rattle.steps.specs.Scopes.{bindingsOf}
+use Rattle.evaluator.specs.declared.steps.scope.Scope.{Scope}
+use Rattle.evaluator.specs.Steps.Scopes.{bindingsOf}
 use Rattle.evaluator.specs.declared.Passed.{Passed}
 use Rattle.evaluator.specs.declared.Passed.the-variants as passed
 use Rattle.evaluator.specs.Tables.{DomainAt}
@@ -27,10 +27,10 @@ use Rattle.elements.specs.Steps.{FirstIs, NextIs}
 use Rattle.elements.specs.Loops.{Remains}
 use Rattle.elements.proofs.Held.{map-take}
 use Rattle.elements.proofs.Loops.{loop-start, loop-more, loop-refused, loop-done, loop-stopped, loop-small, loop-subscripts}
-use Rattle.parts.specs.declared.Parts.{Parts}
+use Rattle.matrix.specs.declared.parts.Parts.{Parts}
 use Rattle.rows.specs.declared.Filled.{Filled}
 use Rattle.gatherer.specs.Cycle.{Model}
-use Rattle.sides.specs.Answers.{isBare}
+use Rattle.matrix.specs.Sides.Answers.{isBare}
 use Rattle.matrix.specs.declared.Generated.{Generated}
 use Rattle.matrix.specs.declared.Generated.the-variants as generated
 use Rattle.matrix.specs.Answers.{State, Adds, AddsBounds, Stays, Takes, RowAdds, RowsAdd, BoundAdds, BoundsAdd}

@@ -15,19 +15,19 @@ use Rattle.language.specs.Numbering.{Variable, Row, signed, gathered, Entry, ad
 use Rattle.tokens.specs.Stored.{rowsOf, Stands}
 use Rattle.store.specs.Element.{Subscripts}
 use Rattle.store.specs.Key.{nameBound}
-use Rattle.steps.specs.declared.scope.Scope.{Scope}
-use Rattle.steps.specs.Scopes.{Small}
+use Rattle.evaluator.specs.declared.steps.scope.Scope.{Scope}
+use Rattle.evaluator.specs.Steps.Scopes.{Small}
 use Rattle.evaluator.specs.declared.Passed.{Passed}
 use Rattle.evaluator.specs.declared.Passed.the-variants as passed
 use Rattle.evaluator.specs.Cycle.{nothingBound, under}
 use Rattle.constraints.specs.Rows.{RowOf, Rows}
-use Rattle.parts.specs.declared.Parts.{Parts}
-use Rattle.parts.specs.Parts.{Tells, rowAt}
+use Rattle.matrix.specs.declared.parts.Parts.{Parts}
+use Rattle.matrix.specs.Parts.Parts.{Tells, rowAt}
 use Rattle.rows.specs.declared.Filled.{Filled}
 use Rattle.rows.specs.Slots.{countsAt, objectiveRow, ObjectiveHeld, RowsHeld}
 use Rattle.rows.specs.Bounds.{BoundsHeld}
 use Rattle.gatherer.specs.Cycle.{Model}
-use Rattle.sides.specs.Answers.{isBare}
+use Rattle.matrix.specs.Sides.Answers.{isBare}
 use Rattle.matrix.specs.declared.Generated.{Generated}
 use Rattle.matrix.specs.declared.Generated.the-variants as generated
 

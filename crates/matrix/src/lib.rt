@@ -1,14 +1,17 @@
 // The objective and every constraint of a model, element by element: bounds in their table, rows in their slots. `table` and `given`:
 // the data and their rows; `variables` and `total`: the variables and how many there are. What the tables hold is said in the
 // crate `rows`.
+pub mod parts;
+pub mod sides;
+
 use elements::Step;
 use evaluator::Context;
 use evaluator::Passed;
+use evaluator::steps::scope::Scope;
 use parts::Parts;
 use rows::Filled;
 use sides::Bounded;
 use sides::Right;
-use steps::scope::Scope;
 use store::Element;
 ghost use mathlib.Core.Path.{_≡_};
 ghost use Prim.Native.Nat.{_≤_};

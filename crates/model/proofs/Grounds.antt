@@ -17,11 +17,11 @@ use Rattle.language.specs.Syntax.{Name, Sort, Spans, Structure}
 use Rattle.language.specs.Syntax
 use Rattle.language.specs.Grammar.{structure}
 use Rattle.language.proofs.Shapes.{AllShaped, tokens-shaped}
-use Rattle.walk.proofs.WalkedDomain.{due-reads}
+use Rattle.onepass.proofs.WalkedDomain.{due-reads}
 use Rattle.tokens.specs.Stored.{view, from, rowsOf}
 use Rattle.tokens.proofs.Tables.{named-length}
-use Rattle.scanner.specs.Table.{Holds}
-use Rattle.steps.specs.Names.{rowWord, Resolves}
+use Rattle.tokens.specs.Scanner.Table.{Holds}
+use Rattle.evaluator.specs.Steps.Names.{rowWord, Resolves}
 use Rattle.declarations.specs.Tables.{Spanned, Declares, Told}
 use Rattle.parser.specs.declared.Parsed.{Parsed}
 use Rattle.parser.specs.Parsed.{StructureAt}

@@ -16,9 +16,9 @@ use Rattle.language.specs.Data.{readData}
 use Rattle.language.specs.Model.{model, whatOf, readModel}
 use Rattle.tokens.specs.declared.Move.the-variants.{At, Refused}
 use Rattle.tokens.specs.Stored.{from, rowsOf}
-use Rattle.scanner.specs.Table.{Scanned}
-use Rattle.scanner.proofs.Calls.{table-holds, holds-from}
-use Rattle.steps.specs.Names.{Resolves}
+use Rattle.tokens.specs.Scanner.Table.{Scanned}
+use Rattle.tokens.proofs.scanner.Calls.{table-holds, holds-from}
+use Rattle.evaluator.specs.Steps.Names.{Resolves}
 use Rattle.parser.specs.declared.Parsed.{Parsed}
 use Rattle.parser.specs.Parsed.{StructureAt, Parsing, ParsedAs}
 use Rattle.evaluator.specs.Ground.{Ground}

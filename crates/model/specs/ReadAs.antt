@@ -10,8 +10,8 @@ use Rattle.language.specs.Model.{readModel}
 use Rattle.language.specs.Model as language
 use Rattle.tokens.specs.declared.Move.the-variants.{At}
 use Rattle.tokens.specs.Stored.{spelling, rowsOf}
-use Rattle.scanner.specs.Table.{Holds}
-use Rattle.steps.specs.Names.{Resolves}
+use Rattle.tokens.specs.Scanner.Table.{Holds}
+use Rattle.evaluator.specs.Steps.Names.{Resolves}
 use Rattle.parser.specs.declared.Parsed.{Parsed}
 use Rattle.parser.specs.Parsed.{StructureAt}
 use Rattle.evaluator.specs.Ground.{Ground}

@@ -5,7 +5,7 @@ ghost use mathlib.Core.Path.{_≡_};
 ghost use Prim.Native.Nat.{_≤_};
 ghost use lib.ListN.{length, take};
 ghost use Rattle.tokens.specs.Stored.{rowsOf};
-ghost use Rattle.steps.specs.Names.{Resolves};
+ghost use Rattle.evaluator.specs.Steps.Names.{Resolves};
 ghost use Rattle.parser.specs.Parsed.{ParsedAs};
 ghost use Rattle.data.specs.Sections.{ReadsData};
 ghost use Rattle.model.specs.ReadAs.{Scans, noModel, modelOf, Finishes, ReadAs};
@@ -37,7 +37,7 @@ fn scan(text: &[u8], tokens: &mut [u64]) -> usize
     requires { ⌜ length (now tokens) ≡ 16385 ⌝ }
     ensures { λ r. ⌜ Scans (now (text .entry)) r (now (tokens .exit)) ⌝ }
 {
-    scanner::scan(text, tokens)
+    tokens::scanner::scan(text, tokens)
 }
 
 // The structure, from the first n tokens.
@@ -60,7 +60,7 @@ fn resolve(text: &[u8], names: &[u64], count: usize, tokens: &mut [u64], n: usiz
     ensures { λ _. ⌜ Resolves (now (text .entry)) (rowsOf count (now (names .entry))) (take n (now (tokens .entry))) (take n (now (tokens .exit))) ⌝ }
 {
     let k = count * 5;
-    steps::names::resolve(text, &names[..k], &mut tokens[..n]);
+    evaluator::steps::names::resolve(text, &names[..k], &mut tokens[..n]);
 }
 
 // The data section and the end, from the token at a position among the first n on, with the first `count` names.

@@ -26,10 +26,10 @@ use Rattle.evaluator.specs.declared.Passed.{Passed}
 use Rattle.evaluator.specs.declared.Passed.the-variants as passed
 use Rattle.evaluator.specs.Tables.{World}
 use Rattle.evaluator.specs.Cycle.{nothingBound, passedOutcome}
-use Rattle.missing.specs.Given.{AllGiven}
-use Rattle.variables.specs.declared.Counted.{Counted}
-use Rattle.variables.specs.declared.Counted.the-variants as counted
-use Rattle.variables.specs.Numbers.{Below, Counts, Counting, NumbersAs}
+use Rattle.problem.specs.Missing.Given.{AllGiven}
+use Rattle.problem.specs.declared.variables.Counted.{Counted}
+use Rattle.problem.specs.declared.variables.Counted.the-variants as counted
+use Rattle.problem.specs.Variables.Numbers.{Below, Counts, Counting, NumbersAs}
 use Rattle.rows.specs.declared.Filled.{Filled}
 use Rattle.rows.specs.Slots.{countsAt, objectiveRow, ObjectiveHeld}
 use Rattle.rows.specs.Counts.{RowOf}

@@ -1,1 +1,3 @@
 pub mod Problem
+pub mod Missing
+pub mod Variables

@@ -23,7 +23,7 @@ use Rattle.elements.specs.Placed.{Placed}
 use Rattle.rows.specs.declared.Filled.{Filled}
 use Rattle.rows.specs.Slots.{RowsHeld, ObjectiveHeld}
 use Rattle.rows.specs.Bounds.{BoundsHeld}
-use Rattle.variables.specs.Order.{InOrder}
+use Rattle.problem.specs.Variables.Order.{InOrder}
 use Rattle.problem.specs.declared.Problem.{Problem}
 use Rattle.problem.specs.declared.Problem.the-variants as problem
 

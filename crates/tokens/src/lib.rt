@@ -2,6 +2,7 @@
 // place and payload; a position is its index in the table. A name is a row of five words: place, length, sort, number of indices,
 // and the position at which its declared formula or its domain's first entry stands.
 pub mod kinds;
+pub mod scanner;
 pub mod sorts;
 
 use lexer::marks;

@@ -1,6 +1,6 @@
 -- `cases::turn` is safe and ends. Assumes nothing.
 use borrow.Author.Needs.{needs}
-use Rattle.frames.proofs.Laws.{text-within, text-part}
+use Rattle.cases.proofs.frames.Laws.{text-within, text-part}
 use Rattle.cases.proofs.Laws.{filled-part}
 use Rattle.cases.proofs.turn.Statement.{statement}
 use Rattle.cases.proofs.turn.Tie as tie

@@ -19,7 +19,7 @@ use Rattle.elements.proofs.here.Level.of.Reads as of-reads
 use Rattle.elements.proofs.here.Level.stands.Reads as stands-reads
 use Rattle.elements.proofs.here.Level.up.Reads as up-reads
 use Rattle.evaluator.proofs.entry.Reads as entry-reads
-use Rattle.steps.proofs.values.run.Reads as run-reads
+use Rattle.evaluator.proofs.steps.values.run.Reads as run-reads
 use Rattle.elements.proofs.+inside+turns.{statement}
 use Rattle.elements.proofs.+inside+turns.Tie.{close}
 

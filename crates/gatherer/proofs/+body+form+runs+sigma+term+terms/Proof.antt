@@ -31,9 +31,9 @@ use Rattle.gatherer.proofs.end_of.Reads as end-of-reads
 use Rattle.gatherer.proofs.flipped.Reads as flipped-reads
 use Rattle.gatherer.proofs.run_of.Reads as run-of-reads
 use Rattle.gatherer.proofs.variable.Reads as variable-reads
-use Rattle.steps.proofs.passing.behind_bracket.Reads as behind-bracket-reads
-use Rattle.steps.proofs.passing.sign.Reads as sign-reads
-use Rattle.steps.proofs.values.bind_nth.Reads as bind-nth-reads
+use Rattle.evaluator.proofs.steps.passing.behind_bracket.Reads as behind-bracket-reads
+use Rattle.evaluator.proofs.steps.passing.sign.Reads as sign-reads
+use Rattle.evaluator.proofs.steps.values.bind_nth.Reads as bind-nth-reads
 use Rattle.tokens.proofs.token_at.Reads as token-at-reads
 use Rattle.gatherer.proofs.+body+form+runs+sigma+term+terms.{statement}
 use Rattle.gatherer.proofs.+body+form+runs+sigma+term+terms.Tie.{close}

@@ -13,10 +13,10 @@ use Rattle.data.proofs.running.+each+runs.Lts-runs as runs-lts
 use Rattle.data.proofs.entering.take.Reads as take-reads
 use Rattle.data.proofs.running.element.Reads as element-reads
 use Rattle.data.proofs.running.position_run.Reads as position-run-reads
-use Rattle.portions.proofs.entries.Entries.fix.Reads as fix-reads
-use Rattle.portions.proofs.few.Few.at.Reads as at-reads
-use Rattle.portions.proofs.few.Few.length.Reads as length-reads
-use Rattle.steps.proofs.values.nth_number.Reads as nth-number-reads
+use Rattle.data.proofs.reading.entries.Entries.fix.Reads as fix-reads
+use Rattle.data.proofs.reading.few.Few.at.Reads as at-reads
+use Rattle.data.proofs.reading.few.Few.length.Reads as length-reads
+use Rattle.evaluator.proofs.steps.values.nth_number.Reads as nth-number-reads
 use Rattle.tokens.proofs.token_at.Reads as token-at-reads
 use Rattle.data.proofs.Carried.{EachOn, each-start, each-end, each-wrong, each-on, runs-number, runs-wrong, runs-refused, runs-each, few-positions}
 use Rattle.data.proofs.running.+each+runs.{statement}

@@ -1,7 +1,7 @@
 -- `running::element` meets its contract. Assumes nothing.
 use Prim.Native.Nat.{_-_}
-use Rattle.portions.specs.Entries.{entriesOf}
-use Rattle.portions.proofs.Marks.{entries-few}
+use Rattle.data.specs.Reading.Entries.{entriesOf}
+use Rattle.data.proofs.reading.Marks.{entries-few}
 use Rattle.data.proofs.Positions.{Making, making-start, making-fixed, making-marked, making-end}
 use borrow.Author.Needs.{needs}
 use Rattle.data.proofs.running.element.Statement.{statement}

@@ -1,0 +1,32 @@
+-- Laws over plain variables that answer the code's needs. Assumes nothing.
+use mathlib.Core.Path.{_≡_, sym}
+use mathlib.Core.List.{List}
+use Prim.Native.Nat.{ℕ, _-_, _<_, _≤_}
+use native.Mathlib.Omega.{arith}
+use borrow.Author.Tests.{le-leb, lt-leb}
+use lib.ListN.{length, take}
+use lib.Seq.{length-take-le}
+use Rattle.cases.specs.declared.frames.Given.{Given}
+use Rattle.cases.specs.declared.frames.Given.the-variants.{Text}
+use Rattle.cases.specs.Frames.Frames.{digitOf, Within}
+
+module _ (b : ℕ) where
+  pub digit-low : b < 48 → 0 ≡ digitOf b
+  digit-low h = rw (lt-leb 48 b h)
+
+  pub digit-high : 57 < b → 0 ≡ digitOf b
+  digit-high h = rw (lt-leb b 57 h, le-leb 48 b (omega arith))
+
+  pub digit-is : 48 ≤ b → b ≤ 57 → b - 48 ≡ digitOf b
+  digit-is h g = rw (le-leb 48 b h, le-leb b 57 g)
+
+pub part-length : (k : ℕ) (l : List ℕ) → k ≤ length l → k ≡ length (take k l)
+part-length k l h = sym (length-take-le k l h)
+
+-- a text that was given lies at the start of what was lent for it
+module _ (g : Given) (n k : ℕ) (l : List ℕ) (e : g ≡ Text n k) (h : Within g (length l)) where
+  pub text-within : n ≤ length l
+  text-within = (rw e at h) .0
+
+  pub text-part : n ≡ length (take n l)
+  text-part = part-length n l text-within

@@ -1,0 +1,10 @@
+-- `few::Few::none` meets its contract. Assumes nothing.
+use Rattle.data.proofs.reading.Lists.{keeps-none}
+use Rattle.data.proofs.reading.few.Few.none.Statement.{statement}
+use Rattle.data.proofs.reading.few.Few.none.Tie as tie
+
+pub none-spec : {M : Type 1} → statement M
+none-spec =
+    tie.close
+    (tie.spec
+    (λ c. keeps-none _ _ _ _))  -- returns

@@ -1,0 +1,109 @@
+-- Laws of the steps on values: what each answers, and that it is what the definition says of values. Assumes nothing.
+use mathlib.Core.Path.{_≡_, refl, sym, _∙_, ap, subst}
+use mathlib.Core.Bool.{Bool, true, false, cond, not}
+use mathlib.Core.Option.{Option, none, some}
+use mathlib.Core.List.{List}
+use Prim.Native.Nat.{ℕ, _/_, _%_, _^_, _<_, _≤_}
+use native.Mathlib.Omega.{arith}
+use lib.IntN.{ℤ, pos, natAbs}
+use lib.Signed.{mag}
+use mir.Syntax.{w64}
+use mir.Val.{Fits, toZ, ofZ}
+use mir.Facts.{toZ-pos}
+use Rattle.rules.specs.declared.Refusal.the-variants.{Unfit, BadIndex, NotWhole, Missing}
+use Rattle.value.specs.declared.Value.{Value}
+use Rattle.value.specs.declared.Fit.{Fit}
+use Rattle.value.specs.declared.Fit.the-variants as fit
+use Rattle.value.specs.declared.Whole.{Whole}
+use Rattle.value.specs.declared.Whole.the-variants.{Number, NotWhole as noNumber}
+use Rattle.value.specs.Decimal.{inRange, ifInRange, sumOf, negate, wholeOf, ofWhole}
+use Rattle.value.proofs.Integers.{back}
+use Rattle.store.specs.declared.Element.{Element}
+use Rattle.store.specs.declared.Found.{Found}
+use Rattle.store.specs.declared.Found.the-variants as found
+use Rattle.store.specs.declared.Key.{Key}
+use Rattle.store.specs.Element.{listOf, extended}
+use Rattle.store.specs.Key.{keyNumber, keyOf}
+use Rattle.store.specs.Table.{Finds, Sorted, wordAt, wordIn, lookup}
+use Rattle.store.specs.Packed.{unpacked}
+use Rattle.language.specs.Scope.{boundTo}
+use Rattle.evaluator.specs.declared.steps.scope.Scope.{Scope as Held}
+use Rattle.evaluator.specs.declared.steps.scope.Bound.{Bound}
+use Rattle.evaluator.specs.declared.steps.scope.Bound.the-variants as bound
+use Rattle.evaluator.specs.declared.steps.values.Answer.{Answer}
+use Rattle.evaluator.specs.declared.steps.values.Answer.the-variants as answer
+use Rattle.evaluator.specs.declared.steps.values.Limits.{Limits}
+use Rattle.evaluator.specs.declared.steps.values.Bounds.{Bounds}
+use Rattle.evaluator.specs.Steps.Scopes.{bindingsOf, boundOption}
+use Rattle.evaluator.specs.Steps.Values.{fittedAt, signedValue, wholeBy, wholeAnswer, boundBy, boundAnswer, wordAnswer, KnownIs}
+
+-- ---- values
+
+pub literal-is : (x : ℕ) → Fits w64 x → _≡_ {A = Value} (record { m = toZ w64 (x / 8); s = x % 8 }) (record { m = pos (x / 8); s = x % 8 })
+literal-is x h = rw (toZ-pos w64 {n = x / 8} (omega (arith, h .fits))) refl
+
+module _ (p a : ℕ) (f : Fit) where
+  pub fitted-value : (v : Value) → f ≡ fit.Fits v → answer.Value v a ≡ fittedAt p a f
+  unfolding fittedAt
+  fitted-value v e = rw e refl
+
+  pub fitted-not : f ≡ fit.TooBig → answer.Refused Unfit p ≡ fittedAt p a f
+  unfolding fittedAt
+  fitted-not e = rw e refl
+
+  pub fitted-same : (g : Fit) (r : Answer) → r ≡ fittedAt p a g → g ≡ f → r ≡ fittedAt p a f
+  fitted-same g r e h = e ∙ ap (fittedAt p a) h
+
+pub signed-minus : (b : Bool) (v w : Value) → b ≡ true → w ≡ cond (inRange v) (negate v) v → w ≡ signedValue b v
+unfolding signedValue
+signed-minus b v w e h = h ∙ rw e refl
+
+pub signed-plus : (b : Bool) (v : Value) → b ≡ false → v ≡ signedValue b v
+unfolding signedValue
+signed-plus b v e = rw e refl
+
+pub sum-same : (p a : ℕ) (b : Bool) (v w u : Value) (g : Fit) (r : Answer) → u ≡ signedValue b w → g ≡ ifInRange v u (sumOf v u) → r ≡ fittedAt p a g
+    → r ≡ fittedAt p a (ifInRange v (signedValue b w) (sumOf v (signedValue b w)))
+sum-same p a b v w u g r e f h = h ∙ ap (fittedAt p a) (f ∙ ap (λ u. ifInRange v u (sumOf v u)) e)
+
+-- ---- whole numbers
+
+module _ (p a : ℕ) (v : Value) (w : Whole) (h : w ≡ wholeOf v) where
+  pub whole-yes : (k : ℤ) → w ≡ Number k → answer.Value v a ≡ wholeAnswer p a v
+  unfolding wholeAnswer wholeBy
+  whole-yes k e = rw (← h, e) refl
+
+  pub whole-no : w ≡ noNumber → answer.Refused NotWhole p ≡ wholeAnswer p a v
+  unfolding wholeAnswer wholeBy
+  whole-no e = rw (← h, e) refl
+
+module _ (p a i : ℕ) (s : Held) (b : Bound) (h : boundOption b ≡ boundTo i (bindingsOf s)) where
+  pub bound-no : b ≡ bound.Nothing → answer.Refused BadIndex p ≡ boundAnswer p a s i
+  unfolding boundAnswer boundBy
+  bound-no e = rw (← h, e) refl
+
+  pub bound-yes : (k : ℤ) (v : Value) → b ≡ bound.To k → mag k < 2 ^ 63 → v ≡ ofWhole (toZ w64 (ofZ w64 k)) → answer.Value v a ≡ boundAnswer p a s i
+  unfolding boundAnswer boundBy
+  bound-yes k v e m g = rw (g, back m, ← h, e) refl
+
+pub grown-is : (e r : Element) (v : Value) → mag (v .m) < 2 ^ 63 → listOf r ≡ extended (listOf e) (toZ w64 (ofZ w64 (v .m))) → listOf r ≡ extended (listOf e) (v .m)
+grown-is e r v h g = g ∙ ap (extended (listOf e)) (back h)
+
+pub bounds-are : (i q : ℕ) (v w : Value) (l : Limits) → l ≡ record { lower = v .m; upper = w .m }
+    → _≡_ {A = Bounds} (record { number = i; place = q; limits = l }) (record { number = i; place = q; limits = record { lower = v .m; upper = w .m } })
+bounds-are i q v w l e = rw e refl
+
+-- ---- data
+
+module _ (ds : List ℕ) (rows i p a : ℕ) (ks : List ℤ) (k : Key) (f : Found) (h : keyNumber k ≡ keyOf i ks) (g : Finds ds rows (keyNumber k) f) where
+  row-is : Sorted ds rows → wordIn ds f ≡ lookup ds rows (keyOf i ks)
+  unfolding lookup
+  row-is s = rw (g .is-row s, h) refl
+
+  pub known-no : f ≡ found.Nothing → KnownIs ds rows i ks p a (answer.Refused Missing p)
+  unfolding wordAnswer wordIn
+  known-no e = record { is = λ s. rw (← row-is s, e) refl }
+
+  pub known-yes : (j w : ℕ) (v : Value) → f ≡ found.At j → w ≡ wordAt ds j → v ≡ unpacked w → KnownIs ds rows i ks p a (answer.Value v a)
+  unfolding wordAnswer wordIn
+  known-yes j w v e x y = record { is = λ s. rw (← row-is s, e, y, x) refl }

@@ -1,0 +1,166 @@
+-- Laws over plain variables for a bound: the variable's number, and the right side's value. Assumes nothing.
+use mathlib.Core.Path.{_≡_, refl, sym, _∙_, ap, subst}
+use mathlib.Core.Bool.{Bool, true, false, _&&_, cond}
+use mathlib.Core.List.{List}
+use Prim.Native.Nat.{ℕ}
+use native.Mathlib.Omega.{arith}
+use lib.Dec.{eqb}
+use Rattle.rules.specs.declared.Refusal.{Refusal}
+use Rattle.rules.specs.declared.Refusal.the-variants.{Misplaced}
+use Rattle.rules.specs.Limits.{nestingLimit}
+use Rattle.value.specs.declared.Value.{Value}
+use Rattle.lexer.specs.Marks.{sigmaWord}
+use Rattle.lexer.specs.Text.{Token, Kind}
+use Rattle.lexer.specs.Text
+use Rattle.language.proofs.Outcome.{refused-done}
+use Rattle.language.specs.Syntax.{Name, Formula, Formulas, Spans, Relation, Side, bare, form}
+use Rattle.language.specs.Reader.{asRead}
+use Rattle.language.specs.Linear.{aSigma, aVariable, aPrimary, headBy}
+use Rattle.language.specs.Evaluation.{eval}
+use Rattle.language.specs.Numbering.{variableAt, factOf}
+use Rattle.onepass.specs.WalkLinear.{walkNumber}
+use Rattle.onepass.proofs.Steps.{same-what, same-rest}
+use Rattle.onepass.proofs.Walked.{walked}
+use Rattle.onepass.proofs.WalkedLinear.{Bare, bare-walk}
+use Rattle.tokens.specs.declared.Seen.{Seen}
+use Rattle.tokens.specs.declared.Seen.the-variants as seen
+use Rattle.tokens.specs.Stored.{token, kindOf, Sees, Looks}
+use Rattle.tokens.proofs.Moved.{next-is}
+use Rattle.tokens.proofs.Tables.{false-true}
+use Rattle.evaluator.specs.declared.steps.scope.Scope.{Scope}
+use Rattle.evaluator.specs.declared.steps.names.Listed.{Listed}
+use Rattle.evaluator.specs.declared.steps.names.Listed.the-variants as listed
+use Rattle.evaluator.specs.declared.steps.values.Answer.{Answer}
+use Rattle.evaluator.specs.declared.steps.values.Answer.the-variants as answer
+use Rattle.evaluator.specs.Steps.Scopes.{Small}
+use Rattle.evaluator.specs.Cycle.{formulaIn, valueOutcome, ValidAnswer, onlyOutcome, seenBy, under, tokensAt, Values}
+use Rattle.evaluator.proofs.Names.{only-as}
+use Rattle.gatherer.specs.declared.Numbered.{Numbered}
+use Rattle.gatherer.specs.declared.Numbered.the-variants as numbered
+use Rattle.gatherer.specs.Cycle.{Model, numberOutcome, NumberIs, Heads, Begins}
+use Rattle.matrix.specs.declared.sides.Bounded.{Bounded}
+use Rattle.matrix.specs.declared.sides.Bounded.the-variants as bounded
+use Rattle.matrix.specs.Sides.Answers.{isBare, LeftAt, RightAt, NumberOf, boundOutcome, Sound, BoundIs}
+use Rattle.matrix.proofs.sides.Bare.{bare-side}
+
+module _ (ns ts ds : List ℕ) (given : ℕ) (xs : List ℕ) (total level : ℕ) (sc : Scope) where
+  -- ---- the variable's number
+
+  -- a variable, with sigmas and without
+  no-mark : (names : List Name) (k : Kind) (i : ℕ) (d : Spans) → headBy names true k ≡ aVariable i d → headBy names false k ≡ aVariable i d
+  unfolding headBy
+  no-mark names (Text.mark c) i d e = absurd (go (eqb c sigmaWord) e)
+    where
+      go : (b : Bool) → cond (true && b) aSigma aPrimary ≡ aVariable i d → ⊥
+      go true e = let z : _≡_ {A = ℕ} 0 1 = cc in omega arith
+      go false e = let z : _≡_ {A = ℕ} 0 1 = cc in omega arith
+  no-mark names (Text.name l) i d e = e
+  no-mark names (Text.literal w v) i d e = e
+  no-mark names (Text.string l) i d e = e
+  no-mark names Text.end i d e = e
+  no-mark names (Text.wrong r) i d e = e
+
+  -- the side's token and what stands behind it
+  side-at : (w : Model ns ts ds given xs total) (at i : ℕ) (d : Spans) (fs : Formulas) (p : ℕ) (a : LeftAt w level at (bare i d fs p))
+      → Bare (w .variables) (seenBy (w .world) level) nestingLimit i d fs p (tokensAt (w .world) at) (a .stands .rest)
+  side-at w at i d fs p a =
+      let (plain, one) = bare-side (a .linear .signed) (a .linear .form) i d fs p (a .side) in
+      bare-walk (w .variables) (seenBy (w .world) level) i d fs p nestingLimit (tokensAt (w .world) at) (a .linear) (a .stands .rest) (a .stands .reads) plain one
+
+  module _ (at : ℕ) (t : Seen) (h : Looks ts at t) where
+    pub of-wrong : (m : Refusal) (p : ℕ) → t ≡ seen.Refused m p → NumberOf ns ts ds given xs total level sc at (numbered.Refused m p)
+    of-wrong m p e =
+        record {
+          is = λ w g i d fs q a. absurd (refused-done (sym (subst (Sees (w .world .text) ts at) e (h .sees (w .world .text)) .nexts) ∙ side-at w at i d fs q a .stands));
+          below = λ w j a z. absurd (let z : _≡_ {A = ℕ} 0 1 = cc in omega arith);
+        }
+
+    module _ (k p x a : ℕ) (e : t ≡ seen.Token k p x a) (l : Listed) (b : Begins ns ts level at k l) where
+      -- the token is the side's
+      record Stood (w : Model ns ts ds given xs total) (i : ℕ) (d : Spans) (fs : Formulas) (q : ℕ) (y : Listed) : Type 0 where
+        pub rest : List Token
+        pub place : p ≡ q
+        pub walks : walkNumber (w .variables) (seenBy (w .world) level) nestingLimit i d q (under (w .world) sc) (tokensAt (w .world) a) ≡ asRead (variableAt (w .variables) i d fs q (under (w .world) sc)) rest
+        pub heads : Heads (w .world) (aVariable i d) y
+
+      stood : (w : Model ns ts ds given xs total) (i : ℕ) (d : Spans) (fs : Formulas) (q : ℕ) → LeftAt w level at (bare i d fs q) → (y : Listed) → l ≡ y → Stood w i d fs q y
+      unfolding token
+      stood w i d fs q z y f =
+          let u = side-at w at i d fs q z in
+          let s = w .world .text in
+          let same = sym (next-is s ts at k p x a (subst (Sees s ts at) e (h .sees s))) ∙ u .stands in
+          record {
+            rest = z .stands .rest;
+            place = ap (λ (t : Token). t .place) (same-what same) ∙ u .at;
+            walks = ap (walkNumber (w .variables) (seenBy (w .world) level) nestingLimit i d q (under (w .world) sc)) (same-rest same) ∙ u .walks (under (w .world) sc);
+            heads = subst (λ o. Heads (w .world) o y) (no-mark (seenBy (w .world) level) (kindOf s k p x) i d (ap (λ (t : Token). headBy (seenBy (w .world) level) true (t .kind)) (same-what same) ∙ u .begins))
+                (subst (Begins ns ts level at k) f b .heads p x a (subst (Looks ts at) e h) false refl ds given (w .world));
+          }
+
+      pub of-nothing : l ≡ listed.Nothing → NumberOf ns ts ds given xs total level sc at (numbered.Refused Misplaced p)
+      of-nothing f =
+          record {
+            is = λ w g i d fs q z. absurd (let y = stood w i d fs q z _ f .heads in let z : _≡_ {A = ℕ} 0 1 = cc in omega arith);
+            below = λ w j a z. absurd (let z : _≡_ {A = ℕ} 0 1 = cc in omega arith);
+          }
+
+      pub of-number : (ι j c q : ℕ) → l ≡ listed.Name ι j c q → (y : Numbered) → NumberIs 12 ι c q p ns ts ds given xs total level sc a y → NumberOf ns ts ds given xs total level sc at y
+      unfolding nestingLimit
+      of-number ι j c q f y o =
+          record {
+            is = λ w g i d fs r z.
+                let u = stood w i d fs r z _ f in
+                let (v, known) = u .heads in
+                let (same, declared) = known in
+                let vi : i ≡ ι = cc in
+                let vd : d ≡ v = cc in
+                let n = sym (u .walks) ∙ ap (λ i. walkNumber (w .variables) (seenBy (w .world) level) 12 i d r (under (w .world) sc) (tokensAt (w .world) a)) vi
+                ∙ ap (λ d. walkNumber (w .variables) (seenBy (w .world) level) 12 ι d r (under (w .world) sc) (tokensAt (w .world) a)) vd
+                ∙ ap (λ r. walkNumber (w .variables) (seenBy (w .world) level) 12 ι v r (under (w .world) sc) (tokensAt (w .world) a)) (sym (u .place))
+                ∙ o .is w g v declared in
+                sym (only-as (variableAt (w .variables) i d fs r (under (w .world) sc)) (u .rest)) ∙ ap onlyOutcome n;
+            below = o .below;
+          }
+
+  -- ---- the right side
+
+  module _ (at : ℕ) (v : Answer) (f : Values (formulaIn nestingLimit) ns ts ds given level sc at v) where
+    pub value-at : (y : Answer) → v ≡ y → (w : Model ns ts ds given xs total) → Small sc → (g : Formula) → RightAt w level at g → eval g (under (w .world) sc) ≡ onlyOutcome (valueOutcome (w .world .text) ts y)
+    unfolding formulaIn
+    value-at y e w s g a =
+        sym (only-as (eval g (under (w .world) sc)) (a .rest))
+        ∙ ap onlyOutcome (sym (walked (seenBy (w .world) level) nestingLimit (tokensAt (w .world) at) g (a .rest) (a .reads) (under (w .world) sc)) ∙ f .is (w .world) s)
+        ∙ ap (λ y. onlyOutcome (valueOutcome (w .world .text) ts y)) e
+
+    pub valid-at : (y : Answer) → v ≡ y → Model ns ts ds given xs total → Small sc → ValidAnswer y
+    valid-at y e w s = subst ValidAnswer e (f .valid (w .world) s)
+
+  -- ---- a bound
+
+  module _ (left right : ℕ) (y : Numbered) (h : NumberOf ns ts ds given xs total level sc left y) where
+    -- by the variable's number
+    by-number : (z : Numbered) → y ≡ z → (r : Bounded)
+        → ((w : Model ns ts ds given xs total) → Small sc → (i : ℕ) (d : Spans) (fs : Formulas) (p : ℕ)
+        → variableAt (w .variables) i d fs p (under (w .world) sc) ≡ onlyOutcome (numberOutcome (w .world .text) ts z) → (g : Formula) → RightAt w level right g → (e : Relation)
+        → factOf (w .variables) (bare i d fs p) e g (under (w .world) sc) ≡ boundOutcome r)
+        → (Model ns ts ds given xs total → Small sc → Sound total r) → BoundIs ns ts ds given xs total level sc left right r
+    by-number z e r f sound = record { is = go; sound = sound }
+      where
+        go : (w : Model ns ts ds given xs total) → Small sc → (l : Side) → isBare l ≡ true → LeftAt w level left l → (g : Formula) → RightAt w level right g → (o : Relation)
+            → factOf (w .variables) l o g (under (w .world) sc) ≡ boundOutcome r
+        go w s (form x) b a g u o = absurd (false-true b)
+        go w s (bare i d fs p) b a g u o = f w s i d fs p (h .is w s i d fs p a ∙ ap (λ z. onlyOutcome (numberOutcome (w .world .text) ts z)) e) g u o
+
+    pub bound-number : (m : Refusal) (p : ℕ) → y ≡ numbered.Refused m p → BoundIs ns ts ds given xs total level sc left right (bounded.Refused m p)
+    unfolding factOf
+    bound-number m p e = by-number _ e (bounded.Refused m p) (λ w s i d fs q n g u o. rw n refl) (λ w s. tt)
+
+    module _ (j a : ℕ) (e : y ≡ numbered.Number j a) (v : Answer) (f : Values (formulaIn nestingLimit) ns ts ds given level sc right v) where
+      pub bound-side : (m : Refusal) (p : ℕ) → v ≡ answer.Refused m p → BoundIs ns ts ds given xs total level sc left right (bounded.Refused m p)
+      unfolding factOf
+      bound-side m p i = by-number _ e (bounded.Refused m p) (λ w s i′ d fs q n g u o. rw (n, value-at right v f _ i w s g u) refl) (λ w s. tt)
+
+      pub bound-value : (x : Value) (b : ℕ) → v ≡ answer.Value x b → BoundIs ns ts ds given xs total level sc left right (bounded.At j x)
+      unfolding factOf
+      bound-value x b i =
+          by-number _ e (bounded.At j x) (λ w s i′ d fs q n g u o. rw (n, value-at right v f _ i w s g u) refl) (λ w s. (h .below w j a e, valid-at right v f _ i w s))

@@ -1,0 +1,145 @@
+-- Laws over plain variables for rows: gathered from zeros, both sides under the relation's sign. Assumes nothing.
+use mathlib.Core.Path.{_≡_, refl, sym, _∙_, ap, subst}
+use mathlib.Core.Bool.{Bool, true, false}
+use mathlib.Core.List.{List, map}
+use Prim.Native.Nat.{ℕ}
+use native.Mathlib.Omega.{arith}
+use lib.ListN.{length, replicate, length-map, length-replicate}
+use lib.IntN.{ℤ, pos}
+use Rattle.rules.specs.declared.Refusal.{Refusal}
+use Rattle.rules.specs.Limits.{nestingLimit, mantissaLimit, scaleLimit}
+use Rattle.value.specs.declared.Value.{Value}
+use Rattle.value.specs.Decimal.{Valid, zeroValue, oneValue}
+use Rattle.language.specs.Outcome.{Outcome, done}
+use Rattle.language.specs.Syntax.{Form, Formula, Relation, Side, bare, form}
+use Rattle.language.specs.Reader.{asRead}
+use Rattle.language.specs.Linear.{Linear}
+use Rattle.language.specs.Numbering.{Variable, Row, signed, gathered, row, flips, factOf}
+use Rattle.onepass.specs.Walk.{negatedValue}
+use Rattle.onepass.proofs.WalkedLinear.{gathered-walk}
+use Rattle.tokens.specs.declared.Move.{Move}
+use Rattle.tokens.specs.declared.Move.the-variants as move
+use Rattle.tokens.proofs.Tables.{false-true}
+use Rattle.evaluator.specs.declared.steps.scope.Scope.{Scope}
+use Rattle.evaluator.specs.declared.steps.values.Answer.{Answer}
+use Rattle.evaluator.specs.declared.steps.values.Answer.the-variants as answer
+use Rattle.evaluator.specs.Steps.Scopes.{Small}
+use Rattle.evaluator.specs.Steps.Values.{signedValue}
+use Rattle.evaluator.specs.declared.Passed.{Passed}
+use Rattle.evaluator.specs.declared.Passed.the-variants as passed
+use Rattle.evaluator.specs.Cycle.{formulaIn, onlyOutcome, seenBy, under, tokensAt, Values}
+use Rattle.evaluator.proofs.Names.{only-as}
+use Rattle.evaluator.proofs.Laws.{signed-is, signed-valid}
+use Rattle.rows.specs.Counts.{RowOf, opposed}
+use Rattle.rows.proofs.Counting.{zeros-of, of-negated, of-kept}
+use Rattle.gatherer.specs.Cycle.{gatherIn, Model, Does, Gathers}
+use Rattle.matrix.specs.declared.sides.Right.{Right}
+use Rattle.matrix.specs.declared.sides.Right.the-variants as right
+use Rattle.matrix.specs.Sides.Answers.{isBare, LeftAt, RightAt, FormAt, asIs, Holds, GathersTo, Turns, Rowed, RightIs}
+use Rattle.matrix.proofs.sides.Bare.{form-side}
+use Rattle.matrix.proofs.sides.Bounds.{value-at, valid-at}
+
+-- ---- a sign before each coefficient
+
+pub turn-negated : (b : Bool) (m m′ : List ℤ) → b ≡ true → m′ ≡ map opposed m → Turns b m m′
+turn-negated false m m′ e f = absurd (false-true e)
+turn-negated true m m′ e f = rw f (record { size = length-map m opposed; of = λ vs r h. of-negated vs m r h })
+
+pub turn-kept : (b : Bool) (m : List ℤ) → b ≡ false → Turns b m m
+turn-kept false m e = record { size = refl; of = λ vs r h. of-kept vs m r h }
+turn-kept true m e = absurd (false-true (sym e))
+
+-- ---- a row from zeros
+
+one-valid : Valid oneValue
+unfolding mantissaLimit scaleLimit
+one-valid = record { small = omega arith; places = omega arith; least = λ h. absurd (omega arith) }
+
+module _ (ns ts ds : List ℕ) (given : ℕ) (xs : List ℕ) (total level : ℕ) (sc : Scope) where
+  module _ (at : ℕ) (m m₀ : List ℤ) (e : m₀ ≡ replicate (length m) (pos 0)) (z : Move) (m′ : List ℤ) (h : Gathers (gatherIn nestingLimit) ns ts ds given xs total level sc at oneValue false m₀ z m′) (s : length m′ ≡ length m₀) where
+    same-size : length m′ ≡ length m
+    same-size = s ∙ ap (λ (l : List ℤ). length l) e ∙ length-replicate (length m) (pos 0)
+
+    zeros : (w : Model ns ts ds given xs total) → length m ≡ total → RowOf (w .variables) m₀ (replicate (length (w .variables)) zeroValue)
+    zeros w f = subst (λ l. RowOf (w .variables) l (replicate (length (w .variables)) zeroValue)) (sym (e ∙ ap (λ n. replicate n (pos 0)) (f ∙ w .held .count))) (zeros-of (w .variables))
+
+    does : (y : Move) → z ≡ y → (w : Model ns ts ds given xs total) → Small sc → length m ≡ total → (x : Linear) (a : FormAt w level at x)
+        → Does (w .world .text) ts (w .variables) (asRead (gathered (w .variables) (x .form) (under (w .world) sc)) (a .rest)) y m′
+    unfolding gatherIn gathered
+    does y o w g f x a =
+        subst (λ y. Does (w .world .text) ts (w .variables) (asRead (gathered (w .variables) (x .form) (under (w .world) sc)) (a .rest)) y m′) o
+        (subst (λ q. Does (w .world .text) ts (w .variables) q z m′)
+        (gathered-walk (w .variables) (seenBy (w .world) level) nestingLimit (tokensAt (w .world) at) x (a .rest) (a .reads) (under (w .world) sc) oneValue false (replicate (length (w .variables)) zeroValue))
+        (h .does w g one-valid (replicate (length (w .variables)) zeroValue) (zeros w f)))
+
+    pub gather-done : (a : ℕ) → z ≡ move.At a → GathersTo asIs ns ts ds given xs total level sc at m passed.Inside m′
+    gather-done a o =
+        record {
+          size = same-size;
+          is = λ w g f x b.
+              let d = does _ o w g f x b in
+              record {
+                coefficients = d .gathered;
+                is = sym (only-as (gathered (w .variables) (x .form) (under (w .world) sc)) (b .rest)) ∙ ap onlyOutcome (d .is);
+                counts = d .row;
+              };
+        }
+
+    pub gather-refused : (r : Refusal) (p : ℕ) → z ≡ move.Refused r p → GathersTo asIs ns ts ds given xs total level sc at m (passed.Refused r p) m′
+    gather-refused r p o =
+        record { size = same-size; is = λ w g f x b. sym (only-as (gathered (w .variables) (x .form) (under (w .world) sc)) (b .rest)) ∙ ap onlyOutcome (does _ o w g f x b) }
+
+  -- ---- an objective
+
+  pub objective-row : (at : ℕ) (b : Bool) (m m₁ m₂ : List ℤ) (y : Passed) → GathersTo asIs ns ts ds given xs total level sc at m y m₁ → Turns b m₁ m₂
+      → GathersTo (map (signed b)) ns ts ds given xs total level sc at m y m₂
+  objective-row at b m m₁ m₂ y h t = record { size = t .size ∙ h .size; is = λ w g f x a. go (w .variables) (gathered (w .variables) (x .form) (under (w .world) sc)) y (h .is w g f x a) }
+    where
+      go : (vs : List Variable) (o : Outcome Row) (y : Passed) → Holds vs asIs o y m₁ → Holds vs (map (signed b)) o y m₂
+      go vs o passed.Inside e = record { coefficients = e .coefficients; is = e .is; counts = t .of vs (e .coefficients) (e .counts) }
+      go vs o (passed.Refused r p) e = e
+
+  -- ---- a constraint's row
+
+  module _ (left at : ℕ) (b : Bool) (m m₁ : List ℤ) (y : Passed) (h : GathersTo asIs ns ts ds given xs total level sc left m y m₁) where
+    -- by the form's row
+    by-form : (z : Passed) → y ≡ z → (q : Right) (m₂ : List ℤ) → length m₂ ≡ length m₁
+        → ((w : Model ns ts ds given xs total) → Small sc → (f : Form) → Holds (w .variables) asIs (gathered (w .variables) f (under (w .world) sc)) z m₁ → (g : Formula) → RightAt w level at g
+        → (e : Relation) → flips e ≡ b → Rowed (w .variables) (factOf (w .variables) (form f) e g (under (w .world) sc)) q m₂)
+        → RightIs b ns ts ds given xs total level sc left at m q m₂
+    by-form z e q m₂ s k = record { size = s ∙ h .size; is = go }
+      where
+        go : (w : Model ns ts ds given xs total) → Small sc → length m ≡ total → (l : Side) → isBare l ≡ false → LeftAt w level left l → (g : Formula) → RightAt w level at g
+            → (o : Relation) → flips o ≡ b → Rowed (w .variables) (factOf (w .variables) l o g (under (w .world) sc)) q m₂
+        go w s f (bare i d fs p) n a g u o t = absurd (false-true (sym n))
+        go w s f (form x) n a g u o t =
+            k w s x
+            (subst (λ x. Holds (w .variables) asIs (gathered (w .variables) x (under (w .world) sc)) z m₁) (form-side (a .linear .signed) (a .linear .form) x (a .side))
+            (subst (λ z. Holds (w .variables) asIs (gathered (w .variables) (a .linear .form) (under (w .world) sc)) z m₁) e (h .is w s f (a .linear) (a .stands))))
+            g u o t
+
+    pub row-form : (r : Refusal) (p : ℕ) → y ≡ passed.Refused r p → RightIs b ns ts ds given xs total level sc left at m (right.Refused r p) m₁
+    unfolding factOf
+    row-form r p e = by-form _ e (right.Refused r p) m₁ refl (λ w s f c g u o t. rw c refl)
+
+    module _ (e : y ≡ passed.Inside) (m₂ : List ℤ) (t : Turns b m₁ m₂) (v : Answer) (f : Values (formulaIn nestingLimit) ns ts ds given level sc at v) where
+      pub row-side : (r : Refusal) (p : ℕ) → v ≡ answer.Refused r p → RightIs b ns ts ds given xs total level sc left at m (right.Refused r p) m₂
+      unfolding factOf
+      row-side r p i =
+          by-form _ e (right.Refused r p) m₂ (t .size) (λ w s x c g u o n. rw (c .is, value-at ns ts ds given xs total level sc at v f _ i w s g u) refl)
+
+      pub row-value : (x : Value) (a : ℕ) → v ≡ answer.Value x a → (q : Value) → q ≡ signedValue b x → RightIs b ns ts ds given xs total level sc left at m (right.At q) m₂
+      unfolding factOf
+      row-value x a i q j =
+          by-form _ e (right.At q) m₂ (t .size) λ w s z c g u o n.
+          let valid = valid-at ns ts ds given xs total level sc at v f _ i w s in
+          record {
+            coefficients = map (signed b) (c .coefficients);
+            is = rw (c .is, value-at ns ts ds given xs total level sc at v f _ i w s g u, n, j, signed-is b x valid) (ap (λ v. done (row (map (signed b) (c .coefficients)) v)) (same b x));
+            counts = t .of (w .variables) (c .coefficients) (c .counts);
+            valid = subst Valid (sym j) (signed-valid b x valid);
+          }
+        where
+          same : (b : Bool) (x : Value) → signed b x ≡ negatedValue b x
+          same true x = refl
+          same false x = refl

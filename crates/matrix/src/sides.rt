@@ -1,0 +1,225 @@
+// One element of a constraint, and the objective: a bound, or a row of counts in a part that is lent. `table` holds the data,
+// `variables` and `total`: the table of variables and its rows.
+use evaluator::Context;
+use evaluator::Passed;
+use evaluator::steps::names::Listed;
+use evaluator::steps::values;
+use evaluator::steps::values::Answer;
+use gatherer::Numbered;
+use lexer::marks;
+use tokens::Found;
+use tokens::Move;
+use tokens::Seen;
+use value::Value;
+ghost use mathlib.Core.List.{map};
+ghost use Rattle.language.specs.Numbering.{signed};
+ghost use Rattle.matrix.specs.Sides.Answers.{IsAlone, IsBare, NumberOf, BoundIs, GathersTo, asIs, Turns, RightIs};
+
+// A variable's number from 0 and the right side.
+pub enum Bounded {
+    At(usize, Value),
+    Refused(rules::Refusal, u64),
+}
+
+// The right side of a row.
+pub enum Right {
+    At(Value),
+    Refused(rules::Refusal, u64),
+}
+
+// Whether neither `+` nor `-` stands at a position.
+fn is_alone(tokens: &[u64], at: usize) -> bool
+    ensures { λ r. ⌜ IsAlone (now (tokens .entry)) at r ⌝ }
+{
+    let token = tokens::token_at(tokens, at);
+    match token {
+        Seen::Token(k, p, x, next) => {
+            if (k == marks::PLUS as u64) | (k == marks::MINUS as u64) {
+                return false;
+            }
+            true
+        }
+        Seen::Refused(n, p) => false,
+    }
+}
+
+// Whether the left side at a position is one variable, without sign or factor.
+pub fn is_bare(text: &[u8], names: &[u64], tokens: &[u64], at: usize) -> bool
+    ensures { λ r. ⌜ IsBare (now (text .entry)) (now (names .entry)) (now (tokens .entry)) at r ⌝ }
+{
+    let token = tokens::token_at(tokens, at);
+    match token {
+        Seen::Token(k, p, x, next) => {
+            let name = linear::variable(text, names, k, p, x);
+            match name {
+                Found::Name(i, sort, count) => {
+                    let end = formulas::subscripts(
+                        text,
+                        names,
+                        tokens,
+                        next,
+                        rules::NESTING_LIMIT,
+                        count,
+                    );
+                    match end {
+                        Move::At(a) => is_alone(tokens, a),
+                        Move::Refused(n, q) => false,
+                    }
+                }
+                Found::Nothing => false,
+            }
+        }
+        Seen::Refused(n, p) => false,
+    }
+}
+
+// The number of the variable that is the left side at a position.
+fn number_of(
+    names: &[u64],
+    tokens: &[u64],
+    table: &[u64],
+    variables: &[u64],
+    total: usize,
+    cx: Context,
+    at: usize,
+) -> Numbered
+    ensures { λ r. ⌜ NumberOf (now (names .entry)) (now (tokens .entry)) (now (table .entry)) (cx .given) (now (variables .entry)) total (cx .level) (cx .scope) at r ⌝ }
+{
+    let token = tokens::token_at(tokens, at);
+    match token {
+        Seen::Token(k, p, x, next) => {
+            let name = gatherer::variable_at(names, tokens, cx.level, at, k);
+            match name {
+                Listed::Name(i, sort, count, start) => {
+                    let scope = cx.scope;
+                    let all = Context {
+                        given: cx.given,
+                        level: cx.level,
+                        nest: rules::NESTING_LIMIT,
+                        scope,
+                    };
+                    gatherer::number(
+                        names,
+                        tokens,
+                        table,
+                        variables,
+                        total,
+                        all,
+                        next,
+                        i,
+                        count,
+                        start,
+                        p,
+                    )
+                }
+                Listed::Nothing => Numbered::Refused(rules::Refusal::Misplaced, p),
+            }
+        }
+        Seen::Refused(n, p) => Numbered::Refused(n, p),
+    }
+}
+
+// The bound that a constraint states at an element: the left side, one variable, stands at `left`, the right side at `right`.
+pub fn bound_at(
+    names: &[u64],
+    tokens: &[u64],
+    table: &[u64],
+    variables: &[u64],
+    total: usize,
+    cx: Context,
+    left: usize,
+    right: usize,
+) -> Bounded
+    ensures { λ r. ⌜ BoundIs (now (names .entry)) (now (tokens .entry)) (now (table .entry)) (cx .given) (now (variables .entry)) total (cx .level) (cx .scope) left right r ⌝ }
+{
+    let which = number_of(names, tokens, table, variables, total, cx, left);
+    match which {
+        Numbered::Number(j, a) => {
+            let side = evaluator::value(names, tokens, table, cx, right);
+            match side {
+                Answer::Value(v, b) => Bounded::At(j, v),
+                Answer::Refused(n, p) => Bounded::Refused(n, p),
+            }
+        }
+        Numbered::Refused(n, p) => Bounded::Refused(n, p),
+    }
+}
+
+// The coefficients of the linear form at a position, gathered from zeros.
+fn gather(
+    names: &[u64],
+    tokens: &[u64],
+    table: &[u64],
+    variables: &[u64],
+    total: usize,
+    cx: Context,
+    at: usize,
+    counts: &mut [i64],
+) -> Passed
+    ensures { λ r. ⌜ GathersTo asIs (now (names .entry)) (now (tokens .entry)) (now (table .entry)) (cx .given) (now (variables .entry)) total (cx .level) (cx .scope) at (now (counts .entry)) r (now (counts .exit)) ⌝ }
+{
+    rows::clear(counts);
+    let form = gatherer::gathered(names, tokens, table, variables, total, cx, at, counts);
+    match form {
+        Move::At(a) => Passed::Inside,
+        Move::Refused(n, p) => Passed::Refused(n, p),
+    }
+}
+
+// Every count under a sign.
+fn turn(negative: bool, counts: &mut [i64])
+    ensures { λ _. ⌜ Turns negative (now (counts .entry)) (now (counts .exit)) ⌝ }
+{
+    if negative {
+        rows::negate(counts);
+    }
+}
+
+// The row that a constraint gives at an element, both sides negated where `flips`: its counts, and its right side. The left side
+// stands at `left`, the right side at `right`.
+pub fn row_at(
+    names: &[u64],
+    tokens: &[u64],
+    table: &[u64],
+    variables: &[u64],
+    total: usize,
+    cx: Context,
+    left: usize,
+    right: usize,
+    flips: bool,
+    counts: &mut [i64],
+) -> Right
+    ensures { λ r. ⌜ RightIs flips (now (names .entry)) (now (tokens .entry)) (now (table .entry)) (cx .given) (now (variables .entry)) total (cx .level) (cx .scope) left right (now (counts .entry)) r (now (counts .exit)) ⌝ }
+{
+    let form = gather(names, tokens, table, variables, total, cx, left, counts);
+    match form {
+        Passed::Inside => {
+            turn(flips, counts);
+            let side = evaluator::value(names, tokens, table, cx, right);
+            match side {
+                Answer::Value(v, a) => Right::At(values::signed(flips, v)),
+                Answer::Refused(n, p) => Right::Refused(n, p),
+            }
+        }
+        Passed::Refused(n, p) => Right::Refused(n, p),
+    }
+}
+
+// The coefficients of the objective, whose form stands at a position, negated for a minimum.
+pub fn objective_at(
+    names: &[u64],
+    tokens: &[u64],
+    table: &[u64],
+    variables: &[u64],
+    total: usize,
+    cx: Context,
+    at: usize,
+    minimize: bool,
+    counts: &mut [i64],
+) -> Passed
+    ensures { λ r. ⌜ GathersTo (map (signed minimize)) (now (names .entry)) (now (tokens .entry)) (now (table .entry)) (cx .given) (now (variables .entry)) total (cx .level) (cx .scope) at (now (counts .entry)) r (now (counts .exit)) ⌝ }
+{
+    let form = gather(names, tokens, table, variables, total, cx, at, counts);
+    turn(minimize, counts);
+    form
+}
