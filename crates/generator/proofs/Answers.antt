@@ -54,19 +54,12 @@ defined-accepts text out a out′ d =
     let both = grammar-holds .accepts text (length out) in
     record { accepts = (λ z. both .0 (sym (d .number) ∙ z), λ h. d .number ∙ both .1 h) }
 
-defined-means : (text out : List ℕ) (a : Answer) (out′ : List ℕ) → Defined text out a out′ → Meaning text out a out′
+pub defined-means : (text out : List ℕ) (a : Answer) (out′ : List ℕ) → Defined text out a out′ → Meaning text out a out′
 defined-means text out a out′ d = record {
   meant = λ z.
       let k = kept text (length out) (sym (d .number) ∙ z) in
       record { demand = k; bytes = d .bytes ∙ k .prints ∙ rw (sym (d .size)) };
 }
-
--- the three clauses of the contract
-abbrev pub Promised : (text out : List ℕ) → Answer → List ℕ → Type 0
-Promised text out a out′ = Defined text out a out′ × Accepts text out a × Meaning text out a out′
-
-promised : (text out : List ℕ) (a : Answer) (out′ : List ℕ) → Defined text out a out′ → Promised text out a out′
-promised text out a out′ d = (d, defined-accepts text out a out′ d, defined-means text out a out′ d)
 
 -- ---- the answer of the code
 
@@ -75,7 +68,7 @@ module _ (text out₀ out₁ : List ℕ) (g : Generated) (out₂ : List ℕ) (cl
   size-kept = same ∙ ap length cleared ∙ length-replicate {A = ℕ} (length out₀) 0
 
   -- a refusal before the listing
-  defined-refused : (r : Refusal) (p : ℕ) → g ≡ generated.Refused r p → (a : Answer) → a ≡ record { number = refusalNumber r; place = p; length = 0 }
+  pub defined-refused : (r : Refusal) (p : ℕ) → g ≡ generated.Refused r p → (a : Answer) → a ≡ record { number = refusalNumber r; place = p; length = 0 }
       → (out₃ : List ℕ) → out₃ ≡ replicate (length out₂) 0 → Defined text out₀ a out₃
   unfolding respond
   defined-refused r p e a ea out₃ eo = go (accepted text) refl (subst (λ g. Lists (accepted text) out₁ g out₂) e (is .lists))
@@ -92,7 +85,7 @@ module _ (text out₀ out₁ : List ℕ) (g : Generated) (out₂ : List ℕ) (cl
           }
 
   -- a listing that fits
-  defined-listed : (n : ℕ) → g ≡ generated.Listed n → n ≤ length out₂ → Defined text out₀ (record { number = 0; place = 0; length = n }) out₂
+  pub defined-listed : (n : ℕ) → g ≡ generated.Listed n → n ≤ length out₂ → Defined text out₀ (record { number = 0; place = 0; length = n }) out₂
   unfolding respond
   defined-listed n e f = go (accepted text) refl (subst (λ g. Lists (accepted text) out₁ g out₂) e (is .lists))
     where
@@ -110,7 +103,7 @@ module _ (text out₀ out₁ : List ℕ) (g : Generated) (out₂ : List ℕ) (cl
       go (refused r′ q) i l = absurd l
 
   -- a listing that is too long
-  defined-long : (n : ℕ) → g ≡ generated.Listed n → length out₂ < n → (a : Answer) → a ≡ record { number = refusalNumber LongListing; place = n; length = 0 }
+  pub defined-long : (n : ℕ) → g ≡ generated.Listed n → length out₂ < n → (a : Answer) → a ≡ record { number = refusalNumber LongListing; place = n; length = 0 }
       → (out₃ : List ℕ) → out₃ ≡ replicate (length out₂) 0 → Defined text out₀ a out₃
   unfolding respond
   defined-long n e f a ea out₃ eo = go (accepted text) refl (subst (λ g. Lists (accepted text) out₁ g out₂) e (is .lists))
@@ -127,15 +120,13 @@ module _ (text out₀ out₁ : List ℕ) (g : Generated) (out₂ : List ℕ) (cl
           }
       go (refused r′ q) i l = absurd l
 
-  -- ---- with all that is promised
+  -- ---- which texts are accepted
 
-  pub refused-promised : (r : Refusal) (p : ℕ) → g ≡ generated.Refused r p → (a : Answer) → a ≡ record { number = refusalNumber r; place = p; length = 0 }
-      → (out₃ : List ℕ) → out₃ ≡ replicate (length out₂) 0 → Promised text out₀ a out₃
-  refused-promised r p e a ea out₃ eo = promised text out₀ a out₃ (defined-refused r p e a ea out₃ eo)
+  pub accepts-refused : (r : Refusal) (p : ℕ) → g ≡ generated.Refused r p → (a : Answer) → a ≡ record { number = refusalNumber r; place = p; length = 0 } → Accepts text out₀ a
+  accepts-refused r p e a ea = defined-accepts text out₀ a _ (defined-refused r p e a ea (replicate (length out₂) 0) refl)
 
-  pub listed-promised : (n : ℕ) → g ≡ generated.Listed n → n ≤ length out₂ → Promised text out₀ (record { number = 0; place = 0; length = n }) out₂
-  listed-promised n e f = promised text out₀ (record { number = 0; place = 0; length = n }) out₂ (defined-listed n e f)
+  pub accepts-listed : (n : ℕ) → g ≡ generated.Listed n → n ≤ length out₂ → Accepts text out₀ (record { number = 0; place = 0; length = n })
+  accepts-listed n e f = defined-accepts text out₀ (record { number = 0; place = 0; length = n }) out₂ (defined-listed n e f)
 
-  pub long-promised : (n : ℕ) → g ≡ generated.Listed n → length out₂ < n → (a : Answer) → a ≡ record { number = refusalNumber LongListing; place = n; length = 0 }
-      → (out₃ : List ℕ) → out₃ ≡ replicate (length out₂) 0 → Promised text out₀ a out₃
-  long-promised n e f a ea out₃ eo = promised text out₀ a out₃ (defined-long n e f a ea out₃ eo)
+  pub accepts-long : (n : ℕ) → g ≡ generated.Listed n → length out₂ < n → (a : Answer) → a ≡ record { number = refusalNumber LongListing; place = n; length = 0 } → Accepts text out₀ a
+  accepts-long n e f a ea = defined-accepts text out₀ a _ (defined-long n e f a ea (replicate (length out₂) 0) refl)
