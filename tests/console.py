@@ -39,10 +39,14 @@ def has_terminal():
     return True
 
 
-def shown(words, own_output=False, **rest):
+def shown(words, own_output=False, typed=None, **rest):
     """Runs a command on a terminal. Gives its status, what the terminal shows, and standard output where that is apart."""
     near, far = pty.openpty()
-    tty.setraw(far)  # no line end is changed on its way
+    if typed is None:
+        tty.setraw(far)  # no line end is changed on its way
+    else:
+        os.write(near, typed)
+        rest['stdin'] = far
     with tempfile.TemporaryFile() as output:
         running = subprocess.Popen(words, stdout=output if own_output else far, stderr=far, **rest)
         os.close(far)
