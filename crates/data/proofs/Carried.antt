@@ -12,7 +12,6 @@ use mir.Val.{toZ, ofZ}
 use Rattle.value.proofs.Integers.{back}
 use Rattle.rules.specs.declared.Refusal.{Refusal}
 use Rattle.rules.specs.Limits.{runLimit, indexLimit}
-use Rattle.lexer.specs.Text.{Token}
 use Rattle.language.specs.Outcome.{Outcome, done, refused}
 use Rattle.language.specs.Reader.{Reader, Read, follow, asRead, look}
 use Rattle.language.specs.Ranges.{upFrom}

@@ -41,7 +41,7 @@ use Rattle.data.specs.declared.running.Run.the-variants as run
 use Rattle.data.specs.Stores.{Stores}
 use Rattle.evaluator.specs.Ground.{Ground, worldOn}
 use Rattle.data.specs.Layouts.{Laid}
-use Rattle.data.specs.Running.{before, Before, Carries, runOutcome, RunsFrom, PositionRuns}
+use Rattle.data.specs.Running.{before, Before, Carries, RunsFrom, PositionRuns}
 use Rattle.data.proofs.Rows.{stores-given}
 use Rattle.data.proofs.Laying.{laid-places, laid-numbers}
 use Rattle.data.proofs.Positions.{bound-length}

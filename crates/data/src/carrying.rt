@@ -8,7 +8,6 @@ use super::running;
 use super::running::Portion;
 use tokens::Known;
 use tokens::sorts;
-ghost use mathlib.Core.Path.{_≡_};
 ghost use Rattle.language.specs.Data.{portionOf};
 ghost use Rattle.data.specs.Reading.Lists.{Heads};
 ghost use Rattle.data.specs.Portions.{headFor, CarriesOut, Uses, Fills};

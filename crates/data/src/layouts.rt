@@ -4,8 +4,6 @@ use super::reading::few::Few;
 use lexer::marks;
 use tokens::Move;
 use tokens::Seen;
-ghost use mathlib.Core.Path.{_≡_};
-ghost use lib.ListN.{take};
 ghost use Rattle.data.specs.Layouts.{Passes, LaysOut, Lays};
 
 // An index's number, and the position behind its entry and the sign after it.

@@ -8,7 +8,6 @@ pub mod sections;
 
 use sections::Section;
 use tokens::Move;
-ghost use mathlib.Core.Path.{_≡_};
 ghost use Rattle.data.specs.Sections.{ReadsData};
 
 // The place of the data section's title and the number of its bytes, 0 where there is no data section; and how many data

@@ -7,7 +7,6 @@ use lexer::marks;
 use tokens::Move;
 use tokens::Seen;
 use tokens::kinds;
-ghost use mathlib.Core.Path.{_≡_};
 ghost use Rattle.language.specs.Data.{dataOf};
 ghost use Rattle.data.specs.Sections.{restIn, sectionIn, FillsAll, Sections};
 

@@ -8,7 +8,6 @@ use lib.Dec.{eqb}
 use borrow.Author.Tests.{eq-eqb, ne-eqb}
 use Rattle.rules.specs.declared.Refusal.{Refusal}
 use Rattle.rules.specs.Limits.{nestingLimit, indexLimit}
-use Rattle.lexer.specs.Text.{Token}
 use Rattle.lexer.specs.Marks.{opens, closes, comma, atMost}
 use Rattle.language.specs.Syntax.{Name, Formula, Spans, point}
 use Rattle.language.specs.Reader.{Reader, follow, _>>=_, give, Used, next, look, isMark, expect, bracket, readIndex}

@@ -2,7 +2,6 @@
 use lexer::marks;
 use tokens::Move;
 use tokens::Seen;
-ghost use mathlib.Core.Path.{_≡_};
 ghost use Rattle.tokens.specs.Stored.{Moves};
 ghost use Rattle.tokens.specs.Pieces.{indexIn};
 ghost use Rattle.domains.specs.Domains.{entryWith, entriesIn, domainIn, optionalIn};

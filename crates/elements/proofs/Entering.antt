@@ -2,10 +2,10 @@
 use mathlib.Core.Path.{_≡_, refl, sym, _∙_, ap, subst}
 use mathlib.Core.Bool.{Bool, true, false, not}
 use mathlib.Core.List.{List, [], _∷_, _++_, append-nil, append-assoc}
-use Prim.Native.Nat.{ℕ, zero, suc, _-_, _<_}
+use Prim.Native.Nat.{ℕ, suc, _-_, _<_}
 use native.Mathlib.Omega.{arith}
 use lib.ListN.{length}
-use lib.IntN.{ℤ, pos, negℤ, _+ℤ_}
+use lib.IntN.{pos, _+ℤ_}
 use lib.Signed.{_≤ℤ_, ltZ, leZ, ≤ℤ-refl}
 use Rattle.rules.specs.declared.Refusal.{Refusal}
 use Rattle.rules.specs.Limits.{indexLimit, nestingLimit}
@@ -23,14 +23,14 @@ use Rattle.evaluator.specs.Steps.Values.{limitsIn, SmallLimits, runOutcome, Run
 use Rattle.evaluator.specs.declared.Entered.{Entered}
 use Rattle.evaluator.specs.declared.Entered.the-variants as entered
 use Rattle.evaluator.specs.Tables.{World}
-use Rattle.evaluator.specs.Cycle.{entryIn, EntryIs, boundsOutcome, SmallEntered, seenBy, under, nothingBound, tokensAt}
+use Rattle.evaluator.specs.Cycle.{entryIn, EntryIs, boundsOutcome, SmallEntered, seenBy, nothingBound, tokensAt}
 use Rattle.elements.specs.declared.here.Level.{Level as HeldLevel}
 use Rattle.elements.specs.declared.here.Here.{Here as HeldHere}
 use Rattle.elements.specs.declared.Step.{Step}
 use Rattle.elements.specs.declared.Step.the-variants.{At, Done, Refused}
-use Rattle.elements.specs.Elements.{Walked, finished, stopped, reaches, followed, chained, mapped}
+use Rattle.elements.specs.Elements.{Walked, finished, stopped, followed, chained, mapped}
 use Rattle.elements.specs.Levels.{Level, hereOf, deeper, atNumber, turnOf, runFrom}
-use Rattle.elements.specs.Held.{StepsUp, held, one-more, bound, levelsOf}
+use Rattle.elements.specs.Held.{StepsUp, held, one-more, bound}
 use Rattle.elements.specs.Steps.{SmallRun, SmallRuns, runsOf, runOf, scopeIn, entriesIn, Reached, Shows, FirstIs, Grown, GrownBy, Turned, TurnedBy, InsideIs, TurnsAre}
 use Rattle.elements.proofs.Levels.{first-none, first-limit, first-run, first-of}
 use Rattle.elements.proofs.Runs.{range-none, range-here}

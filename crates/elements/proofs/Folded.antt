@@ -1,7 +1,6 @@
 -- A step at each element of a domain is a step at each element that its walk reaches, and then the walk's end. Assumes nothing.
 use mathlib.Core.Path.{_≡_, refl, sym, _∙_, ap, fun-ext}
 use mathlib.Core.List.{List, [], _∷_}
-use Prim.Native.Nat.{ℕ}
 use lib.IntN.{ℤ}
 use Rattle.language.specs.Outcome.{Outcome, done, refused, _>>=_}
 use Rattle.language.specs.Scope.{Scope, bind}

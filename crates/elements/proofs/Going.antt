@@ -1,9 +1,9 @@
 -- Laws of the element after an element: each answer of `after`. Assumes nothing.
 use mathlib.Core.Path.{_≡_, refl, sym, _∙_, ap, subst, subst₂}
 use mathlib.Core.Bool.{Bool, true, false, not}
-use mathlib.Core.Logic.{_⊎_, inl, inr}
+use mathlib.Core.Logic.{inl, inr}
 use mathlib.Core.List.{List, [], _∷_, _++_, append-assoc}
-use Prim.Native.Nat.{ℕ, zero, suc, _+_, _-_, _<_, _≤_}
+use Prim.Native.Nat.{ℕ, suc, _+_, _-_, _<_, _≤_}
 use native.Mathlib.Omega.{arith}
 use native.Mathlib.Numerals.{add-one}
 use lib.ListN.{length, take, drop, getD, length-take, length-drop}
@@ -14,17 +14,17 @@ use Rattle.rules.specs.declared.Refusal.{Refusal}
 use Rattle.rules.specs.Limits.{indexLimit}
 use Rattle.rational.specs.Integer.{up}
 use Rattle.lexer.specs.Text.{Token}
-use Rattle.language.specs.Scope.{Scope, bind}
+use Rattle.language.specs.Scope.{bind}
 use Rattle.evaluator.specs.Tables.{World}
-use Rattle.evaluator.specs.Cycle.{seenBy, nothingBound, tokensAt}
+use Rattle.evaluator.specs.Cycle.{nothingBound, tokensAt}
 use Rattle.elements.specs.declared.here.Level.{Level as HeldLevel}
 use Rattle.elements.specs.declared.here.Here.{Here as HeldHere}
 use Rattle.elements.specs.declared.Step.{Step}
 use Rattle.elements.specs.declared.Step.the-variants.{At, Done, Refused}
-use Rattle.elements.specs.Elements.{Walked, finished, stopped, reaches, followed, Behind}
-use Rattle.elements.specs.Levels.{Level, hereOf, deeper, atNumber, runFrom, walkElements}
+use Rattle.elements.specs.Elements.{Walked, finished, reaches, followed, Behind}
+use Rattle.elements.specs.Levels.{Level, hereOf, deeper, atNumber, runFrom}
 use Rattle.elements.specs.Held.{wordBase, StepsUp, held, no-level}
-use Rattle.elements.specs.Steps.{SmallRun, SmallRuns, runsOf, runOf, scopeIn, entriesIn, Reached, Shows, TurnedBy, Lowered, LoweredBy, turnsLeft, TurnsAre, AfterIs, NextIs}
+use Rattle.elements.specs.Steps.{SmallRuns, runsOf, runOf, scopeIn, entriesIn, Shows, TurnedBy, Lowered, LoweredBy, turnsLeft, TurnsAre, AfterIs, NextIs}
 use Rattle.elements.proofs.Levels.{first-none, Next, next-of, element-length}
 use Rattle.elements.proofs.Numbers.{not-true, not-false}
 use Rattle.elements.proofs.Ranked.{ahead-less, rank-first, rank-inner}

@@ -1,7 +1,6 @@
 -- The first element of a domain and the one after an element are found level by level; and what is reached at the tokens of a
 -- domain is what its tree reaches. Assumes nothing.
-use mathlib.Core.Path.{_≡_, refl, sym, _∙_, ap, subst, fun-ext}
-use mathlib.Core.Bool.{Bool, true, false}
+use mathlib.Core.Path.{_≡_, refl, sym, _∙_, ap, fun-ext}
 use mathlib.Core.Logic.{inl, inr}
 use mathlib.Core.List.{List, [], _∷_}
 use Prim.Native.Nat.{ℕ, zero, suc}
@@ -14,13 +13,13 @@ use Rattle.rules.specs.Limits.{runLimit}
 use Rattle.lexer.specs.Text.{Token}
 use Rattle.language.specs.Outcome.{Outcome, done, refused, _>>=_, check}
 use Rattle.language.proofs.Outcome.{after, done-injective}
-use Rattle.language.specs.Syntax.{Formula, Name, Spans, point, span}
+use Rattle.language.specs.Syntax.{Name, Spans, point, span}
 use Rattle.language.specs.Reader.{Read, asRead}
 use Rattle.language.specs.Scope.{Scope, bind}
 use Rattle.language.specs.Ranges.{range}
 use Rattle.language.specs.Evaluation.{Limits, limitsOf, lengthOf, fresh, runOf, eval}
 use Rattle.onepass.specs.Walk.{Walk, Bounds, walkEntry, inDomainWalk}
-use Rattle.onepass.specs.Entries.{ReadsEntry, ReadsSpans, indexCount}
+use Rattle.onepass.specs.Entries.{ReadsSpans, indexCount}
 use Rattle.onepass.proofs.WalkedDomain.{entry-walk}
 use Rattle.elements.specs.Elements.{Walked, finished, stopped, reaches, followed, chained, overRun, Behind, mapped, Here, inFront, elementsOf}
 use Rattle.elements.specs.Levels.{Level, hereOf, deeper, levelOf, atNumber, turnOf, runFrom, walkRun, walkElements}

@@ -3,16 +3,13 @@
 use mathlib.Core.Path.{_≡_, refl, sym, _∙_, ap, subst, subst₂}
 use mathlib.Core.Logic.{_⊎_, inl, inr}
 use mathlib.Core.List.{List, [], _∷_, _++_}
-use Prim.Native.Nat.{ℕ, suc}
-use native.Mathlib.Omega.{arith}
 use lib.IntN.{ℤ, pos, _+ℤ_}
 use lib.Signed.{_≤ℤ_}
 use Rattle.language.specs.Outcome.{Outcome, done, refused, _>>=_}
-use Rattle.language.specs.Listed.{At, In}
+use Rattle.language.specs.Listed.{In}
 use Rattle.language.proofs.Listed.{in-nil, in-append, in-cons, in-here, in-later}
-use Rattle.language.specs.Ranges.{range}
 use Rattle.language.specs.Scope.{Scope, bind}
-use Rattle.language.specs.Syntax.{Formula, Spans, point, span}
+use Rattle.language.specs.Syntax.{Spans, point, span}
 use Rattle.language.specs.Evaluation.{Limits, limitsOf, runOf, eval}
 use Rattle.language.specs.Demand3.{Rising, Precedes}
 use Rattle.language.proofs.Ordered.{rising-nil, rising-cons, rising-one, rising-append, rising-head, rising-tail, rising-range, not-itself}

@@ -1,6 +1,6 @@
 -- Laws of a walk for each number from one limit to another: its first number, and what comes after a thing that is reached at one
 -- of its numbers. Assumes nothing.
-use mathlib.Core.Path.{_≡_, refl, sym, _∙_, ap}
+use mathlib.Core.Path.{_≡_, refl, _∙_, ap}
 use mathlib.Core.Logic.{_⊎_, inl, inr}
 use mathlib.Core.List.{List, [], _∷_}
 use Prim.Native.Nat.{ℕ, zero, suc, _+_, _-_, _<_}
@@ -9,7 +9,7 @@ use lib.IntN.{ℤ, pos, negsuc, negℤ, _+ℤ_}
 use lib.Signed.{_≤ℤ_}
 use Rattle.rules.specs.declared.Refusal.{Refusal}
 use Rattle.rational.specs.Integer.{up, down}
-use Rattle.rational.proofs.Integer.{by-parts, add-parts, neg-up, neg-down, le-parts, le-of-parts}
+use Rattle.rational.proofs.Integer.{by-parts, add-parts, neg-up, neg-down, le-parts}
 use Rattle.language.specs.Ranges.{upFrom, range}
 use Rattle.elements.specs.Elements.{Walked, finished, stopped, reaches, followed, chained, Behind}
 use Rattle.elements.proofs.Walks.{After, behind-followed}

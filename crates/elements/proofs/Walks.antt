@@ -2,10 +2,8 @@
 use mathlib.Core.Path.{_≡_, refl, sym, _∙_, ap}
 use mathlib.Core.Logic.{_⊎_, inl, inr}
 use mathlib.Core.List.{List, [], _∷_, _++_}
-use Prim.Native.Nat.{ℕ}
 use lib.IntN.{ℤ}
-use Rattle.rules.specs.declared.Refusal.{Refusal}
-use Rattle.elements.specs.Elements.{Walked, finished, stopped, reaches, reached, ending, followed, chained, overRun, Behind, mapped}
+use Rattle.elements.specs.Elements.{Walked, finished, stopped, reaches, reached, ending, followed, chained, Behind, mapped}
 
 module _ {A : Type 0} where
   -- ---- one after another

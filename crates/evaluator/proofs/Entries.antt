@@ -1,19 +1,17 @@
 -- Laws over plain variables for one entry of a domain. Assumes nothing.
-use mathlib.Core.Path.{_≡_, refl, sym, _∙_, ap, subst}
+use mathlib.Core.Path.{_≡_, sym, _∙_, ap, subst}
 use mathlib.Core.List.{List}
 use Prim.Native.Nat.{ℕ}
 use lib.ListN.{getD}
 use lib.IntN.{ℤ}
 use Rattle.rules.specs.declared.Refusal.{Refusal}
 use Rattle.value.specs.declared.Value.{Value}
-use Rattle.value.specs.Decimal.{Valid}
 use Rattle.lexer.specs.Text.{Token}
-use Rattle.language.specs.Outcome.{refused}
 use Rattle.language.specs.Syntax.{Name}
-use Rattle.language.specs.Reader.{Reader, follow, asRead, _>>=_, give, lift, next}
+use Rattle.language.specs.Reader.{Reader, follow, asRead, _>>=_, give, lift}
 use Rattle.language.specs.Scope.{Scope}
 use Rattle.language.specs.Evaluation.{wholeAt}
-use Rattle.onepass.specs.Walk.{skip, nameNumber, walkPart, walkInside, walkEntry, Bounds}
+use Rattle.onepass.specs.Walk.{skip, walkPart, walkInside, walkEntry, Bounds}
 use Rattle.onepass.specs.Entries.{read}
 use Rattle.onepass.proofs.Steps.{on}
 use Rattle.tokens.specs.declared.Seen.{Seen}
@@ -24,7 +22,6 @@ use Rattle.evaluator.specs.declared.steps.scope.Scope.{Scope as Held}
 use Rattle.evaluator.specs.declared.steps.values.Answer.{Answer}
 use Rattle.evaluator.specs.declared.steps.values.Answer.the-variants as answer
 use Rattle.evaluator.specs.declared.steps.values.Bounds as code
-use Rattle.evaluator.specs.Steps.Scopes.{Small}
 use Rattle.evaluator.specs.Steps.Passing.{Skips}
 use Rattle.evaluator.specs.Steps.Names.{indexNumber}
 use Rattle.evaluator.specs.Steps.Values.{wholeAnswer, limitsIn, SmallLimits}
@@ -32,7 +29,7 @@ use Rattle.evaluator.proofs.steps.Numbers.{index-of}
 use Rattle.evaluator.specs.declared.Entered.{Entered}
 use Rattle.evaluator.specs.declared.Entered.the-variants as entered
 use Rattle.evaluator.specs.Tables.{World}
-use Rattle.evaluator.specs.Cycle.{partIn, limitIn, entryIn, boundsIn, wholeOutcome, ValidAnswer, boundsOutcome, seenBy, under, tokensAt, Values, Wholes, EntryIs, BoundsAre}
+use Rattle.evaluator.specs.Cycle.{partIn, limitIn, entryIn, boundsIn, wholeOutcome, ValidAnswer, seenBy, under, tokensAt, Values, Wholes, EntryIs, BoundsAre}
 use Rattle.evaluator.proofs.Laws.{stop, regroup, whole-outcome, whole-valid, refused-is, value-is, value-valid, no-whole, whole-is, whole-small}
 
 module _ (ns ts ds : List ℕ) (given level : ℕ) (sc : Held) where

@@ -1,40 +1,31 @@
 -- Laws over plain variables for the functions without loops. Assumes nothing.
 use mathlib.Core.Path.{_≡_, refl, sym, _∙_, ap, subst}
-use mathlib.Core.Bool.{Bool, true, false, cond, _||_}
-use mathlib.Core.Option.{Option, none, some}
-use mathlib.Core.List.{List, [], _∷_}
-use Prim.Native.Nat.{ℕ, zero, suc, _-_, _<_, _≤_}
+use mathlib.Core.Bool.{Bool, true, false}
+use mathlib.Core.List.{List}
+use Prim.Native.Nat.{ℕ, zero, suc, _-_, _≤_}
 use native.Mathlib.Omega.{arith}
-use lib.Dec.{eqb}
-use borrow.Author.Tests.{eq-eqb, ne-eqb}
-use lib.ListN.{length, getD, take, getElem?}
-use lib.IntN.{ℤ, pos, natAbs}
+use lib.IntN.{ℤ, natAbs}
 use Rattle.rules.specs.declared.Refusal.{Refusal}
-use Rattle.rules.specs.declared.Refusal.the-variants.{Misplaced, BadName, Unfit, Full, NotWhole}
+use Rattle.rules.specs.declared.Refusal.the-variants.{Full}
 use Rattle.rules.specs.Limits.{tokenLimit, nestingLimit, mantissaLimit}
 use Rattle.value.specs.declared.Value.{Value}
 use Rattle.value.specs.declared.Fit.{Fit}
 use Rattle.value.specs.declared.Fit.the-variants.{Fits, TooBig}
 use Rattle.value.specs.declared.Whole.{Whole}
 use Rattle.value.specs.declared.Whole.the-variants.{Number, NotWhole as noNumber}
-use Rattle.value.specs.Decimal.{Valid, inRange, negate, wholeOf, ofWhole, sumOf, productOf, ifInRange}
-use Rattle.value.proofs.Ranges.{valid-both}
-use Rattle.value.proofs.Operations.{sum-valid, product-valid, negate-valid, valid-negated, ofWhole-wholeOf}
+use Rattle.value.specs.Decimal.{Valid, wholeOf, ofWhole}
+use Rattle.value.proofs.Operations.{negate-valid, valid-negated, ofWhole-wholeOf}
 use Rattle.lexer.specs.Text.{Token}
-use Rattle.lexer.specs.Text
 use Rattle.language.specs.Outcome.{Outcome, done, refused, fitting}
 use Rattle.language.specs.Syntax.{Name}
-use Rattle.language.specs.Reader.{Reader, Read, follow, asRead, _>>=_, give, lift, next}
+use Rattle.language.specs.Reader.{Reader, Read, follow, asRead, _>>=_, give, lift}
 use Rattle.language.specs.Formulas.{readSign}
 use Rattle.language.specs.Scope.{Scope}
 use Rattle.language.specs.Evaluation.{wholeAt, Limits}
-use Rattle.onepass.specs.Walk.{Walk, skip, negatedValue, walkFactors, walkTerm, walkSummands, walkFormula, walkPart, walkLimits, walkPrimary, walkInside, valueAt, walkEntry, Bounds}
+use Rattle.onepass.specs.Walk.{Walk, negatedValue, walkTerm, walkFormula, walkPart, walkLimits, walkInside, valueAt}
 use Rattle.onepass.specs.Entries.{read}
 use Rattle.onepass.proofs.Steps.{on}
-use Rattle.tokens.specs.declared.Seen.{Seen}
-use Rattle.tokens.specs.declared.Seen.the-variants as seen
-use Rattle.tokens.specs.Stored.{token, from, Sees, Looks}
-use Rattle.tokens.proofs.Moved.{next-is}
+use Rattle.tokens.specs.Stored.{from}
 use Rattle.evaluator.specs.declared.steps.scope.Scope.{Scope as Held}
 use Rattle.evaluator.specs.declared.steps.passing.Lead.{Lead}
 use Rattle.evaluator.specs.declared.steps.passing.Lead.the-variants as lead
@@ -43,15 +34,10 @@ use Rattle.evaluator.specs.declared.steps.values.Answer.the-variants as 
 use Rattle.evaluator.specs.declared.steps.values.Limits as code
 use Rattle.evaluator.specs.Steps.Scopes.{Small}
 use Rattle.evaluator.specs.Steps.Passing.{Skips, Led, Leads}
-use Rattle.evaluator.specs.Steps.Names.{indexNumber}
 use Rattle.evaluator.specs.Steps.Values.{fittedAt, signedValue, wholeBy, wholeAnswer, limitsIn, SmallLimits}
-use Rattle.evaluator.proofs.steps.Numbers.{index-of}
-use Rattle.evaluator.specs.declared.Limited.{Limited}
 use Rattle.evaluator.specs.declared.Limited.the-variants as limited
-use Rattle.evaluator.specs.declared.Entered.{Entered}
-use Rattle.evaluator.specs.declared.Entered.the-variants as entered
 use Rattle.evaluator.specs.Tables.{World}
-use Rattle.evaluator.specs.Cycle.{insideIn, formulaIn, primaryIn, termIn, factorsIn, summandsIn, partIn, limitIn, limitsWalk, entryIn, boundsIn, valueOutcome, wholeOutcome, ValidAnswer, limitsOutcome, SmallLimited, boundsOutcome, SmallEntered, seenBy, under, tokensAt, Values, Continues, Wholes, LimitsAre, EntryIs, BoundsAre}
+use Rattle.evaluator.specs.Cycle.{insideIn, formulaIn, primaryIn, termIn, factorsIn, summandsIn, partIn, limitIn, limitsWalk, valueOutcome, wholeOutcome, ValidAnswer, seenBy, under, tokensAt, Values, Continues, Wholes, LimitsAre}
 
 -- ---- sequences
 

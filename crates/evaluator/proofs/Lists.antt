@@ -1,6 +1,6 @@
 -- Laws over plain variables for subscripts and for the domain test. Assumes nothing.
 use mathlib.Core.Path.{_≡_, refl, sym, _∙_, ap, subst}
-use mathlib.Core.Bool.{Bool, true, false, _&&_}
+use mathlib.Core.Bool.{true, _&&_}
 use mathlib.Core.List.{List, [], _∷_, _++_, append-nil}
 use Prim.Native.Nat.{ℕ, zero, suc, _+_, _-_, _<_, _≤_}
 use native.Mathlib.Omega.{arith}
@@ -8,19 +8,19 @@ use borrow.Author.Tests.{lt-ltb}
 use lib.Dec.{ltb}
 use lib.ListN.{length, getD, drop, length-append}
 use lib.Seq.{drop-cons, append-snoc, drop-length}
-use lib.IntN.{ℤ, pos, natAbs}
+use lib.IntN.{ℤ, pos}
 use lib.Signed.{leZ}
 use Rattle.rules.specs.declared.Refusal.{Refusal}
 use Rattle.rules.specs.declared.Refusal.the-variants.{Outside}
-use Rattle.rules.specs.Limits.{nestingLimit, mantissaLimit, indexLimit}
+use Rattle.rules.specs.Limits.{nestingLimit, indexLimit}
 use Rattle.value.specs.declared.Value.{Value}
 use Rattle.lexer.specs.Text.{Token}
 use Rattle.language.specs.Outcome.{Outcome, done, refused, check}
 use Rattle.language.specs.Syntax.{Name, Spans, point, span}
-use Rattle.language.specs.Reader.{Reader, Read, follow, asRead, _>>=_, give, lift}
+use Rattle.language.specs.Reader.{Reader, Read, follow, _>>=_, give, lift}
 use Rattle.language.specs.Scope.{Scope, bind}
 use Rattle.language.specs.Evaluation.{wholeAt}
-use Rattle.onepass.specs.Walk.{skip, walkPart, walkList, walkSubscripts, walkInside, walkWithin, walkEntry, inDomainWalk, Bounds}
+use Rattle.onepass.specs.Walk.{skip, walkPart, walkList, walkSubscripts, walkInside, walkWithin, inDomainWalk, Bounds}
 use Rattle.onepass.specs.Entries.{read}
 use Rattle.onepass.proofs.Steps.{on}
 use Rattle.tokens.specs.Stored.{size}
@@ -35,16 +35,15 @@ use Rattle.evaluator.specs.declared.steps.values.Tested.{Tested}
 use Rattle.evaluator.specs.declared.steps.values.Tested.the-variants as tested
 use Rattle.evaluator.specs.Steps.Scopes.{bindingsOf, boundMore, scopeOf, Small}
 use Rattle.evaluator.specs.Steps.Passing.{Skips}
-use Rattle.evaluator.specs.Steps.Values.{limitsIn, insideLimits, TestedAs, Tests}
+use Rattle.evaluator.specs.Steps.Values.{TestedAs, Tests}
 use Rattle.evaluator.proofs.steps.Scopes.{scope-bind, small-none, small-bind}
 use Rattle.evaluator.specs.declared.Numbers.the-variants as numbers
 use Rattle.evaluator.specs.declared.Entered.{Entered}
 use Rattle.evaluator.specs.declared.Entered.the-variants as entered
-use Rattle.evaluator.specs.declared.Passed.{Passed}
 use Rattle.evaluator.specs.declared.Passed.the-variants as passed
 use Rattle.evaluator.specs.Tables.{World}
 use Rattle.evaluator.specs.Cycle.{limitIn, entryIn, boundsOutcome, onlyOutcome, seenBy, under, nothingBound, tokensAt, Wholes, EntryIs, SubscriptsAre, WithinIs}
-use Rattle.evaluator.proofs.Laws.{stop, regroup, no-whole, whole-is, whole-small}
+use Rattle.evaluator.proofs.Laws.{regroup, no-whole, whole-is, whole-small}
 
 -- ---- subscripts
 

@@ -11,15 +11,13 @@ use Rattle.rules.specs.declared.Refusal.{Refusal}
 use Rattle.rules.specs.Limits.{tokenLimit}
 use Rattle.value.specs.declared.Value.{Value}
 use Rattle.value.specs.declared.Fit.{Fit}
-use Rattle.value.specs.declared.Fit.the-variants.{Fits}
 use Rattle.value.specs.Decimal.{Valid, sumOf, productOf, ifInRange}
 use Rattle.value.proofs.Ranges.{valid-both}
 use Rattle.value.proofs.Operations.{sum-valid, product-valid}
-use Rattle.lexer.specs.Text.{Token}
-use Rattle.lexer.specs.Marks.{timesSign, minusSign}
+use Rattle.lexer.specs.Marks.{minusSign}
 use Rattle.language.specs.Outcome.{Outcome, refused, fitting}
 use Rattle.language.specs.Syntax.{Name}
-use Rattle.language.specs.Reader.{Reader, Read, follow, asRead, _>>=_, give, lift, look, isMark}
+use Rattle.language.specs.Reader.{Reader, Read, follow, asRead, _>>=_, give, lift, isMark}
 use Rattle.language.specs.Formulas.{isSum}
 use Rattle.language.specs.Scope.{Scope}
 use Rattle.onepass.specs.Walk.{Walk, skip, negatedValue, walkFactors, walkSummands}

@@ -1,5 +1,5 @@
 -- Laws over plain variables for primaries. Assumes nothing.
-use mathlib.Core.Path.{_≡_, refl, sym, _∙_, ap, subst}
+use mathlib.Core.Path.{_≡_, refl, sym, _∙_, subst}
 use mathlib.Core.Bool.{true, false, _||_}
 use mathlib.Core.List.{List, _∷_}
 use Prim.Native.Nat.{ℕ, zero, suc, _/_, _%_}
@@ -12,8 +12,6 @@ use Rattle.rules.specs.declared.Refusal.{Refusal}
 use Rattle.rules.specs.declared.Refusal.the-variants.{Misplaced}
 use Rattle.value.specs.declared.Value.{Value}
 use Rattle.value.specs.Decimal.{Valid}
-use Rattle.lexer.specs.Text.{Token}
-use Rattle.lexer.specs.Text
 use Rattle.language.specs.Outcome.{refused}
 use Rattle.onepass.specs.Walk.{walkPrimaryBy, walkPrimary, walkInside}
 use Rattle.onepass.specs.Entries.{read}

@@ -1,14 +1,11 @@
 -- Laws over plain variables for a sum behind its word. Assumes nothing.
-use mathlib.Core.Path.{_≡_, refl, sym, _∙_, ap, subst}
+use mathlib.Core.Path.{_≡_, _∙_, ap, subst}
 use mathlib.Core.List.{List}
 use Prim.Native.Nat.{ℕ}
 use Rattle.rules.specs.declared.Refusal.{Refusal}
-use Rattle.lexer.specs.Text.{Token}
-use Rattle.language.specs.Outcome.{refused}
 use Rattle.language.specs.Reader.{asRead}
 use Rattle.language.specs.Evaluation.{runOf}
-use Rattle.onepass.specs.Walk.{walkHead, walkSum, walkLimits, walkInside}
-use Rattle.onepass.specs.Entries.{read}
+use Rattle.onepass.specs.Walk.{walkHead, walkSum}
 use Rattle.onepass.proofs.Steps.{on}
 use Rattle.evaluator.specs.declared.steps.scope.Scope.{Scope as Held}
 use Rattle.evaluator.specs.declared.steps.names.Headed.{Headed}

@@ -1,8 +1,8 @@
 -- Laws over plain variables for the turns of a sum's run. Assumes nothing.
 use mathlib.Core.Path.{_≡_, refl, sym, _∙_, ap, subst}
-use mathlib.Core.Bool.{Bool, true, false}
-use mathlib.Core.List.{List, [], _∷_}
-use Prim.Native.Nat.{ℕ, zero, suc, _+_, _-_, _<_, _≤_}
+use mathlib.Core.Bool.{false}
+use mathlib.Core.List.{List}
+use Prim.Native.Nat.{ℕ, suc, _+_, _-_, _<_, _≤_}
 use native.Mathlib.Omega.{arith}
 use lib.IntN.{ℤ, pos, negsuc, natAbs, _+ℤ_, _-ℤ_, negℤ, +ℤ-assoc, +ℤ-idr}
 use Rattle.rules.specs.declared.Refusal.{Refusal}
@@ -15,10 +15,8 @@ use Rattle.rational.specs.Integer.{up, down}
 use Rattle.rational.proofs.Integer.{add-parts, neg-up, neg-down}
 use Rattle.value.proofs.Ranges.{valid-both}
 use Rattle.value.proofs.Operations.{sum-valid, zero-valid}
-use Rattle.lexer.specs.Text.{Token}
 use Rattle.language.specs.Outcome.{Outcome, done, refused, fitting, _>>=_}
-use Rattle.language.specs.Syntax.{Name}
-use Rattle.language.specs.Scope.{Scope, bind}
+use Rattle.language.specs.Scope.{bind}
 use Rattle.language.specs.Ranges.{upFrom}
 use Rattle.language.specs.Evaluation.{lengthOf, each, addTo}
 use Rattle.onepass.specs.Walk.{walkInside, walkTurns, walkBody, valueOnly, restAs, behindBracket}

@@ -5,11 +5,11 @@ use Prim.Native.Nat.{ℕ}
 use lib.IntN.{ℤ}
 use Rattle.lexer.specs.Text.{Token}
 use Rattle.language.specs.Outcome.{Outcome, done, refused, _>>=_}
-use Rattle.language.specs.Syntax.{Formula, Spans, Name, point, span}
+use Rattle.language.specs.Syntax.{Spans, Name, point, span}
 use Rattle.language.specs.Reader.{Read, asRead}
 use Rattle.language.specs.Scope.{Scope, bind}
 use Rattle.language.specs.Evaluation.{Limits, limitsOf, runOf, each, eval, over}
-use Rattle.onepass.specs.Walk.{walkEntry, inDomainWalk, Bounds}
+use Rattle.onepass.specs.Walk.{inDomainWalk, Bounds}
 use Rattle.onepass.specs.Entries.{ReadsSpans, indexCount}
 use Rattle.onepass.proofs.WalkedDomain.{entry-walk}
 use Rattle.evaluator.specs.WalkOver.{walkOver}

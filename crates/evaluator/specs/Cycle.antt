@@ -3,13 +3,13 @@
 -- Assumes nothing.
 use mathlib.Core.Path.{_≡_}
 use mathlib.Core.Bool.{true}
-use mathlib.Core.Option.{Option, none, some}
+use mathlib.Core.Option.{none, some}
 use mathlib.Core.List.{List, []}
 use Prim.Native.Nat.{ℕ, _<_, _≤_}
 use lib.Dec.{ltb}
 use lib.ListN.{length, take, getElem?}
 use lib.IntN.{ℤ}
-use Rattle.rules.specs.Limits.{nestingLimit, runLimit, indexLimit}
+use Rattle.rules.specs.Limits.{runLimit, indexLimit}
 use Rattle.value.specs.declared.Value.{Value}
 use Rattle.value.specs.Decimal.{Valid}
 use Rattle.lexer.specs.Text.{Token}

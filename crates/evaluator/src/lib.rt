@@ -18,7 +18,6 @@ use tokens::Seen;
 use tokens::kinds;
 use tokens::sorts;
 use value::Value;
-ghost use mathlib.Core.Path.{_≡_};
 ghost use Prim.Native.Nat.{_<_};
 ghost use Rattle.rules.specs.Limits.{tokenLimit, nestingLimit};
 ghost use Rattle.evaluator.specs.Cycle.{insideIn, formulaIn, primaryIn, termIn, factorsIn, summandsIn, partIn, sumIn, limitIn, limitsWalk, entryIn, boundsIn, Values, Continues, Wholes, LimitsAre, EntryIs, BoundsAre, SubscriptsAre, BodyIs, WithinIs, NamedIs, DatumIs};

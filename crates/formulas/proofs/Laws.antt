@@ -9,7 +9,6 @@ use borrow.Author.Tests.{ne-eqb}
 use Rattle.rules.specs.declared.Refusal.{Refusal}
 use Rattle.rules.specs.declared.Refusal.the-variants.{Misplaced, BadName, Full}
 use Rattle.rules.specs.Limits.{tokenLimit}
-use Rattle.lexer.specs.Text.{Token}
 use Rattle.lexer.specs.Marks.{closes, comma}
 use Rattle.language.specs.Syntax.{Name, Sort, Formula, datum, sum}
 use Rattle.language.specs.Syntax

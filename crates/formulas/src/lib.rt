@@ -6,7 +6,6 @@ use tokens::Move;
 use tokens::Seen;
 use tokens::kinds;
 use tokens::sorts;
-ghost use mathlib.Core.Path.{_≡_};
 ghost use Rattle.rules.specs.Limits.{tokenLimit};
 ghost use Rattle.tokens.specs.Stored.{Moves};
 ghost use Rattle.formulas.specs.Cycle.{insideIn, formulaIn, primaryIn, termIn, partIn, sumIn, nestedIn, namedIn, Factors, Summands, Subscripts};

@@ -1,8 +1,8 @@
 -- From what was generated to the answer, and from the answer to demand 3. Assumes nothing.
 use mathlib.Core.Path.{_≡_, refl, sym, _∙_, ap, subst}
-use mathlib.Core.Bool.{Bool, true, false}
-use mathlib.Core.List.{List, _++_}
-use Prim.Native.Nat.{ℕ, _+_, _-_, _<_, _≤_}
+use mathlib.Core.Bool.{true, false}
+use mathlib.Core.List.{List}
+use Prim.Native.Nat.{ℕ, _<_, _≤_}
 use native.Mathlib.Omega.{arith}
 use lib.Dec.{leb}
 use borrow.Author.Tests.{le-leb, lt-leb}
@@ -11,18 +11,15 @@ use Rattle.rules.specs.declared.Refusal.{Refusal}
 use Rattle.rules.specs.declared.Refusal.the-variants.{LongListing}
 use Rattle.rules.specs.Refusals.{refusalNumber}
 use Rattle.value.specs.Printed.{Written}
-use Rattle.language.specs.Outcome.{Outcome, done, refused, _>>=_, check}
-use Rattle.language.specs.Listing.{linesOf, bytesOfAll}
+use Rattle.language.specs.Outcome.{Outcome, done, refused}
 use Rattle.language.specs.Answer.{Accepted, accepted, listingOf, listing, respond, answer}
-use Rattle.language.specs.Answer as definition
-use Rattle.language.specs.Demand3.{Demand3}
 use Rattle.language.proofs.Accepted.{kept}
 use Rattle.language.proofs.GrammarHolds.{grammar-holds}
 use Rattle.listing.proofs.Lines.{written-zeros}
 use Rattle.generator.specs.declared.Answer.{Answer}
 use Rattle.generator.specs.declared.Generated.{Generated}
 use Rattle.generator.specs.declared.Generated.the-variants as generated
-use Rattle.generator.specs.Contract.{Defined, Accepts, Meant, Meaning}
+use Rattle.generator.specs.Contract.{Defined, Accepts, Meaning}
 use Rattle.generator.specs.Generated.{Lists, Generates}
 
 -- an answer by its number

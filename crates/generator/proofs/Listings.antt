@@ -1,7 +1,7 @@
 -- From the tables of a text to its listing. Assumes nothing.
 use mathlib.Core.Path.{_≡_, refl, sym, _∙_, ap, subst, subst₂}
 use mathlib.Core.Bool.{Bool, true, false, cond}
-use mathlib.Core.List.{List, [], _∷_}
+use mathlib.Core.List.{List}
 use Prim.Native.Nat.{ℕ, zero, suc, _+_, _*_, _<_, _≤_}
 use native.Mathlib.Omega.{arith}
 use borrow.Author.Tests.{leb-true, ltb-false, lt-ltb, le-ltb}
@@ -13,20 +13,18 @@ use Rattle.rules.specs.declared.Refusal.the-variants.{LongText}
 use Rattle.rules.specs.Limits.{byteLimit, constraintLimit}
 use Rattle.value.specs.Printed.{Written}
 use Rattle.lexer.specs.Text.{tokens}
-use Rattle.language.specs.Outcome.{Outcome, done, refused, _>>=_}
+use Rattle.language.specs.Outcome.{Outcome, done, refused}
 use Rattle.language.specs.All.{All}
-use Rattle.language.specs.Reader.{Read, expect, next, passed}
+use Rattle.language.specs.Reader.{expect, next, passed}
 use Rattle.language.specs.Grammar.{structure}
 use Rattle.language.specs.Model.{Model, readModel, model, start}
 use Rattle.language.specs.Numbering.{Lp, generate}
-use Rattle.language.specs.Listing.{linesOf, bytesOfAll}
+use Rattle.language.specs.Listing.{linesOf}
 use Rattle.language.specs.Proper as Proper
-use Rattle.language.specs.Answer.{Accepted, accepted, listingOf}
+use Rattle.language.specs.Answer.{accepted, listingOf}
 use Rattle.language.proofs.ProperText.{accepted-proper}
 use Rattle.tokens.specs.Stored.{spelling, bytesFrom, Named, rowsOf}
-use Rattle.listing.specs.Shown.{shownLines}
 use Rattle.listing.proofs.Lines.{lines-shown}
-use Rattle.evaluator.specs.Tables.{World}
 use Rattle.problem.specs.Variables.Order.{InOrder}
 use Rattle.problem.proofs.variables.Order.{declarations-order}
 use Rattle.model.specs.declared.Model.{Model as Tables}
@@ -37,7 +35,7 @@ use Rattle.model.proofs.Worlds.{text-refused, text-read, model-holds, holds-sta
 use Rattle.rows.specs.declared.Filled.{Filled}
 use Rattle.problem.specs.declared.Problem.{Problem}
 use Rattle.problem.specs.declared.Problem.the-variants as problem
-use Rattle.problem.specs.Problem.{Poses, Holds, Generating, GeneratesAs}
+use Rattle.problem.specs.Problem.{Poses, Generating, GeneratesAs}
 use Rattle.listing.specs.declared.sheet.Sizes.{Sizes}
 use Rattle.listing.specs.Sheet.Shown.{Shown}
 use Rattle.listing.specs.Sheet.Shown as sheet

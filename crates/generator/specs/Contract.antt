@@ -6,7 +6,6 @@ use Prim.Native.Nat.{ℕ, _-_}
 use lib.ListN.{length, replicate}
 use Rattle.language.specs.Listing.{linesOf, bytesOfAll}
 use Rattle.language.specs.Answer.{answer}
-use Rattle.language.specs.Answer as definition
 use Rattle.language.specs.Grammatical.{HasListing}
 use Rattle.language.specs.Demand3.{Demand3}
 use Rattle.generator.specs.declared.Answer.{Answer}

@@ -3,7 +3,7 @@
 -- Assumes nothing.
 use mathlib.Core.Path.{_≡_, refl, sym, _∙_, ap, subst}
 use mathlib.Core.Bool.{Bool, true, false}
-use mathlib.Core.Option.{Option, none, some}
+use mathlib.Core.Option.{some}
 use mathlib.Core.Logic.{_⊎_, inl, inr}
 use mathlib.Core.List.{List, [], _∷_, _++_, map, map-append, append-nil}
 use Prim.Native.Nat.{ℕ, suc, _<_, _≤_}
@@ -13,12 +13,11 @@ use Rattle.rules.specs.declared.Refusal.the-variants.{Misplaced}
 use Rattle.rules.specs.Limits.{byteLimit, nameLimit, constraintLimit}
 use Rattle.lexer.specs.Marks.{initWord, closeWord}
 use Rattle.value.specs.declared.Value.{Value}
-use Rattle.lexer.specs.Text.{Token, literal, sameBytes, tokens}
-use Rattle.lexer.proofs.Same.{same-bytes-refl}
+use Rattle.lexer.specs.Text.{Token, literal, tokens}
 use Rattle.language.specs.Outcome.{Outcome, done, refused}
 use Rattle.language.proofs.Outcome.{done-injective, refused-done}
 use Rattle.language.specs.Syntax.{Name, Sort, Constraint, Structure}
-use Rattle.language.specs.Reader.{Read, Reader, _>>=_, give, next, isMark, require, readString, Used, find}
+use Rattle.language.specs.Reader.{Read, Reader, _>>=_, give, next, isMark, require, readString}
 use Rattle.language.specs.Grammar.{structure}
 use Rattle.language.specs.Data.{Given, portionsOf, readClose, dataOf, readEnd, readData}
 use Rattle.language.specs.Model.{Model, model, readModel, whatOf}

@@ -6,7 +6,6 @@ use Prim.Native.Nat.{ℕ}
 use native.Mathlib.Omega.{arith}
 use lib.IntN.{ℤ}
 use Rattle.rules.specs.declared.Refusal.{Refusal}
-use Rattle.rules.specs.declared.Refusal.the-variants.{Unfit, NotWhole}
 use Rattle.value.specs.declared.Value.{Value}
 use Rattle.value.specs.declared.Fit.{Fit}
 use Rattle.value.specs.declared.Fit.the-variants.{Fits, TooBig}

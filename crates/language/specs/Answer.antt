@@ -1,5 +1,4 @@
 -- The answer for every text and buffer length: number, place, length and every output byte. Assumes nothing.
-use mathlib.Core.Path.{_≡_, subst}
 use mathlib.Core.List.{List, _++_}
 use Prim.Native.Nat.{ℕ, _-_}
 use lib.Dec.{leb}

@@ -5,7 +5,6 @@ use tokens::Move;
 use tokens::Seen;
 use tokens::kinds;
 use tokens::sorts;
-ghost use mathlib.Core.Path.{_≡_};
 ghost use Rattle.rules.specs.Limits.{tokenLimit};
 ghost use Rattle.tokens.specs.Stored.{Moves};
 ghost use Rattle.linear.specs.Linear.{Begins, termIn, sigmaIn, termsIn, formIn, bodyIn, linearIn};

@@ -2,7 +2,7 @@
 // output reaches; the listing's length is given whether or not the output reaches that far.
 use evaluator::steps::names;
 ghost use mathlib.Core.Path.{_≡_};
-ghost use Prim.Native.Nat.{_+_, _*_, _<_, _≤_, _^_};
+ghost use Prim.Native.Nat.{_+_, _<_, _≤_, _^_};
 ghost use lib.ListN.{length, getD};
 ghost use Rattle.value.specs.Printed.{Written};
 ghost use Rattle.lexer.specs.View.{partOf};

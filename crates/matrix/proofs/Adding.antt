@@ -14,16 +14,15 @@ use Rattle.rules.specs.declared.Refusal.{Refusal}
 use Rattle.rules.specs.declared.Refusal.the-variants.{Full}
 use Rattle.rules.specs.Limits.{rowLimit, nameLimit, nestingLimit, variableLimit}
 use Rattle.value.specs.declared.Value.{Value}
-use Rattle.value.specs.Decimal.{Valid}
 use Rattle.language.specs.Outcome.{Outcome, done, refused}
 use Rattle.language.specs.Scope.{Scope as Bindings}
-use Rattle.language.specs.Syntax.{Name, Form, Constraint}
+use Rattle.language.specs.Syntax.{Form, Constraint}
 use Rattle.language.specs.Formulas.{formulaAt}
 use Rattle.language.specs.Linear.{Linear, linearAt}
-use Rattle.language.specs.Numbering.{Variable, Row, signed, gathered, Fact, bound, row, Entry, isRow, keep, anyRow, factOf, rowCount, addEntry}
+use Rattle.language.specs.Numbering.{Variable, Row, signed, gathered, Fact, bound, row, Entry, keep, anyRow, factOf, rowCount, addEntry}
 use Rattle.tokens.specs.Stored.{Stands}
 use Rattle.store.specs.declared.Element.{Element}
-use Rattle.store.specs.Element.{listOf, Subscripts}
+use Rattle.store.specs.Element.{listOf}
 use Rattle.evaluator.specs.declared.steps.scope.Scope.{Scope}
 use Rattle.evaluator.specs.Steps.Scopes.{bindingsOf, scopeOf, Small}
 use Rattle.evaluator.proofs.steps.Scopes.{small-none}
@@ -34,8 +33,8 @@ use Rattle.evaluator.specs.Cycle.{seenBy, nothingBound, under}
 use Rattle.constraints.specs.Rows.{SideAt}
 use Rattle.matrix.specs.declared.parts.Parts.{Parts}
 use Rattle.rows.specs.declared.Filled.{Filled}
-use Rattle.rows.specs.Slots.{countsAt, objectiveRow, nextSlot, RowsHeld, RowPut, Wrote}
-use Rattle.rows.specs.Bounds.{BoundsHeld, boundStated}
+use Rattle.rows.specs.Slots.{objectiveRow, nextSlot, RowsHeld, RowPut, Wrote}
+use Rattle.rows.specs.Bounds.{boundStated}
 use Rattle.rows.proofs.Parts.{row-put}
 use Rattle.rows.proofs.Slotting.{rows-counted, next-within, row-added, bound-passed, objective-put}
 use Rattle.rows.proofs.Bounding.{bound-added, row-passed}
@@ -46,7 +45,7 @@ use Rattle.matrix.specs.declared.sides.Right.{Right}
 use Rattle.matrix.specs.declared.sides.Right.the-variants as right
 use Rattle.matrix.specs.Sides.Answers.{isBare, boundOutcome, Sound, BoundIs, Holds, GathersTo, RowOn, Rowed, RightIs}
 use Rattle.matrix.specs.declared.Generated.the-variants as generated
-use Rattle.matrix.specs.Answers.{State, Added, Adds, Stays, Takes, RowAdds, BoundAdds, ObjectiveAdds, ObjectiveIs}
+use Rattle.matrix.specs.Answers.{Stays, Takes, RowAdds, BoundAdds, ObjectiveAdds, ObjectiveIs}
 
 -- ---- what the definition adds
 

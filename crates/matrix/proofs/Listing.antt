@@ -1,5 +1,5 @@
 -- Laws of the list of constraints: each in its row, one after the other, and all of them. Assumes nothing.
-use mathlib.Core.Path.{_≡_, refl, sym, _∙_, ap, subst}
+use mathlib.Core.Path.{_≡_, refl, sym, _∙_, subst}
 use mathlib.Core.Bool.{Bool, true, false}
 use mathlib.Core.List.{List, [], _∷_}
 use Prim.Native.Nat.{ℕ, zero, suc, _+_, _*_, _<_, _≤_}
@@ -10,7 +10,7 @@ use lib.Seq.{getD-take}
 use lib.IntN.{ℤ}
 use Rattle.rules.specs.declared.Refusal.{Refusal}
 use Rattle.rules.specs.Limits.{variableLimit, constraintLimit}
-use Rattle.language.specs.Outcome.{Outcome, done, refused, _>>=_}
+use Rattle.language.specs.Outcome.{Outcome, done, refused}
 use Rattle.language.specs.Scope.{Scope as Bindings}
 use Rattle.language.specs.Syntax.{Name, Constraint}
 use Rattle.language.specs.Evaluation.{over}
@@ -30,7 +30,7 @@ use Rattle.gatherer.specs.Cycle.{Model}
 use Rattle.matrix.specs.Sides.Answers.{isBare, IsBare}
 use Rattle.matrix.specs.declared.Generated.{Generated}
 use Rattle.matrix.specs.declared.Generated.the-variants as generated
-use Rattle.matrix.specs.Answers.{State, Added, Adds, AddsBounds, Stays, Takes, RowsAdd, BoundsAdd, OneAdds, AllAdd, Generates}
+use Rattle.matrix.specs.Answers.{State, Adds, AddsBounds, Stays, Takes, RowsAdd, BoundsAdd, OneAdds, AllAdd, Generates}
 
 -- ---- one constraint
 

@@ -4,7 +4,6 @@ use evaluator::steps::names;
 use lexer::marks;
 use tokens::Move;
 use tokens::Seen;
-ghost use mathlib.Core.Path.{_≡_};
 ghost use Rattle.matrix.specs.Parts.Parts.{PlaceIs, EntriesAre, ExtentIs, PartsAre};
 
 // A constraint's place, the positions of its sides and of the first entry of its domain, and how many entries there are. `flips`:

@@ -21,7 +21,7 @@ use Rattle.language.specs.Formulas.{isSum, Signed, readSign, partOf, headOf, su
 use Rattle.language.specs.Linear.{Head, aSigma, aVariable, aPrimary, headBy, linearTerm, linearTerms, Linear, linearOf, noSigma, plainForm, bodyOf, sigmaAt, linearAt}
 use Rattle.language.specs.Scope.{Scope, bind, unbound}
 use Rattle.language.specs.Evaluation.{limitsOf, runOf, each, eval, evalAll, within}
-use Rattle.language.specs.Numbering.{Variable, Row, xor, signed, variableAt, gather, gatherTerm}
+use Rattle.language.specs.Numbering.{Variable, Row, xor, variableAt, gather, gatherTerm}
 use Rattle.onepass.specs.Walk.{skip, behindBracket, walkHead, walkLimits, walkSubscripts, walkPrimaryBy, walkInside, valueAt}
 use Rattle.onepass.specs.WalkLinear.{Gatherer, rowOnly, walkNumber, walkVariable, walkLinearTerm, walkLinearTerms, walkLinear, noSigmaWalk, walkBodyForm, walkRuns, walkSigma, gatherAt}
 use Rattle.onepass.specs.Entries.{read}

@@ -18,7 +18,7 @@ use Rattle.lexer.specs.Marks.{minusSign, timesSign, opens, closes, opensList, c
 use Rattle.lexer.specs.Text.{Token, Kind}
 use Rattle.lexer.specs.Text
 use Rattle.language.specs.Outcome.{Outcome, done, refused, orRefuse, fitting, check}
-use Rattle.language.specs.Syntax.{Formula, Spans, Name, Sort, point, span}
+use Rattle.language.specs.Syntax.{Spans, Name, Sort, point, span}
 use Rattle.language.specs.Syntax
 use Rattle.language.specs.Reader.{Reader, Read, _>>=_, give, refuse, lift, next, look, isMark, Used, find}
 use Rattle.language.specs.Formulas.{isSum, readSign}

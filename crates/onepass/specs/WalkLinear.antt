@@ -1,8 +1,7 @@
 -- Linear forms gathered while their tokens are walked, as code does that keeps tokens and no trees. One theorem
 -- (proofs/WalkedLinear.antt) joins this to the trees. Assumes nothing.
-use mathlib.Core.Bool.{Bool, true, false, cond}
-use mathlib.Core.Option.{Option, none, some}
-use mathlib.Core.List.{List, [], _∷_}
+use mathlib.Core.Bool.{Bool, true, false}
+use mathlib.Core.List.{List}
 use Prim.Native.Nat.{ℕ, zero, suc}
 use lib.IntN.{ℤ}
 use Rattle.rules.specs.declared.Refusal.the-variants.{Misplaced, Full, Outside}
@@ -10,12 +9,11 @@ use Rattle.rules.specs.Limits.{tokenLimit}
 use Rattle.value.specs.declared.Value.{Value}
 use Rattle.value.specs.Decimal.{productOf}
 use Rattle.lexer.specs.Marks.{minusSign, sigmaWord}
-use Rattle.lexer.specs.Text.{Token}
 use Rattle.language.specs.Outcome.{Outcome, done, refused, orRefuse, fitting}
 use Rattle.language.specs.Syntax.{Spans, Name}
 use Rattle.language.specs.Reader.{Reader, Read, _>>=_, give, refuse, lift, next, look, isMark}
 use Rattle.language.specs.Formulas.{isSum, readSign}
-use Rattle.language.specs.Linear.{Head, aSigma, aVariable, aPrimary, headBy}
+use Rattle.language.specs.Linear.{aSigma, aVariable, aPrimary, headBy}
 use Rattle.language.specs.Scope.{Scope, bind, unbound}
 use Rattle.language.specs.Evaluation.{runOf, each, within}
 use Rattle.language.specs.Numbering.{Variable, numberOf, Row, xor, signed, addAt}

@@ -3,15 +3,13 @@ use mathlib.Core.Path.{_≡_, refl, sym, _∙_, ap, subst, subst₂}
 use mathlib.Core.Bool.{Bool}
 use mathlib.Core.List.{List, [], map}
 use Prim.Native.Nat.{ℕ, _≤_}
-use native.Mathlib.Omega.{arith}
-use lib.ListN.{length, getD}
+use lib.ListN.{length}
 use lib.IntN.{ℤ}
 use Rattle.rules.specs.declared.Refusal.{Refusal}
 use Rattle.rules.specs.Limits.{nestingLimit, variableLimit}
 use Rattle.language.specs.Outcome.{Outcome, done, refused, _>>=_}
 use Rattle.language.specs.All.{All}
 use Rattle.language.proofs.All.{in-all, all-weaken}
-use Rattle.language.specs.Listed.{In}
 use Rattle.language.specs.Syntax.{Name, Constraint}
 use Rattle.language.specs.Scope.{Scope}
 use Rattle.language.specs.Store.{allGiven}
@@ -20,8 +18,6 @@ use Rattle.language.specs.Numbering.{Variable, Row, Entry, Lp, signed, addVaria
 use Rattle.language.proofs.Entries.{entries-grown, entry-made}
 use Rattle.tokens.specs.Stored.{Stands, rowsOf}
 use Rattle.constraints.specs.Rows.{Rows}
-use Rattle.parser.specs.Parsed.{FormAt}
-use Rattle.store.specs.Entries.{Numbered}
 use Rattle.evaluator.specs.declared.Passed.{Passed}
 use Rattle.evaluator.specs.declared.Passed.the-variants as passed
 use Rattle.evaluator.specs.Tables.{World}
@@ -29,7 +25,7 @@ use Rattle.evaluator.specs.Cycle.{nothingBound, passedOutcome}
 use Rattle.problem.specs.Missing.Given.{AllGiven}
 use Rattle.problem.specs.declared.variables.Counted.{Counted}
 use Rattle.problem.specs.declared.variables.Counted.the-variants as counted
-use Rattle.problem.specs.Variables.Numbers.{Below, Counts, Counting, NumbersAs}
+use Rattle.problem.specs.Variables.Numbers.{Below, Counting, NumbersAs}
 use Rattle.rows.specs.declared.Filled.{Filled}
 use Rattle.rows.specs.Slots.{countsAt, objectiveRow, ObjectiveHeld}
 use Rattle.rows.specs.Counts.{RowOf}
@@ -38,7 +34,7 @@ use Rattle.rows.specs.Bounds.{BoundsHeld}
 use Rattle.gatherer.specs.Cycle.{Model as Gathering}
 use Rattle.matrix.specs.declared.Generated.{Generated}
 use Rattle.matrix.specs.declared.Generated.the-variants as generated
-use Rattle.matrix.specs.Answers.{Added, Adds, Objective, ObjectiveAdds, ObjectiveIs, Stays, Generates}
+use Rattle.matrix.specs.Answers.{Adds, Objective, ObjectiveAdds, ObjectiveIs, Stays, Generates}
 use Rattle.problem.specs.declared.Problem.{Problem}
 use Rattle.problem.specs.declared.Problem.the-variants as problem
 use Rattle.problem.specs.Problem.{Poses, KeyedVariable, FromConstraint, Holds, Generating, Numbers, ShapesAs, GeneratesAs}

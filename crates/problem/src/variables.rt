@@ -5,8 +5,7 @@ use evaluator::Context;
 use evaluator::steps::names;
 use evaluator::steps::scope::Scope;
 use tokens::sorts;
-ghost use mathlib.Core.Path.{_≡_};
-ghost use Prim.Native.Nat.{_<_, _≤_};
+ghost use Prim.Native.Nat.{_≤_};
 ghost use lib.ListN.{length};
 ghost use Rattle.problem.specs.Variables.Numbers.{AddsName, AddsSort, NumbersAs};
 

@@ -7,7 +7,7 @@ use mathlib.Core.Bool.{Bool, true, false}
 use lib.Dec.{T}
 use Prim.Native.Nat.{ℕ, _*_, _<_}
 use lib.IntN.{ℤ, pos, negℤ, _+ℤ_, _*ℤ_, negℤ-negℤ, +ℤ-invr, zero-*ℤ}
-use lib.Signed.{_≤ℤ_, leZ, leZ-yes, shrZ, ≤ℤ-refl}
+use lib.Signed.{_≤ℤ_, leZ-yes, ≤ℤ-refl}
 use Rattle.rational.proofs.Integer.{ringℤ, *ℤ-id, *ℤ-negℤ, negℤ-*ℤ, negℤ-mono, +ℤ-mono, *ℤ-mono, *ℤ-mono-up, *ℤ-cancel-≤, ≤ℤ-trans, ≤ℤ-antisym, ≤ℤ-of-≡, ≤ℤ-total, leZ-false, shrZ-is}
 use Rattle.rational.specs.Fraction.{Fraction, _≈_, _≼_, _⊕_, _⊖_, _⊗_, opposite, integer, isAtMost, wholePart}
 

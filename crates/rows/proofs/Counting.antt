@@ -15,7 +15,7 @@ use mir.Val.{SFits}
 use Rattle.rules.specs.Limits.{scaleLimit}
 use Rattle.value.specs.declared.Value.{Value}
 use Rattle.value.specs.declared.Fit.the-variants.{Fits}
-use Rattle.rational.specs.Fraction.{_≈_, opposite}
+use Rattle.rational.specs.Fraction.{opposite}
 use Rattle.rational.proofs.Fraction.{opposite-cong}
 use Rattle.value.specs.Decimal.{zeroValue, tenths, negate}
 use Rattle.value.specs.Gathering.{millionths, ofMillionths, countLimit}

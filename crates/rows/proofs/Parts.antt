@@ -1,7 +1,6 @@
 -- Laws of a part of a matrix that is lent and put back: its own row, and all others. Assumes nothing.
-use mathlib.Core.Path.{_≡_, refl, sym, _∙_, ap}
+use mathlib.Core.Path.{_≡_, sym, _∙_, ap}
 use mathlib.Core.List.{List, _++_}
-use mathlib.Core.Logic.{⊎-elim}
 use Prim.Native.Nat.{ℕ, _+_, _-_, _*_, _<_, _≤_}
 use native.Mathlib.Omega.{arith}
 use lib.IntN.{ℤ}

@@ -2,21 +2,20 @@
 use mathlib.Core.Path.{_≡_, refl, sym, _∙_, ap, subst}
 use mathlib.Core.Bool.{Bool, true, false, cond}
 use mathlib.Core.List.{List, [], _∷_, _++_, append-nil}
-use mathlib.Core.Logic.{_⊎_, inl, inr}
+use mathlib.Core.Logic.{inl, inr}
 use Prim.Native.Nat.{ℕ, zero, suc, _+_, _-_, _*_, _/_, _<_, _≤_}
 use native.Mathlib.Omega.{arith}
 use borrow.Author.Tests.{lt-ltb, le-ltb, ltb-true, ltb-false}
 use lib.Dec.{ltb}
 use lib.IntN.{ℤ}
-use lib.ListN.{length, getD, set, length-append}
+use lib.ListN.{length, set, length-append}
 use lib.Seq.{getD-set-other}
 use Rattle.rules.specs.Limits.{rowLimit}
 use Rattle.value.specs.declared.Value.{Value}
 use Rattle.value.specs.Decimal.{Valid}
-use Rattle.language.specs.Syntax.{Relation}
 use Rattle.language.specs.Listed.{At}
 use Rattle.language.proofs.Listed.{Split, at-append, at-length}
-use Rattle.language.specs.Numbering.{Variable, Row, Fact, Entry, isRow, isEqual, keep, anyRow, lessRow, equalRow}
+use Rattle.language.specs.Numbering.{Variable, Row, Entry, isRow, isEqual, keep, anyRow, lessRow, equalRow}
 use Rattle.language.specs.Listing.{rightOf, coefficientsOf}
 use Rattle.store.specs.declared.Key.{Key}
 use Rattle.store.specs.Key.{keyNumber, keyOf}

@@ -2,7 +2,6 @@
 // lends. Every public function is total: it answers for any slice, any number of rows and any numbers in a struct.
 // What a table holds is said in specs/Entries.antt, and kept by the laws of proofs/Held.antt.
 ghost use mathlib.Core.Path.{_≡_};
-ghost use mathlib.Core.Bool.{true, false};
 ghost use mathlib.Core.List.{[]};
 ghost use Prim.Native.Nat.{_+_, _*_, _<_, _≤_, _^_};
 ghost use lib.ListN.{length, getD};

@@ -1,19 +1,19 @@
 -- ℤ: sizes of sums and products, signs, what the machine reads of a signed number, and a set for ring identities.
 -- Assumes nothing.
-use mathlib.Core.Path.{_≡_, refl, sym, _∙_, ap, subst}
+use mathlib.Core.Path.{_≡_, refl, _∙_, ap, subst}
 use mathlib.Core.Bool.{Bool, true, false, cond}
 use Prim.Native.Nat.{ℕ, zero, suc, _+_, _-_, _*_, _^_, _<_, _≤_}
 use native.Mathlib.Omega.{arith}
 use native.Mathlib.Nat.{mul-suc, add-suc}
 use borrow.Author.Tests.{ltb-true, ltb-false}
 use lib.Dec.{T, ltb}
-use lib.IntN.{ℤ, pos, negsuc, negℤ, natAbs, subℕ, _+ℤ_, _-ℤ_, _*ℤ_, negℤ-negℤ, +ℤ-idl, +ℤ-one, +ℤ-assoc, +ℤ-comm, *ℤ-comm}
+use lib.IntN.{ℤ, pos, negsuc, negℤ, natAbs, subℕ, _+ℤ_, _-ℤ_, _*ℤ_, negℤ-negℤ, +ℤ-idl, +ℤ-one}
 use lib.Signed.{mag, ltZ, nonNeg}
 use mir.Syntax.{w64}
 use mir.Val.{SFits, toZ, ofZ}
 use mir.Facts.{toZ-ofZ}
 use Rattle.value.specs.Decimal.{withSign}
-use Rattle.rational.proofs.Integer.{*ℤ-assoc, *ℤ-+ℤ, negℤ-*ℤ}
+use Rattle.rational.proofs.Integer.{negℤ-*ℤ}
 
 -- ---- sizes
 

@@ -1,17 +1,16 @@
 -- Laws of ℚ, each a law of fractions, carried over: a commutative ring with an order, and the whole part.
-use mathlib.Core.Path.{_≡_, refl, sym, _∙_, ap, subst, subst₂, fun-ext}
-use mathlib.Core.HLevel.{→-set, →-prop, ×-prop}
-use mathlib.Core.Bool.{Bool, true, false, Bool-set}
+use mathlib.Core.Path.{_≡_, refl, sym, _∙_, ap, subst, subst₂}
+use mathlib.Core.HLevel.{→-prop, ×-prop}
+use mathlib.Core.Bool.{true, false}
 use mathlib.Core.Logic.{_↔_}
 use mathlib.Core.Quot
-use mathlib.Core.Quot.{Quot·mk, Quot·sound, Quot·lift, Quot-set}
 use Prim.Native.Nat.{ℕ, _<_}
 use lib.Dec.{T, T-prop, lit<}
-use lib.IntN.{ℤ, pos, negsuc, _+ℤ_, _*ℤ_, negℤ, negℤ-negℤ, ℤ-set}
-use lib.Signed.{_≤ℤ_, leZ, leZ-yes, shrZ, ≤ℤ-refl}
-use Rattle.rational.proofs.Integer.{≤ℤ-antisym, ≤ℤ-prop, negℤ-mono, *ℤ-id, leZ-false, shrZ-is}
+use lib.IntN.{ℤ, pos, negsuc, _+ℤ_, _*ℤ_, negℤ, negℤ-negℤ}
+use lib.Signed.{_≤ℤ_, ≤ℤ-refl}
+use Rattle.rational.proofs.Integer.{≤ℤ-antisym, ≤ℤ-prop, negℤ-mono}
 use Rattle.rational.specs.Fraction
-use Rattle.rational.specs.Fraction.{Fraction, _≈_, _≼_, opposite, integer, isAtMost, wholePart}
+use Rattle.rational.specs.Fraction.{Fraction, _≈_, _≼_, opposite, integer}
 use Rattle.rational.proofs.Fraction as Law
 use Rattle.value.specs.Rational.{ℚ, rational, ℚ-set, sound, lift₂, _⊕_, _⊗_, neg, whole, 𝟎, 𝟏, part, atMost, _⊑_, floor, ceiling}
 

@@ -3,8 +3,8 @@
 use mathlib.Core.Path.{_≡_}
 use mathlib.Core.Bool.{Bool, true, false, cond, _&&_}
 use mathlib.Core.List.{List}
-use Prim.Native.Nat.{ℕ, _-_, _^_, _<_, _≤_}
-use lib.Dec.{leb, ltb}
+use Prim.Native.Nat.{ℕ, _-_, _^_, _<_}
+use lib.Dec.{ltb}
 use lib.ListN.{length, getD, set}
 use lib.IntN.{ℤ, pos, natAbs, _+ℤ_, _*ℤ_}
 use Rattle.rules.specs.Limits.{scaleLimit}

@@ -1,7 +1,7 @@
 -- Document 01, "Values", printed: `-` if negative, a whole part without spare zeros, a point and s digits if s > 0.
 -- Assumes nothing.
 use mathlib.Core.Path.{_≡_}
-use mathlib.Core.Bool.{Bool, true, false, cond}
+use mathlib.Core.Bool.{true, false, cond}
 use mathlib.Core.List.{List, [], _∷_, _++_}
 use Prim.Native.Nat.{ℕ, zero, suc, _+_, _/_, _%_, _^_}
 use lib.Dec.{leb}

@@ -1,19 +1,16 @@
 -- ℚ, the exact numbers: fractions, equal where they are the same number. ℚ is their set quotient, so equality is a path, and
 -- `rw`, `simp` and `cc` apply. ℚ and its operations are shut: other modules use the laws of `proofs/Rational`. That an operation
 -- respects sameness is a law of fractions.
-use mathlib.Core.Path.{_≡_, refl, sym, _∙_, ap, subst, subst₂, fun-ext}
-use mathlib.Core.HLevel.{→-set, →-prop, ×-prop}
-use mathlib.Core.Bool.{Bool, true, false, Bool-set}
-use mathlib.Core.Logic.{_↔_}
+use mathlib.Core.Path.{_≡_, fun-ext}
+use mathlib.Core.HLevel.{→-set}
+use mathlib.Core.Bool.{Bool, Bool-set}
 use mathlib.Core.Quot
 use mathlib.Core.Quot.{Quot·mk, Quot·sound, Quot·lift, Quot-set}
 use Prim.Native.Nat.{ℕ, _<_}
-use lib.Dec.{T, T-prop, lit<}
-use lib.IntN.{ℤ, pos, negsuc, _+ℤ_, _*ℤ_, negℤ, negℤ-negℤ, ℤ-set}
-use lib.Signed.{_≤ℤ_, leZ, leZ-yes, shrZ, ≤ℤ-refl}
-use Rattle.rational.proofs.Integer.{≤ℤ-antisym, ≤ℤ-prop, negℤ-mono, *ℤ-id, leZ-false, shrZ-is}
+use lib.Dec.{T}
+use lib.IntN.{ℤ, pos, negℤ, ℤ-set}
 use Rattle.rational.specs.Fraction
-use Rattle.rational.specs.Fraction.{Fraction, _≈_, _≼_, opposite, integer, isAtMost, wholePart}
+use Rattle.rational.specs.Fraction.{Fraction, _≈_, opposite, integer, isAtMost, wholePart}
 use Rattle.rational.proofs.Fraction as Law
 
 unfoldable pub ℚ : Type 0

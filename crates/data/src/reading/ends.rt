@@ -3,7 +3,6 @@ use lexer::marks;
 use tokens::Move;
 use tokens::Seen;
 use tokens::kinds;
-ghost use mathlib.Core.Path.{_≡_};
 ghost use Rattle.language.specs.Reader.{readString};
 ghost use Rattle.language.specs.Data.{readClose, readEnd};
 ghost use Rattle.data.specs.Reading.Readers.{Says, titled, passed};

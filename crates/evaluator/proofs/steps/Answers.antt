@@ -1,11 +1,10 @@
 -- Laws of the steps on values: what each answers, and that it is what the definition says of values. Assumes nothing.
-use mathlib.Core.Path.{_≡_, refl, sym, _∙_, ap, subst}
-use mathlib.Core.Bool.{Bool, true, false, cond, not}
-use mathlib.Core.Option.{Option, none, some}
+use mathlib.Core.Path.{_≡_, refl, _∙_, ap}
+use mathlib.Core.Bool.{Bool, true, false, cond}
 use mathlib.Core.List.{List}
-use Prim.Native.Nat.{ℕ, _/_, _%_, _^_, _<_, _≤_}
+use Prim.Native.Nat.{ℕ, _/_, _%_, _^_, _<_}
 use native.Mathlib.Omega.{arith}
-use lib.IntN.{ℤ, pos, natAbs}
+use lib.IntN.{ℤ, pos}
 use lib.Signed.{mag}
 use mir.Syntax.{w64}
 use mir.Val.{Fits, toZ, ofZ}

@@ -3,32 +3,30 @@ use mathlib.Core.Path.{_≡_, refl, sym, _∙_, ap, subst}
 use mathlib.Core.Bool.{Bool, true, false, cond}
 use mathlib.Core.Option.{Option, none, some}
 use mathlib.Core.List.{List, [], _∷_, map}
-use Prim.Native.Nat.{ℕ, zero, suc, _+_, _-_, _*_, _/_, _%_, _<_, _≤_}
+use Prim.Native.Nat.{ℕ, zero, suc, _+_, _-_, _*_, _<_, _≤_}
 use native.Mathlib.Omega.{arith}
 use borrow.Author.Tests.{lt-ltb, le-ltb, eq-eqb, ne-eqb, eqb-true, ltb-true, ltb-false}
 use lib.Dec.{eqb, ltb}
 use lib.ListN.{length, length-set, getD, set, drop, take, getElem?, length-map, List·getD-eq-default}
 use Rattle.rules.specs.declared.Refusal.{Refusal}
 use Rattle.rules.specs.Limits.{nameLimit}
-use Rattle.lexer.specs.Text.{Token, Kind, sameBytes}
+use Rattle.lexer.specs.Text.{Token, sameBytes}
 use Rattle.lexer.specs.Text
-use Rattle.language.specs.Outcome.{done}
 use Rattle.language.specs.Syntax.{Name, Sort}
-use Rattle.language.specs.Reader.{Used, find, follow, next}
+use Rattle.language.specs.Reader.{Used, find}
 use Rattle.tokens.specs.declared.Found.{Found}
 use Rattle.tokens.specs.declared.Found.the-variants as found
 use Rattle.tokens.specs.declared.Seen.{Seen}
 use Rattle.tokens.specs.declared.Seen.the-variants as seen
 use Rattle.tokens.specs.Stored.{kindPart, placePart, payloadPart, nameBytes, spelling, kindOf, token, view, from, Sees, Looks, lookUp, Shaped, Named}
-use Rattle.tokens.proofs.Tables.{view-here, view-end, Declared, declared, not-declared}
+use Rattle.tokens.proofs.Tables.{view-here, view-end, declared, not-declared}
 use Rattle.tokens.proofs.Moved.{next-is}
-use Rattle.onepass.specs.Walk.{skip, usedNumber, nameNumber, walkHead}
+use Rattle.onepass.specs.Walk.{usedNumber, nameNumber, walkHead}
 use Rattle.evaluator.specs.declared.steps.names.Listed.{Listed}
 use Rattle.evaluator.specs.declared.steps.names.Listed.the-variants as listed
-use Rattle.evaluator.specs.declared.steps.names.Headed.{Headed}
 use Rattle.evaluator.specs.declared.steps.names.Headed.the-variants.{Index, Refused}
 use Rattle.evaluator.specs.Steps.Passing.{Skips}
-use Rattle.evaluator.specs.Steps.Names.{numberPart, numberFound, wordSpelling, Resolved, numberKept, resolvedWord, Resolves, rowWord, listedOf, numberBelow, indexNumber, headOutcome, Heads}
+use Rattle.evaluator.specs.Steps.Names.{numberPart, numberFound, wordSpelling, Resolved, numberKept, resolvedWord, Resolves, rowWord, listedOf, numberBelow, indexNumber, Heads}
 
 -- ---- a number in a word
 

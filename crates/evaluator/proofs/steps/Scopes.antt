@@ -15,7 +15,7 @@ use mir.Val.{SFits, toZ, ofZ}
 use Rattle.rules.specs.Limits.{mantissaLimit, indexLimit}
 use Rattle.value.specs.declared.Value.{Value}
 use Rattle.value.proofs.Integers.{back}
-use Rattle.language.specs.Scope.{Binding, Scope, bind, unbound, boundTo}
+use Rattle.language.specs.Scope.{Binding, bind, unbound, boundTo}
 use Rattle.language.specs.Evaluation.{isNone}
 use Rattle.evaluator.specs.declared.steps.scope.Scope.{Scope as Held}
 use Rattle.evaluator.specs.declared.steps.scope.Bound.{Bound}

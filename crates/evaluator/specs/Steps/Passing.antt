@@ -1,6 +1,5 @@
 -- What code passes over, against the walks of the definition, for every text. Assumes nothing.
 use mathlib.Core.Path.{_≡_}
-use mathlib.Core.Bool.{Bool}
 use mathlib.Core.List.{List}
 use Prim.Native.Nat.{ℕ}
 use Rattle.language.specs.Outcome.{Outcome, done, refused}

@@ -1,7 +1,6 @@
 // Tokens that are passed over: they were read before, and what stands there is not tested again.
 use lexer::marks;
 use tokens::Seen;
-ghost use mathlib.Core.Path.{_≡_};
 ghost use Rattle.evaluator.specs.Steps.Passing.{Skips, Ends, Leads};
 
 // Whether a minus stands there, and the position behind the optional sign.

@@ -1,5 +1,4 @@
 -- `generator::behind_brace` meets its contract. Assumes nothing.
-use native.Mathlib.Omega.{arith}
 use borrow.Author.Needs.{needs}
 use Rattle.generator.proofs.Listings.{brace-inside, brace-outside}
 use Rattle.generator.proofs.behind_brace.Statement.{statement}

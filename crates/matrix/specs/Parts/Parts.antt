@@ -4,14 +4,12 @@ use mathlib.Core.Path.{_≡_}
 use mathlib.Core.List.{List, [], _∷_}
 use Prim.Native.Nat.{ℕ, _+_, _*_, _≤_}
 use lib.ListN.{getD}
-use Rattle.rules.specs.Limits.{nestingLimit, indexLimit}
-use Rattle.lexer.specs.Text.{Token}
-use Rattle.language.specs.Outcome.{done}
+use Rattle.rules.specs.Limits.{nestingLimit}
 use Rattle.language.specs.Syntax.{Name, Spans, Constraint}
 use Rattle.language.specs.Reader.{Titled, readString, readIndex}
 use Rattle.language.specs.Formulas.{formulaAt, inDomain, entriesOf, optionalDomain}
 use Rattle.language.specs.Numbering.{flips, isEqual}
-use Rattle.tokens.specs.Stored.{from, size, Named, Stands}
+use Rattle.tokens.specs.Stored.{size, Named, Stands}
 use Rattle.evaluator.specs.Tables.{DomainAt}
 use Rattle.constraints.specs.Rows.{SideAt, RowOf}
 use Rattle.rows.specs.Bounds.{statesLower, statesUpper}

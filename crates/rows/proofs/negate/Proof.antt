@@ -1,5 +1,5 @@
 -- `rows::negate` meets its contract. Assumes nothing.
-use mathlib.Core.Path.{refl, _∙_}
+use mathlib.Core.Path.{_∙_}
 use Prim.Native.Nat.{_-_}
 use lib.ListN.{length}
 use Rattle.rows.specs.Counts.{opposed}

@@ -1,6 +1,5 @@
 -- `passing::behind_bracket` meets its contract. Assumes nothing.
 use Prim.Native.Nat.{_-_}
-use native.Mathlib.Omega.{arith}
 use lib.ListN.{length}
 use Rattle.evaluator.proofs.steps.Passed.{Open, open-start, open-end, open-more, open-closed, open-less, open-other}
 use borrow.Author.Needs.{needs}

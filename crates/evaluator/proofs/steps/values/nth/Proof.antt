@@ -1,6 +1,5 @@
 -- `values::nth` meets its contract. Assumes nothing.
 use Rattle.evaluator.proofs.steps.Runs.{nth-cast, nth-fits, nth-is}
-use borrow.Author.Needs.{needs}
 use Rattle.evaluator.proofs.steps.values.nth.Statement.{statement}
 use Rattle.evaluator.proofs.steps.values.nth.Tie as tie
 

@@ -1,6 +1,5 @@
 -- `values::span` meets its contract. Assumes nothing.
 use Rattle.evaluator.proofs.steps.Runs.{span-fits, span-cast, span-sum, span-count}
-use borrow.Author.Needs.{needs}
 use Rattle.evaluator.proofs.steps.values.span.Statement.{statement}
 use Rattle.evaluator.proofs.steps.values.span.Tie as tie
 
