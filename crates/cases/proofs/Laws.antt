@@ -1,4 +1,4 @@
--- Laws over plain variables that answer the code's needs. Assumes nothing.
+-- Laws over plain variables that answer the code's needs.
 use mathlib.Core.Path.{_≡_, refl, _∙_}
 use mathlib.Core.List.{List, [], _∷_}
 use Prim.Native.Nat.{ℕ, zero, suc, _+_, _-_, _<_, _≤_, min}

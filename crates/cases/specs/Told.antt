@@ -1,4 +1,4 @@
--- The line that tells of an answer. Assumes nothing.
+-- The line that tells of an answer.
 use mathlib.Core.List.{List, [], _∷_, _++_}
 use Prim.Native.Nat.{ℕ, zero, suc, _+_}
 use Rattle.language.specs.Listing.{fields}

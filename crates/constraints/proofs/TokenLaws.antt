@@ -1,4 +1,4 @@
--- Laws of strings, relations and objectives, over plain variables. Assumes nothing.
+-- Laws of strings, relations and objectives, over plain variables.
 use mathlib.Core.Path.{_≡_, refl, sym, _∙_, ap, subst}
 use mathlib.Core.Bool.{Bool, true, false, cond, _||_}
 use mathlib.Core.Option.{Option, none, some}

@@ -1,4 +1,4 @@
--- The readers of constraints, each a function of the names. Assumes nothing.
+-- The readers of constraints, each a function of the names.
 use mathlib.Core.Bool.{Bool}
 use mathlib.Core.List.{List}
 use Prim.Native.Nat.{ℕ}

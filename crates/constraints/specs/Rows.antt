@@ -1,4 +1,4 @@
--- What code tells of what it read, and what a table of constraints tells of them. Assumes nothing.
+-- What code tells of what it read, and what a table of constraints tells of them.
 use mathlib.Core.Path.{_≡_}
 use mathlib.Core.Bool.{Bool}
 use mathlib.Core.List.{List, [], _∷_}

@@ -1,4 +1,4 @@
--- Laws of one number over plain variables: its tests, and its row in the store. Assumes nothing.
+-- Laws of one number over plain variables: its tests, and its row in the store.
 use mathlib.Core.Path.{_≡_, refl, sym, _∙_, ap, subst}
 use mathlib.Core.Bool.{Bool, true, false}
 use mathlib.Core.List.{List}

@@ -1,4 +1,4 @@
--- Laws of a portion carried out over plain variables: the positions still to run, and the turns of a run. Assumes nothing.
+-- Laws of a portion carried out over plain variables: the positions still to run, and the turns of a run.
 use mathlib.Core.Path.{_≡_, refl, sym, _∙_, ap, subst}
 use mathlib.Core.List.{List, [], _∷_}
 use Prim.Native.Nat.{ℕ, zero, suc, _+_, _-_, _<_, _≤_, _^_}

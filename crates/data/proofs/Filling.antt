@@ -1,4 +1,4 @@
--- Laws of the data section over plain variables: its portions, its ends. Assumes nothing.
+-- Laws of the data section over plain variables: its portions, its ends.
 use mathlib.Core.Path.{_≡_, refl, sym, _∙_, ap, subst}
 use mathlib.Core.Bool.{Bool, true, false}
 use mathlib.Core.List.{List, []}

@@ -1,4 +1,4 @@
--- Laws of a portion from its name on over plain variables. Assumes nothing.
+-- Laws of a portion from its name on over plain variables.
 use mathlib.Core.Path.{_≡_, refl, sym, _∙_, ap, subst}
 use mathlib.Core.Bool.{Bool, true, false, _||_}
 use mathlib.Core.Option.{some}

@@ -1,4 +1,4 @@
--- Laws of the positions of a portion over plain variables: its element, and the scope of a position. Assumes nothing.
+-- Laws of the positions of a portion over plain variables: its element, and the scope of a position.
 use mathlib.Core.Path.{_≡_, refl, sym, _∙_, ap, subst}
 use mathlib.Core.Bool.{Bool, true, false}
 use mathlib.Core.Option.{Option, none, some}

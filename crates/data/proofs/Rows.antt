@@ -1,4 +1,4 @@
--- Laws of the store's table: what it holds by name and element, and one datum more. Assumes nothing.
+-- Laws of the store's table: what it holds by name and element, and one datum more.
 use mathlib.Core.Path.{_≡_, refl, sym, _∙_, ap, subst}
 use mathlib.Core.Bool.{Bool, true, false, cond, _&&_}
 use mathlib.Core.Option.{Option, none, some}

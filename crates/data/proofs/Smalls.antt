@@ -1,4 +1,4 @@
--- Where the literals of the tokens are values, a portion's fixed entries are small and its numbers are values. Assumes nothing.
+-- Where the literals of the tokens are values, a portion's fixed entries are small and its numbers are values.
 use mathlib.Core.Path.{_≡_, refl, sym, _∙_, ap, subst}
 use mathlib.Core.Bool.{Bool, true, false, cond}
 use mathlib.Core.Option.{some}

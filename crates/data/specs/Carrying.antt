@@ -1,4 +1,4 @@
--- A portion carried out from one of its positions on. Assumes nothing.
+-- A portion carried out from one of its positions on.
 use mathlib.Core.List.{List}
 use Prim.Native.Nat.{ℕ, _+_, _≤_}
 use lib.ListN.{getD, drop}

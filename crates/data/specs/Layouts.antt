@@ -1,4 +1,4 @@
--- A declared domain laid out. Assumes nothing.
+-- A declared domain laid out.
 use mathlib.Core.Path.{_≡_}
 use mathlib.Core.List.{List, [], _∷_}
 use Prim.Native.Nat.{ℕ, _<_, _≤_}

@@ -1,4 +1,4 @@
--- A portion from its name on: its head, and its numbers taken into the store. Assumes nothing.
+-- A portion from its name on: its head, and its numbers taken into the store.
 use mathlib.Core.Path.{_≡_}
 use mathlib.Core.Bool.{Bool, true, false}
 use mathlib.Core.Option.{some}

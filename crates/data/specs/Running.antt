@@ -1,4 +1,4 @@
--- The positions of a portion that run. Assumes nothing.
+-- The positions of a portion that run.
 use mathlib.Core.Path.{_≡_}
 use mathlib.Core.Option.{Option, none, some}
 use mathlib.Core.List.{List, [], _∷_}

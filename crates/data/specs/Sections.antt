@@ -1,4 +1,4 @@
--- The data section and the text's end. Assumes nothing.
+-- The data section and the text's end.
 use mathlib.Core.Path.{_≡_}
 use mathlib.Core.Bool.{true, false}
 use mathlib.Core.List.{List, []}

@@ -1,4 +1,4 @@
--- The store as a table of rows, and a number's row in it. Assumes nothing.
+-- The store as a table of rows, and a number's row in it.
 use mathlib.Core.Path.{_≡_}
 use mathlib.Core.List.{List, _∷_, map}
 use Prim.Native.Nat.{ℕ}

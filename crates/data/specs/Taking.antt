@@ -1,4 +1,4 @@
--- One number taken into the store. Assumes nothing.
+-- One number taken into the store.
 use mathlib.Core.Path.{_≡_}
 use mathlib.Core.Bool.{Bool}
 use mathlib.Core.List.{List}

@@ -1,4 +1,4 @@
--- Laws of declared domains over plain variables. Assumes nothing.
+-- Laws of declared domains over plain variables.
 use mathlib.Core.Path.{_≡_, refl, sym, _∙_, ap, subst}
 use mathlib.Core.Bool.{Bool, true, false, _&&_, not}
 use mathlib.Core.List.{List, [], _∷_}

@@ -1,4 +1,4 @@
--- Laws of one entry of a list, over plain variables. Assumes nothing.
+-- Laws of one entry of a list, over plain variables.
 use mathlib.Core.Path.{_≡_, refl, sym, _∙_, ap, subst}
 use mathlib.Core.Bool.{Bool, true, false, not}
 use mathlib.Core.List.{List}

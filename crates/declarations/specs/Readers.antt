@@ -1,4 +1,4 @@
--- The readers of declarations, each a function of the names. Assumes nothing.
+-- The readers of declarations, each a function of the names.
 use mathlib.Core.Bool.{Bool, true, false, _&&_, not}
 use mathlib.Core.List.{List, [], _∷_}
 use Prim.Native.Nat.{ℕ, zero, suc, _-_, _+_}

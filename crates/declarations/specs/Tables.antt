@@ -1,4 +1,4 @@
--- What code tells of what it read, and what the name table tells of the declared names. Assumes nothing.
+-- What code tells of what it read, and what the name table tells of the declared names.
 use mathlib.Core.Path.{_≡_}
 use mathlib.Core.Bool.{Bool}
 use mathlib.Core.List.{List, [], _∷_, _++_}

@@ -1,4 +1,4 @@
--- The readers of a constraint's domain, each a function of the names. Assumes nothing.
+-- The readers of a constraint's domain, each a function of the names.
 use mathlib.Core.List.{List}
 use Prim.Native.Nat.{ℕ}
 use Rattle.language.specs.Syntax.{Name, Spans}

@@ -1,5 +1,4 @@
 -- The runs that code holds as runs of the definition: what they bind, one more, the outermost, the i-th; small ones.
--- Assumes nothing.
 use mathlib.Core.Path.{_≡_, refl, sym, _∙_, ap}
 use mathlib.Core.Bool.{Bool, true, false, not}
 use mathlib.Core.Option.{Option}

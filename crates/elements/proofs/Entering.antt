@@ -1,4 +1,4 @@
--- Laws of the first element inside some runs: each answer of `inside` and `turns`. Assumes nothing.
+-- Laws of the first element inside some runs: each answer of `inside` and `turns`.
 use mathlib.Core.Path.{_≡_, refl, sym, _∙_, ap, subst}
 use mathlib.Core.Bool.{Bool, true, false, not}
 use mathlib.Core.List.{List, [], _∷_, _++_, append-nil, append-assoc}

@@ -1,4 +1,4 @@
--- A step at each element of a domain is a step at each element that its walk reaches, and then the walk's end. Assumes nothing.
+-- A step at each element of a domain is a step at each element that its walk reaches, and then the walk's end.
 use mathlib.Core.Path.{_≡_, refl, sym, _∙_, ap, fun-ext}
 use mathlib.Core.List.{List, [], _∷_}
 use lib.IntN.{ℤ}

@@ -1,4 +1,4 @@
--- Laws of the element after an element: each answer of `after`. Assumes nothing.
+-- Laws of the element after an element: each answer of `after`.
 use mathlib.Core.Path.{_≡_, refl, sym, _∙_, ap, subst, subst₂}
 use mathlib.Core.Bool.{Bool, true, false, not}
 use mathlib.Core.Logic.{inl, inr}

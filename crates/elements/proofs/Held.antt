@@ -1,4 +1,4 @@
--- Laws of the runs that code holds: one more, the i-th, the outermost, their numbers and what they bind. Assumes nothing.
+-- Laws of the runs that code holds: one more, the i-th, the outermost, their numbers and what they bind.
 use mathlib.Core.Path.{_≡_, refl, sym, _∙_, ap}
 use mathlib.Core.List.{List, [], _∷_, map}
 use Prim.Native.Nat.{ℕ, zero, suc, _^_, _<_, _≤_}

@@ -1,5 +1,5 @@
 -- The first element of a domain and the one after an element are found level by level; and what is reached at the tokens of a
--- domain is what its tree reaches. Assumes nothing.
+-- domain is what its tree reaches.
 use mathlib.Core.Path.{_≡_, refl, sym, _∙_, ap, fun-ext}
 use mathlib.Core.Logic.{inl, inr}
 use mathlib.Core.List.{List, [], _∷_}

@@ -1,5 +1,5 @@
 -- Laws for a caller's loop: it starts, goes on, ends or is refused, and what it does is `over`. At each turn the element's
--- numbers are small, and they rise from turn to turn. Assumes nothing.
+-- numbers are small, and they rise from turn to turn.
 use mathlib.Core.Path.{_≡_, refl, sym, _∙_, ap, subst, subst₂}
 use mathlib.Core.Logic.{_⊎_, inl, inr}
 use mathlib.Core.List.{List, [], _∷_, map}

@@ -1,4 +1,4 @@
--- Laws of a run's numbers: the next one fits and is small, and the run ends. Assumes nothing.
+-- Laws of a run's numbers: the next one fits and is small, and the run ends.
 use mathlib.Core.Path.{_≡_, refl, sym, _∙_}
 use mathlib.Core.Bool.{Bool, true, false, not}
 use Prim.Native.Nat.{ℕ, suc, _+_, _-_, _^_, _<_, _≤_}

@@ -1,4 +1,4 @@
--- The rank of an element falls where one of its runs goes on. Assumes nothing.
+-- The rank of an element falls where one of its runs goes on.
 use mathlib.Core.Path.{_≡_, subst}
 use mathlib.Core.Bool.{true}
 use mathlib.Core.List.{List, [], _∷_}

@@ -1,5 +1,4 @@
 -- The elements of a domain rise, the first index outermost; so none is reached twice, and what comes after one is one thing.
--- Assumes nothing.
 use mathlib.Core.Path.{_≡_, refl, sym, _∙_, ap, subst, subst₂}
 use mathlib.Core.Logic.{_⊎_, inl, inr}
 use mathlib.Core.List.{List, [], _∷_, _++_}

@@ -1,5 +1,5 @@
 -- Laws of a walk for each number from one limit to another: its first number, and what comes after a thing that is reached at one
--- of its numbers. Assumes nothing.
+-- of its numbers.
 use mathlib.Core.Path.{_≡_, refl, _∙_, ap}
 use mathlib.Core.Logic.{_⊎_, inl, inr}
 use mathlib.Core.List.{List, [], _∷_}

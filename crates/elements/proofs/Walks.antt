@@ -1,4 +1,4 @@
--- Laws of walks: one after another, what comes after a thing that is reached. Assumes nothing.
+-- Laws of walks: one after another, what comes after a thing that is reached.
 use mathlib.Core.Path.{_≡_, refl, sym, _∙_, ap}
 use mathlib.Core.Logic.{_⊎_, inl, inr}
 use mathlib.Core.List.{List, [], _∷_, _++_}

@@ -1,5 +1,5 @@
 -- The elements of a domain in the order in which `over` comes to them, as a list that ends as the walk ends: code cannot be
--- handed a step, so it asks for the first element and, after each, for the next. Assumes nothing.
+-- handed a step, so it asks for the first element and, after each, for the next.
 use mathlib.Core.Path.{_≡_}
 use mathlib.Core.Logic.{_⊎_}
 use mathlib.Core.List.{List, [], _∷_}

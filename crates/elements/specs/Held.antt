@@ -1,4 +1,4 @@
--- The runs under way as code holds them. Assumes nothing.
+-- The runs under way as code holds them.
 use mathlib.Core.Path.{_≡_}
 use mathlib.Core.Bool.{true, cond}
 use mathlib.Core.List.{List, [], _∷_, _++_, map}

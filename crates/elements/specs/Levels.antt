@@ -1,4 +1,4 @@
--- The elements of a domain while its tokens are walked, each as the runs that are under way at it. Assumes nothing.
+-- The elements of a domain while its tokens are walked, each as the runs that are under way at it.
 use mathlib.Core.List.{List, [], _∷_}
 use Prim.Native.Nat.{ℕ, zero, suc}
 use lib.IntN.{ℤ}

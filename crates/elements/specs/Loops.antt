@@ -1,4 +1,4 @@
--- A caller's loop: `first`, then its step and `next` by turns. What is still to be done at each turn. Assumes nothing.
+-- A caller's loop: `first`, then its step and `next` by turns. What is still to be done at each turn.
 use mathlib.Core.Path.{_≡_}
 use mathlib.Core.Logic.{_⊎_}
 use mathlib.Core.List.{List, []}

@@ -1,4 +1,4 @@
--- The places of declared names: word 0 of a name's row is the place that the definition gives it. Assumes nothing.
+-- The places of declared names: word 0 of a name's row is the place that the definition gives it.
 use mathlib.Core.Path.{_≡_}
 use mathlib.Core.Option.{some}
 use mathlib.Core.List.{List}

@@ -1,5 +1,5 @@
 -- What code answers, for every text, names and data that the tables hold: the first element inside some runs, and the element
--- after an element. Assumes nothing.
+-- after an element.
 use mathlib.Core.Path.{_≡_}
 use mathlib.Core.List.{List, [], _∷_, _++_}
 use Prim.Native.Nat.{ℕ, suc, _-_, _<_, _≤_}

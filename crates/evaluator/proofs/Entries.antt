@@ -1,4 +1,4 @@
--- Laws over plain variables for one entry of a domain. Assumes nothing.
+-- Laws over plain variables for one entry of a domain.
 use mathlib.Core.Path.{_≡_, sym, _∙_, ap, subst}
 use mathlib.Core.List.{List}
 use Prim.Native.Nat.{ℕ}

@@ -1,4 +1,4 @@
--- Laws over plain variables for the functions without loops. Assumes nothing.
+-- Laws over plain variables for the functions without loops.
 use mathlib.Core.Path.{_≡_, refl, sym, _∙_, ap, subst}
 use mathlib.Core.Bool.{Bool, true, false}
 use mathlib.Core.List.{List}

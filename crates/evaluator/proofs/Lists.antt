@@ -1,4 +1,4 @@
--- Laws over plain variables for subscripts and for the domain test. Assumes nothing.
+-- Laws over plain variables for subscripts and for the domain test.
 use mathlib.Core.Path.{_≡_, refl, sym, _∙_, ap, subst}
 use mathlib.Core.Bool.{true, _&&_}
 use mathlib.Core.List.{List, [], _∷_, _++_, append-nil}

@@ -1,5 +1,4 @@
 -- Laws over plain variables for the loops of terms and formulas: what is walked from here on is what is walked from the start.
--- Assumes nothing.
 use mathlib.Core.Path.{_≡_, refl, sym, _∙_, ap, subst}
 use mathlib.Core.Bool.{Bool, true, false, _||_}
 use mathlib.Core.List.{List}

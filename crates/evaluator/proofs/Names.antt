@@ -1,4 +1,4 @@
--- Laws over plain variables for a primary that is a name, and for a datum. Assumes nothing.
+-- Laws over plain variables for a primary that is a name, and for a datum.
 use mathlib.Core.Path.{_≡_, refl, sym, _∙_, ap, subst}
 use mathlib.Core.Bool.{true, false, _||_}
 use mathlib.Core.Option.{Option, none, some}

@@ -1,4 +1,4 @@
--- Laws over plain variables for primaries. Assumes nothing.
+-- Laws over plain variables for primaries.
 use mathlib.Core.Path.{_≡_, refl, sym, _∙_, subst}
 use mathlib.Core.Bool.{true, false, _||_}
 use mathlib.Core.List.{List, _∷_}

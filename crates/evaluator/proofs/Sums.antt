@@ -1,4 +1,4 @@
--- Laws over plain variables for a sum behind its word. Assumes nothing.
+-- Laws over plain variables for a sum behind its word.
 use mathlib.Core.Path.{_≡_, _∙_, ap, subst}
 use mathlib.Core.List.{List}
 use Prim.Native.Nat.{ℕ}

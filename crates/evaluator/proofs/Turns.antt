@@ -1,4 +1,4 @@
--- Laws over plain variables for the turns of a sum's run. Assumes nothing.
+-- Laws over plain variables for the turns of a sum's run.
 use mathlib.Core.Path.{_≡_, refl, sym, _∙_, ap, subst}
 use mathlib.Core.Bool.{false}
 use mathlib.Core.List.{List}

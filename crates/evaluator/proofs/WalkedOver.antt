@@ -1,4 +1,4 @@
--- A domain that is run while its tokens are walked does what the domain does that was read from them. Assumes nothing.
+-- A domain that is run while its tokens are walked does what the domain does that was read from them.
 use mathlib.Core.Path.{_≡_, refl, _∙_, ap}
 use mathlib.Core.List.{List, [], _∷_}
 use Prim.Native.Nat.{ℕ}

@@ -1,6 +1,5 @@
 -- What each function of the cycle answers: for every text, names and data that the tables hold, what the walk of the tokens from
 -- a position on gives under the bound indices. `level`: how many names are visible. `n`: how many brackets may still open.
--- Assumes nothing.
 use mathlib.Core.Path.{_≡_}
 use mathlib.Core.Bool.{true}
 use mathlib.Core.Option.{none, some}

@@ -1,4 +1,4 @@
--- What stays while data are read: a text, its names, and tokens that hold their numbers. Assumes nothing.
+-- What stays while data are read: a text, its names, and tokens that hold their numbers.
 use mathlib.Core.Path.{_≡_}
 use mathlib.Core.Bool.{Bool}
 use mathlib.Core.Option.{Option, some}

@@ -1,5 +1,4 @@
 -- The tables that evaluation reads, and what they hold: names, their declared formulas and domains, tokens and data.
--- Assumes nothing.
 use mathlib.Core.Path.{_≡_}
 use mathlib.Core.Bool.{Bool}
 use mathlib.Core.Option.{Option, none, some}

@@ -1,5 +1,5 @@
 -- A domain run while its tokens are walked, as code does that keeps tokens and no trees: like `over`, but each entry's limits are
--- walked anew at its tokens. One theorem (proofs/WalkedOver.antt) joins this to `over`. Assumes nothing.
+-- walked anew at its tokens. One theorem (proofs/WalkedOver.antt) joins this to `over`.
 use mathlib.Core.List.{List, [], _∷_}
 use Prim.Native.Nat.{ℕ, zero, suc}
 use lib.IntN.{ℤ}

@@ -1,4 +1,4 @@
--- Laws over plain variables for the loops. Assumes nothing.
+-- Laws over plain variables for the loops.
 use mathlib.Core.Path.{_≡_, refl, sym, _∙_, subst}
 use mathlib.Core.Bool.{Bool, true, false, _||_}
 use mathlib.Core.List.{List}

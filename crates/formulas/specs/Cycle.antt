@@ -1,4 +1,4 @@
--- The readers of formulas, each a function of the names, at the nesting that the code has. Assumes nothing.
+-- The readers of formulas, each a function of the names, at the nesting that the code has.
 use mathlib.Core.Path.{_≡_}
 use mathlib.Core.List.{List}
 use Prim.Native.Nat.{ℕ}

@@ -1,4 +1,4 @@
--- Laws over plain variables for the primaries before a variable or a sigma. Assumes nothing.
+-- Laws over plain variables for the primaries before a variable or a sigma.
 use mathlib.Core.Path.{_≡_, refl, sym, _∙_, ap, subst}
 use mathlib.Core.Bool.{Bool, true, false, _&&_}
 use mathlib.Core.List.{List}

@@ -1,4 +1,4 @@
--- Laws over plain variables for terms, forms, sigmas and bodies. Assumes nothing.
+-- Laws over plain variables for terms, forms, sigmas and bodies.
 use mathlib.Core.Path.{_≡_, refl, sym, _∙_, ap, subst}
 use mathlib.Core.Bool.{Bool, true, false, cond}
 use mathlib.Core.List.{List}

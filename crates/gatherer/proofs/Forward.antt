@@ -1,4 +1,4 @@
--- A walk never goes back: no more tokens are left than there were. So a sigma's body stands behind its word. Assumes nothing.
+-- A walk never goes back: no more tokens are left than there were. So a sigma's body stands behind its word.
 use mathlib.Core.Path.{_≡_, refl, sym, _∙_, ap, subst}
 use mathlib.Core.Bool.{Bool, true, false, cond}
 use mathlib.Core.Option.{Option, none, some}

@@ -1,5 +1,5 @@
 -- Laws over plain variables for the two loops that write the row: what is gathered from here on is what is gathered from the
--- start. Assumes nothing.
+-- start.
 use mathlib.Core.Path.{_≡_, refl, sym, _∙_, ap, subst}
 use mathlib.Core.Bool.{Bool, true, false, _||_}
 use mathlib.Core.List.{List}

@@ -1,4 +1,4 @@
--- Laws over plain variables for a variable's number, and for the variable that a token names. Assumes nothing.
+-- Laws over plain variables for a variable's number, and for the variable that a token names.
 use mathlib.Core.Path.{_≡_, refl, sym, _∙_, ap, subst}
 use mathlib.Core.Bool.{Bool, true, false, _||_, _&&_}
 use mathlib.Core.Option.{Option, none, some}

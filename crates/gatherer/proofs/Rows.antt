@@ -1,4 +1,4 @@
--- Laws of a row of counts: a coefficient added as the definition adds it. Assumes nothing.
+-- Laws of a row of counts: a coefficient added as the definition adds it.
 use mathlib.Core.Path.{_≡_, refl, sym, _∙_, ap, subst}
 use mathlib.Core.Bool.{Bool, true, false}
 use mathlib.Core.List.{List}

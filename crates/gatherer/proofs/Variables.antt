@@ -1,4 +1,4 @@
--- Laws over plain variables for a variable's coefficient, and for the run of a sigma. Assumes nothing.
+-- Laws over plain variables for a variable's coefficient, and for the run of a sigma.
 use mathlib.Core.Path.{_≡_, refl, sym, _∙_, ap, subst}
 use mathlib.Core.Bool.{Bool, true, false}
 use mathlib.Core.List.{List}

@@ -1,5 +1,5 @@
 -- What each function answers: for every text, names, data and variables that the tables hold, what the walk of the tokens from a
--- position on gathers. `level`: how many names are visible. `n`: how many brackets may still open. Assumes nothing.
+-- position on gathers. `level`: how many names are visible. `n`: how many brackets may still open.
 use mathlib.Core.Path.{_≡_}
 use mathlib.Core.Bool.{Bool, true, false, _&&_}
 use mathlib.Core.List.{List}

@@ -1,4 +1,4 @@
--- From what was generated to the answer, and from the answer to demand 3. Assumes nothing.
+-- From what was generated to the answer, and from the answer to demand 3.
 use mathlib.Core.Path.{_≡_, refl, sym, _∙_, ap, subst}
 use mathlib.Core.Bool.{true, false}
 use mathlib.Core.List.{List}

@@ -1,4 +1,4 @@
--- From the tables of a text to its listing. Assumes nothing.
+-- From the tables of a text to its listing.
 use mathlib.Core.Path.{_≡_, refl, sym, _∙_, ap, subst, subst₂}
 use mathlib.Core.Bool.{Bool, true, false, cond}
 use mathlib.Core.List.{List}

@@ -1,4 +1,4 @@
--- The contract of the public entry point. Assumes nothing.
+-- The contract of the public entry point.
 use mathlib.Core.Path.{_≡_}
 use mathlib.Core.Logic.{_↔_}
 use mathlib.Core.List.{List, _++_}

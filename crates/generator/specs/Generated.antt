@@ -1,4 +1,4 @@
--- What is generated from a text, before it is known whether the listing fits. Assumes nothing.
+-- What is generated from a text, before it is known whether the listing fits.
 use mathlib.Core.Path.{_≡_}
 use mathlib.Core.Bool.{cond}
 use mathlib.Core.List.{List}

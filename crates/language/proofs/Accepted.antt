@@ -1,5 +1,5 @@
 -- Demand 3 for every text and buffer length: where the answer's number is 0, the listing keeps the model's meaning, and its bytes
--- are those of no other lines. Assumes nothing.
+-- are those of no other lines.
 use mathlib.Core.Path.{_≡_, refl, sym, _∙_, ap, subst}
 use mathlib.Core.List.{List, _++_}
 use Prim.Native.Nat.{ℕ, _-_}

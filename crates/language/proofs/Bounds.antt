@@ -1,4 +1,4 @@
--- Bounds: the largest and the smallest of the stated values. Assumes nothing.
+-- Bounds: the largest and the smallest of the stated values.
 use mathlib.Core.Path.{_≡_, refl, sym, _∙_, ap, subst}
 use mathlib.Core.Logic.{_⊎_, inl, inr}
 use mathlib.Core.Bool.{Bool, true, false, cond}

@@ -1,6 +1,6 @@
 -- Document 01, "Proof cases" P1 to P12, its case with buffers around the listing's length, the empty text, the examples of "Why a
 -- model comes back", and data sections with negative numbers, orders and fixed entries: one table of questions and answers, which
--- antt computes over the definition. Assumes nothing.
+-- antt computes over the definition.
 use mathlib.Core.Path.{_≡_, refl}
 use mathlib.Core.Bool.{cond}
 use mathlib.Core.List.{List, [], _∷_, _++_, map}

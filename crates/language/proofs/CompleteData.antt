@@ -1,4 +1,4 @@
--- Every data section that is written, with portions that are in order, is read: `PhrasedData`, the other way round. Assumes nothing.
+-- Every data section that is written, with portions that are in order, is read: `PhrasedData`, the other way round.
 use mathlib.Core.Path.{_≡_, refl, sym, _∙_, ap, subst}
 use mathlib.Core.Bool.{Bool, true, false}
 use mathlib.Core.Option.{some}

@@ -1,5 +1,5 @@
 -- The tokens that count: those before the first `INIT`, `CLOSE`, end or refusal. A text has at most 4,096 of them, and every token of
--- a phrase is one of them, so that readers of the grammar leave fewer and fewer. Assumes nothing.
+-- a phrase is one of them, so that readers of the grammar leave fewer and fewer.
 use mathlib.Core.Path.{_≡_, refl, _∙_}
 use mathlib.Core.Bool.{Bool, true, false, cond}
 use mathlib.Core.List.{List, [], _∷_, _++_, append-assoc}

@@ -1,5 +1,5 @@
 -- What the portions of a data section give, where the rules write them and they are carried out in order: each its elements, no element
--- twice, and nothing besides. Assumes nothing.
+-- twice, and nothing besides.
 use mathlib.Core.Path.{_≡_, refl, sym, _∙_, ap, subst}
 use mathlib.Core.Bool.{Bool, true, false}
 use mathlib.Core.Option.{none, some}

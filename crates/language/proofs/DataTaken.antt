@@ -1,4 +1,4 @@
--- The readers of the data section put no token back, and a portion takes at least one. Assumes nothing.
+-- The readers of the data section put no token back, and a portion takes at least one.
 use mathlib.Core.Bool.{Bool, true, false, cond}
 use mathlib.Core.List.{List, [], _∷_}
 use Prim.Native.Nat.{ℕ, zero, suc, _≤_}

@@ -1,5 +1,5 @@
 -- In a model from which a problem is generated every written value is defined: the objective, both sides of each constraint at
--- each written element, and the limits of every domain. Assumes nothing.
+-- each written element, and the limits of every domain.
 use mathlib.Core.Path.{_≡_, refl, ap, subst}
 use mathlib.Core.Bool.{not}
 use mathlib.Core.Logic.{_⊎_, inl, inr}

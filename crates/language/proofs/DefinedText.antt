@@ -1,4 +1,4 @@
--- In an accepted text every written value is defined. Assumes nothing.
+-- In an accepted text every written value is defined.
 use mathlib.Core.Path.{_≡_, subst}
 use mathlib.Core.List.{List}
 use Prim.Native.Nat.{ℕ}

@@ -1,5 +1,5 @@
 -- Every element of a declared domain of variables has a number: behind a passed domain test, no variable is refused for want of
--- one. Assumes nothing.
+-- one.
 use mathlib.Core.Path.{_≡_, refl, sym, _∙_, ap, subst}
 use mathlib.Core.Bool.{Bool, true, false}
 use mathlib.Core.Logic.{_⊎_, inl, inr}

@@ -1,5 +1,4 @@
 -- A step at each element of a domain: what it yields comes from the written elements, one to one and in their order.
--- Assumes nothing.
 use mathlib.Core.Path.{_≡_, refl, sym, _∙_, ap, subst, subst₂}
 use mathlib.Core.Logic.{_⊎_, inl, inr}
 use mathlib.Core.List.{List, [], _∷_}

@@ -1,5 +1,4 @@
 -- What the declarations and constraints become: variables and entries, each from its written element, with their values.
--- Assumes nothing.
 use mathlib.Core.Path.{_≡_, refl, sym, _∙_, ap, subst}
 use mathlib.Core.Logic.{_↔_, _⊎_, inl, inr}
 use mathlib.Core.Bool.{Bool, true, false}

@@ -1,4 +1,4 @@
--- Where evaluation gives a value, it is the written value: the first half of demand 3's theorem, over these trees. Assumes nothing.
+-- Where evaluation gives a value, it is the written value: the first half of demand 3's theorem, over these trees.
 use mathlib.Core.Path.{_≡_, sym, _∙_, ap}
 use mathlib.Core.List.{List, [], _∷_}
 use Prim.Native.Nat.{ℕ}

@@ -1,6 +1,5 @@
 -- Facts of a structure that was read from a text: names of different spellings, constraints at different places, tables not
 -- overfull, titles and spellings of their shapes, and literals of which holds what holds of all that `literalOf` gives.
--- Assumes nothing.
 use mathlib.Core.Path.{_≡_, refl, sym, _∙_, ap, subst}
 use mathlib.Core.Bool.{Bool, true, false}
 use mathlib.Core.Option.{some}

@@ -1,4 +1,4 @@
--- Fields parted by tabs, with a line feed at the end, give back the fields. Assumes nothing.
+-- Fields parted by tabs, with a line feed at the end, give back the fields.
 use mathlib.Core.Path.{_≡_, refl, sym, _∙_, ap, subst}
 use mathlib.Core.Logic.{_≢_}
 use mathlib.Core.List.{List, [], _∷_, _++_, append-assoc, head-eq-of-cons-eq, tail-eq-of-cons-eq}

@@ -1,4 +1,4 @@
--- Numbers and values as they are printed: which bytes they have, and that printing tells them apart. Assumes nothing.
+-- Numbers and values as they are printed: which bytes they have, and that printing tells them apart.
 use mathlib.Core.Path.{_≡_, refl, sym, _∙_, ap, subst}
 use mathlib.Core.Option.{Option, none, some}
 use mathlib.Core.List.{List, [], _∷_, map, append-nil, head-eq-of-cons-eq, tail-eq-of-cons-eq}

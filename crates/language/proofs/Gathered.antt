@@ -1,4 +1,4 @@
--- Where gathering gives a row, the row's value at an assignment is the written value of the form. Assumes nothing.
+-- Where gathering gives a row, the row's value at an assignment is the written value of the form.
 use mathlib.Core.Path.{_≡_, refl, sym, _∙_, ap, subst}
 use mathlib.Core.Bool.{Bool, true, false, _&&_}
 use mathlib.Core.Option.{Option, none, some}

@@ -1,4 +1,4 @@
--- Demand 3 on a read model: the listing of a generated problem keeps the model's meaning. Assumes nothing.
+-- Demand 3 on a read model: the listing of a generated problem keeps the model's meaning.
 use mathlib.Core.Path.{_≡_, refl, sym, _∙_, ap, subst, subst₂}
 use mathlib.Core.Logic.{_↔_, inl, inr}
 use mathlib.Core.Bool.{Bool}

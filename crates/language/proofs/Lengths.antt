@@ -1,4 +1,4 @@
--- How long a line and a listing are. Assumes nothing.
+-- How long a line and a listing are.
 use mathlib.Core.Path.{_≡_, refl, sym, _∙_, ap}
 use mathlib.Core.List.{List, [], _∷_, _++_, append-assoc}
 use Prim.Native.Nat.{ℕ, _+_, _*_, _<_, _≤_}

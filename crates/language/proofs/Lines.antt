@@ -1,5 +1,5 @@
 -- The lines of a listing: each says what it must, they stand in order, and each row, each variable and each coefficient of the
--- objective has its line. Assumes nothing.
+-- objective has its line.
 use mathlib.Core.Path.{_≡_, refl, sym, _∙_, ap, subst, subst₂}
 use mathlib.Core.Logic.{_⊎_, inl, inr}
 use mathlib.Core.Bool.{Bool, true, false}

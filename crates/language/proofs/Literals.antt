@@ -1,5 +1,5 @@
 -- Every literal of a tree is a literal of the tokens that write it: what holds of all of these holds of all of those. Declared
--- formulas and domains, which stand in the tree where their names were read, are the names' own. Assumes nothing.
+-- formulas and domains, which stand in the tree where their names were read, are the names' own.
 use mathlib.Core.Path.{subst}
 use mathlib.Core.List.{List}
 use Prim.Native.Nat.{ℕ}

@@ -1,5 +1,5 @@
 -- The variables and the rows have their numbers one to one, in the order of declarations, constraints and elements; discrete
--- variables and rows from `<=` and `>=` come first. Assumes nothing.
+-- variables and rows from `<=` and `>=` come first.
 use mathlib.Core.Path.{_≡_, refl, sym, _∙_, ap, subst}
 use mathlib.Core.Logic.{_↔_, _⊎_, inl, inr}
 use mathlib.Core.Bool.{Bool, true, false, cond}

@@ -1,5 +1,4 @@
 -- Lists in an order: whatever stands earlier comes earlier. Where nothing comes before itself, nothing is repeated.
--- Assumes nothing.
 use mathlib.Core.Path.{_≡_, refl, sym, subst}
 use mathlib.Core.Logic.{inl, inr}
 use mathlib.Core.List.{List, [], _∷_, _++_, map}

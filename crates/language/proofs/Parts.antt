@@ -1,4 +1,4 @@
--- A line is its word and its fields. Assumes nothing.
+-- A line is its word and its fields.
 use mathlib.Core.Path.{_≡_, refl}
 use mathlib.Core.Bool.{cond}
 use mathlib.Core.List.{List, [], _∷_, _++_, map}

@@ -1,4 +1,4 @@
--- Whatever the readers of formulas and domains give was written: the tokens that they take are a phrase of it. Assumes nothing.
+-- Whatever the readers of formulas and domains give was written: the tokens that they take are a phrase of it.
 use mathlib.Core.Path.{_≡_, refl, sym, subst}
 use mathlib.Core.Bool.{Bool, true, false, cond, _||_}
 use mathlib.Core.List.{List, [], _∷_, _++_, append-assoc}

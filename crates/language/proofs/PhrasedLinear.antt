@@ -1,5 +1,5 @@
 -- Whatever the readers of linear forms give was written, and a left side is a bound exactly where one variable stands without
--- sign or factor. Assumes nothing.
+-- sign or factor.
 use mathlib.Core.Path.{_≡_, refl, sym, subst}
 use mathlib.Core.Bool.{Bool, true, false, cond, _&&_}
 use mathlib.Core.Option.{Option, none, some}

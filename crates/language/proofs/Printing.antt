@@ -1,4 +1,4 @@
--- Printing loses nothing: the bytes of a listing are those of no other proper lines. Assumes nothing.
+-- Printing loses nothing: the bytes of a listing are those of no other proper lines.
 use mathlib.Core.Path.{_≡_, refl, sym, _∙_, ap}
 use mathlib.Core.Logic.{_≢_}
 use mathlib.Core.Bool.{Bool, true, false, cond}

@@ -1,5 +1,4 @@
 -- Every line of an accepted text's listing is proper: values fit, numbers are small, and strings and names are visible bytes.
--- Assumes nothing.
 use mathlib.Core.Path.{_≡_, refl}
 use mathlib.Core.Bool.{Bool, true, false, _&&_, _||_, not}
 use mathlib.Core.Logic.{inl, inr}

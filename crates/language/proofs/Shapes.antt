@@ -1,5 +1,5 @@
 -- What the tokens of a text are: names and strings of their length and bytes, literals of what literals give; their places rise,
--- and there are no more of them than bytes and an end. Assumes nothing.
+-- and there are no more of them than bytes and an end.
 use mathlib.Core.Path.{_≡_, refl}
 use mathlib.Core.Bool.{Bool, true, false, cond, _&&_, _||_}
 use mathlib.Core.List.{List, [], _∷_, _++_}

@@ -1,4 +1,4 @@
--- Document 01's case is accepted, so that demand 3 speaks of it. Assumes nothing.
+-- Document 01's case is accepted, so that demand 3 speaks of it.
 use mathlib.Core.Path.{_≡_, refl}
 use Rattle.rules.specs.Characters.{bytes}
 use Rattle.language.specs.Answer.{answer}

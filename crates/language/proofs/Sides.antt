@@ -1,5 +1,5 @@
 -- A left side is a bound exactly where its tokens are those of one variable: a linear form with a sign in front, a factor, a sigma or
--- a second term has other tokens, whatever the variable. Assumes nothing.
+-- a second term has other tokens, whatever the variable.
 use mathlib.Core.Path.{_≡_, refl, sym, _∙_, ap, subst}
 use mathlib.Core.Bool.{Bool, true, false, _||_}
 use mathlib.Core.Option.{Option, none, some}

@@ -1,5 +1,4 @@
 -- The bounds of a variable are those that the text states for it: the largest lower one, or 0, and the smallest upper one, or none.
--- Assumes nothing.
 use mathlib.Core.Path.{_≡_, refl, sym, _∙_, ap, subst}
 use mathlib.Core.Logic.{inl, inr}
 use mathlib.Core.Bool.{Bool, true, false, cond}

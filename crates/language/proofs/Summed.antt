@@ -1,4 +1,4 @@
--- The sum over the listing's `col` lines with a row's number is the row's value. Assumes nothing.
+-- The sum over the listing's `col` lines with a row's number is the row's value.
 use mathlib.Core.Path.{_≡_, refl, sym, _∙_, ap}
 use mathlib.Core.Bool.{Bool, true, false}
 use mathlib.Core.List.{List, [], _∷_, _++_, map}

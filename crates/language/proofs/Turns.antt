@@ -1,5 +1,5 @@
 -- Turn counts are never reached: a loop of the grammar gives the same with every number of turns above the number of tokens that
--- count, for each turn takes one of them; of the data section, above the number of tokens. Assumes nothing.
+-- count, for each turn takes one of them; of the data section, above the number of tokens.
 use mathlib.Core.Path.{_≡_, refl, sym, _∙_, ap, subst}
 use mathlib.Core.Bool.{Bool, true, false, cond}
 use mathlib.Core.List.{List, [], _∷_, _++_}

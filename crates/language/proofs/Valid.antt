@@ -1,5 +1,5 @@
 -- All value that evaluation gives is valid, and every number of a run or an element is small, where the literals and the
--- data are valid. Assumes nothing.
+-- data are valid.
 use mathlib.Core.Path.{_≡_, subst}
 use mathlib.Core.Bool.{Bool, true, false, cond}
 use mathlib.Core.Option.{Option, some}

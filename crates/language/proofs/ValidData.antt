@@ -1,4 +1,4 @@
--- A data section that is read from valid literals gives a valid store. Assumes nothing.
+-- A data section that is read from valid literals gives a valid store.
 use mathlib.Core.Path.{_≡_, refl, subst}
 use mathlib.Core.Bool.{Bool, true, false, cond}
 use mathlib.Core.Option.{Option, none, some}

@@ -1,5 +1,5 @@
 -- A problem that is generated from valid literals and data has valid values and small index numbers only, and no more variables
--- and rows than the tables take. Assumes nothing.
+-- and rows than the tables take.
 use mathlib.Core.Path.{_≡_, refl, ap, subst}
 use mathlib.Core.Bool.{Bool, true, false, cond}
 use mathlib.Core.Option.{Option, none, some}

@@ -1,4 +1,4 @@
--- The store of the data holds valid values and small index numbers only, where its numbers are valid. Assumes nothing.
+-- The store of the data holds valid values and small index numbers only, where its numbers are valid.
 use mathlib.Core.Path.{_≡_, subst}
 use mathlib.Core.Bool.{Bool, true, false, _&&_}
 use mathlib.Core.Option.{Option, none, some}

@@ -1,4 +1,4 @@
--- The problem of an accepted text is valid. Assumes nothing.
+-- The problem of an accepted text is valid.
 use mathlib.Core.Path.{_≡_, subst}
 use mathlib.Core.List.{List}
 use Prim.Native.Nat.{ℕ}

@@ -1,4 +1,4 @@
--- A property of every entry of a list. Assumes nothing.
+-- A property of every entry of a list.
 use mathlib.Core.List.{List, [], _∷_}
 
 module _ {A : Type 0} (P : A → Type 0) where

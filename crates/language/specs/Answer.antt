@@ -1,4 +1,4 @@
--- The answer for every text and buffer length: number, place, length and every output byte. Assumes nothing.
+-- The answer for every text and buffer length: number, place, length and every output byte.
 use mathlib.Core.List.{List, _++_}
 use Prim.Native.Nat.{ℕ, _-_}
 use lib.Dec.{leb}

@@ -1,5 +1,5 @@
 -- The definition with all that it cites opened, so that closed texts compute: the answer to a text, and the value of a text
--- that is one formula in which `i` is an index (document 01, "Proof cases"). Assumes nothing.
+-- that is one formula in which `i` is an index (document 01, "Proof cases").
 use mathlib.Core.List.{List, [], _∷_}
 use Prim.Native.Nat.{ℕ}
 use Rattle.value.specs.declared.Value.{Value}

@@ -1,4 +1,4 @@
--- Document 01, "Grammar", "Meaning" and "Order": the data section. Portions are carried out as read. Assumes nothing.
+-- Document 01, "Grammar", "Meaning" and "Order": the data section. Portions are carried out as read.
 use mathlib.Core.Bool.{Bool, true, false, cond, _&&_, not}
 use mathlib.Core.Option.{Option, none, some}
 use mathlib.Core.List.{List, [], _∷_}

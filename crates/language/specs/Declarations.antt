@@ -1,5 +1,5 @@
 -- Document 01, "Grammar": declarations stand in the order of the six words, each at most once: word, comma-separated list, `;`.
--- A name is usable after its own list entry has ended. All six lists may be absent (decision 10). Assumes nothing.
+-- A name is usable after its own list entry has ended. All six lists may be absent (decision 10).
 use mathlib.Core.Bool.{Bool, true, false, _&&_, not}
 use mathlib.Core.List.{List, [], _∷_, _++_}
 use Prim.Native.Nat.{ℕ, zero, suc, _-_}

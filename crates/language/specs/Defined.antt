@@ -1,6 +1,6 @@
 -- Written values are total: an index that isn't bound and a name without a value count as 0, and a subscript is taken by its
 -- floor (specs/Written). Here is said where nothing of that occurs: every index that is read is bound; every subscript and
--- every limit is whole; every name that is read lies in its declared domain and has a value. Assumes nothing.
+-- every limit is whole; every name that is read lies in its declared domain and has a value.
 use mathlib.Core.Path.{_≡_}
 use mathlib.Core.Option.{Option, some}
 use mathlib.Core.List.{List, [], _∷_}

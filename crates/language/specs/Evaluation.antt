@@ -1,4 +1,4 @@
--- Document 01, "Meaning": evaluation goes left to right; every value fits, or the reading is refused. Assumes nothing.
+-- Document 01, "Meaning": evaluation goes left to right; every value fits, or the reading is refused.
 use mathlib.Core.Bool.{Bool, true, false, _&&_}
 use mathlib.Core.Option.{Option, none, some}
 use mathlib.Core.List.{List, [], _∷_}

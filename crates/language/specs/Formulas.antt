@@ -1,5 +1,5 @@
 -- Document 01, "Grammar": formulas and domains. Each reader takes the reader below it as an argument; the nesting ties them.
--- A loop has as many turns as a text may have tokens, which it never takes (proofs/Turns). Assumes nothing.
+-- A loop has as many turns as a text may have tokens, which it never takes (proofs/Turns).
 use mathlib.Core.Bool.{Bool, true, false, cond, _||_}
 use mathlib.Core.List.{List}
 use Prim.Native.Nat.{ℕ, zero, suc, _-_}

@@ -1,4 +1,4 @@
--- Document 01, "Grammar": a model up to its data section. Assumes nothing.
+-- Document 01, "Grammar": a model up to its data section.
 use mathlib.Core.Bool.{Bool, true, false, cond, _||_}
 use mathlib.Core.Option.{Option, none, some}
 use mathlib.Core.List.{List, [], _∷_}

@@ -1,4 +1,4 @@
--- Document 01, "Grammar": linear forms and sigmas. Assumes nothing.
+-- Document 01, "Grammar": linear forms and sigmas.
 use mathlib.Core.Bool.{Bool, true, false, cond, _&&_}
 use mathlib.Core.Option.{Option, none, some}
 use mathlib.Core.List.{List}

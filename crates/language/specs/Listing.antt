@@ -1,4 +1,4 @@
--- Document 01, "Listing": the lines, and their bytes. Assumes nothing.
+-- Document 01, "Listing": the lines, and their bytes.
 use mathlib.Core.Bool.{Bool, true, false, cond}
 use mathlib.Core.Option.{Option, none, some}
 use mathlib.Core.List.{List, [], _∷_, _++_, map}

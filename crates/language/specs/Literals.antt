@@ -1,4 +1,4 @@
--- A property P of all literals in the trees that are read. Assumes nothing.
+-- A property P of all literals in the trees that are read.
 use mathlib.Core.List.{List}
 use Rattle.value.specs.declared.Value.{Value}
 use Rattle.language.specs.Syntax.{Formula, Formulas, Spans, Form, Term, Side, Constraint, Sort, Name, Structure, datum, minus, plus, times, sum, more, point, span, also, factor, variable, sigma, bare, form}

@@ -1,4 +1,4 @@
--- A model text, read: its structure and what its data section gives. Assumes nothing.
+-- A model text, read: its structure and what its data section gives.
 use mathlib.Core.Option.{Option, none, some}
 use mathlib.Core.List.{List, [], _∷_}
 use Prim.Native.Nat.{ℕ, suc}

@@ -1,5 +1,5 @@
 -- Document 01, "Grammar": every name in the trees stands in the table, with the domain that is declared of it there and as
--- many subscripts as that has indices. Assumes nothing.
+-- many subscripts as that has indices.
 use mathlib.Core.Path.{_≡_}
 use mathlib.Core.Logic.{_⊎_}
 use mathlib.Core.List.{List}

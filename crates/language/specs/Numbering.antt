@@ -1,4 +1,4 @@
--- Document 01, "Numbering and bounds": variables by number, rows, bounds, the objective. Assumes nothing.
+-- Document 01, "Numbering and bounds": variables by number, rows, bounds, the objective.
 use mathlib.Core.Bool.{Bool, true, false, cond, _&&_}
 use mathlib.Core.Option.{Option, none, some}
 use mathlib.Core.List.{List, [], _∷_, _++_, map}

@@ -1,5 +1,4 @@
 -- What a reading or an evaluation gives: a value, or a refusal with its place (document 01, "Why a model comes back").
--- Assumes nothing.
 use mathlib.Core.Bool.{Bool, true, false}
 use mathlib.Core.Option.{Option, none, some}
 use Prim.Native.Nat.{ℕ}

@@ -1,6 +1,6 @@
 -- Document 01, "Grammar", said a second time: which tokens write which tree. `Writes names phrase tokens` says how a phrase is made,
 -- not how it is read, rule by rule in the paper's words, over the names declared so far. A declared formula and a declared
--- domain stand in the tree where their name is written. Assumes nothing.
+-- domain stand in the tree where their name is written.
 use mathlib.Core.Path.{_≡_}
 use mathlib.Core.Bool.{Bool, true, false}
 use mathlib.Core.List.{List, [], _∷_, _++_}

@@ -1,5 +1,5 @@
 -- What every line of a listing is: its values fit, its numbers and index numbers are no larger than a value's, and the bytes of
--- its strings and names are from 32 to 126. Assumes nothing.
+-- its strings and names are from 32 to 126.
 use mathlib.Core.Option.{Option}
 use mathlib.Core.List.{List}
 use Prim.Native.Nat.{ℕ, _≤_}

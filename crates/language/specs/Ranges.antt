@@ -1,4 +1,4 @@
--- The whole numbers from one to another, by ones, as a list: what a run goes through. Assumes nothing.
+-- The whole numbers from one to another, by ones, as a list: what a run goes through.
 use mathlib.Core.List.{List, [], _∷_}
 use Prim.Native.Nat.{ℕ, zero, suc}
 use lib.IntN.{ℤ, pos, _+ℤ_, negℤ}

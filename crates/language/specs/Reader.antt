@@ -1,5 +1,5 @@
 -- Readers: what is read from the tokens that are left, and the tokens then left. A token passes its own tests before anything
--- is asked of it (document 01, "Order"). Assumes nothing.
+-- is asked of it (document 01, "Order").
 use mathlib.Core.Bool.{Bool, true, false}
 use mathlib.Core.Option.{Option, none, some}
 use mathlib.Core.List.{List, [], _∷_}

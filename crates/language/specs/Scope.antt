@@ -1,4 +1,4 @@
--- What a formula is read under: the data, and the bound indices, the last bound first. Assumes nothing.
+-- What a formula is read under: the data, and the bound indices, the last bound first.
 use mathlib.Core.Bool.{Bool, true, false}
 use mathlib.Core.Option.{Option, none, some}
 use mathlib.Core.List.{List, [], _∷_}

@@ -1,5 +1,4 @@
 -- Document 01, "Meaning" and "Order": the store of the data, what a portion's runs and numbers do with it, and missing data.
--- Assumes nothing.
 use mathlib.Core.Bool.{Bool, true, false, _&&_, not}
 use mathlib.Core.Option.{Option, none, some}
 use mathlib.Core.List.{List, [], _∷_}

@@ -1,6 +1,6 @@
 -- Document 01, "Grammar": what a read text is, as trees. Names are numbers, in the order of their declaration. Each node that can
 -- refuse has its place, the byte of its token. A declared formula stands where its name was read, and a declared domain where
--- its name was subscripted, each with the places of the declaration. Assumes nothing.
+-- its name was subscripted, each with the places of the declaration.
 use mathlib.Core.Bool.{Bool}
 use mathlib.Core.List.{List}
 use Prim.Native.Nat.{ℕ}

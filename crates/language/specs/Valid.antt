@@ -1,5 +1,5 @@
 -- What is valid: values that fit, and index numbers no larger than a value's, wherever a scope, the data or a problem holds
--- them; and as many variables and rows as the tables take. Assumes nothing.
+-- them; and as many variables and rows as the tables take.
 use mathlib.Core.Path.{_≡_}
 use mathlib.Core.Option.{Option, none, some}
 use mathlib.Core.List.{List}

@@ -1,5 +1,5 @@
 -- Document 01, "The words of demand 3": written values, on the text's own terms, without limit of size and not by way of
--- gathered coefficients; constraints at their elements, and declared variables. Assumes nothing.
+-- gathered coefficients; constraints at their elements, and declared variables.
 use mathlib.Core.Path.{_≡_}
 use mathlib.Core.Bool.{Bool, true, false}
 use mathlib.Core.Option.{Option, none, some}

@@ -1,5 +1,5 @@
 -- For callers: what a token is without the definition; repeated calls give the definition's tokens, with and without the
--- count; where a text begins. Assumes nothing.
+-- count; where a text begins.
 use mathlib.Core.Path.{_≡_, refl, sym, _∙_, ap}
 use mathlib.Core.Bool.{Bool, true, false, cond, not, _||_}
 use mathlib.Core.List.{List, [], _∷_}

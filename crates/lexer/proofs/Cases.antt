@@ -1,5 +1,5 @@
 -- Small texts and their tokens: each sign and word, each refusal of a token with its place, the longest token possible, and
--- the edges of names, strings and literals. antt computes them over the definition. Assumes nothing.
+-- the edges of names, strings and literals. antt computes them over the definition.
 use mathlib.Core.Path.{_≡_, refl}
 use mathlib.Core.Bool.{true, false}
 use mathlib.Core.List.{List, [], _∷_, map}

@@ -1,4 +1,4 @@
--- Runs of bytes of a class, by positions, and parts of the text. Assumes nothing.
+-- Runs of bytes of a class, by positions, and parts of the text.
 use mathlib.Core.Path.{_≡_, refl, sym, _∙_, ap}
 use mathlib.Core.Bool.{Bool, true, false, not}
 use mathlib.Core.List.{List, [], _∷_}

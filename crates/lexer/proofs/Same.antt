@@ -1,4 +1,4 @@
--- Bytes compared one by one: the loop of `same_bytes`, and that it tells equal bytes. Assumes nothing.
+-- Bytes compared one by one: the loop of `same_bytes`, and that it tells equal bytes.
 use mathlib.Core.Path.{_≡_, refl, sym, _∙_, ap}
 use mathlib.Core.Bool.{Bool, true, false}
 use mathlib.Core.List.{List, [], _∷_}

@@ -1,5 +1,5 @@
 -- A token's bytes and place: at least one byte and no more than are left, at its first byte, unless it is refused; a refusal
--- stands in the text. Assumes nothing.
+-- stands in the text.
 use mathlib.Core.Path.{_≡_, refl, sym, _∙_, ap}
 use mathlib.Core.Bool.{Bool, true, false, cond, _&&_, _||_}
 use mathlib.Core.List.{List, [], _∷_, _++_}

@@ -1,4 +1,4 @@
--- What the cursor gives is what the list of tokens begins with. Assumes nothing.
+-- What the cursor gives is what the list of tokens begins with.
 use mathlib.Core.Path.{_≡_, refl, sym, _∙_, ap, subst}
 use mathlib.Core.Bool.{Bool, true, false, cond}
 use mathlib.Core.List.{List, [], _∷_}

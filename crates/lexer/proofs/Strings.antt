@@ -1,4 +1,4 @@
--- For callers: a string's bytes are those that `between_braces` gives at its token's place. Assumes nothing.
+-- For callers: a string's bytes are those that `between_braces` gives at its token's place.
 use mathlib.Core.Path.{_≡_, refl, sym, _∙_, ap, subst}
 use mathlib.Core.Bool.{Bool, true, false, cond, _||_}
 use mathlib.Core.List.{List, [], _∷_, _++_}

@@ -1,4 +1,4 @@
--- What each function that reads a token answers, as laws over plain variables. Assumes nothing.
+-- What each function that reads a token answers, as laws over plain variables.
 use mathlib.Core.Path.{_≡_, refl, sym, _∙_, ap, subst}
 use mathlib.Core.Bool.{Bool, true, false, cond, _&&_, _||_}
 use mathlib.Core.List.{List, [], _∷_, _++_}

@@ -1,4 +1,4 @@
--- A run of letters against a list of words, one after the other. Assumes nothing.
+-- A run of letters against a list of words, one after the other.
 use mathlib.Core.Path.{_≡_, refl, sym, _∙_}
 use mathlib.Core.Bool.{Bool, true, false, cond}
 use mathlib.Core.List.{List, [], _∷_}

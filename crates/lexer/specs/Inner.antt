@@ -1,4 +1,4 @@
--- What the functions inside the lexer answer, in the definition's terms. Assumes nothing.
+-- What the functions inside the lexer answer, in the definition's terms.
 use mathlib.Core.Path.{_≡_}
 use mathlib.Core.Bool.{Bool, true, false, cond}
 use mathlib.Core.List.{List, _∷_, _++_}

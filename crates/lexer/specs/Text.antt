@@ -1,6 +1,6 @@
 -- Document 01, "Text": the tokens of a text, from left to right. A refusal of a token by itself (2, 3 shape, 4 length, 5),
 -- by the token count (6) or by the text's length (1) is a token too, and the last one: so a token's own tests come before its
--- placement, everywhere (decision 5; the numbers are those of docs/DECISIONS.md). Assumes nothing.
+-- placement, everywhere (decision 5; the numbers are those of docs/DECISIONS.md).
 use mathlib.Core.Bool.{Bool, true, false, cond, _&&_, _||_, not}
 use mathlib.Core.List.{List, [], _∷_, _++_}
 use Prim.Native.Nat.{ℕ, zero, suc, _+_, _-_}

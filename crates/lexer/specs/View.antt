@@ -1,4 +1,4 @@
--- What the public calls answer, in the definition's terms: a name or a string is a part of the text. Assumes nothing.
+-- What the public calls answer, in the definition's terms: a name or a string is a part of the text.
 use mathlib.Core.Path.{_≡_}
 use mathlib.Core.Bool.{Bool, true, false, cond}
 use mathlib.Core.List.{List, [], _∷_}

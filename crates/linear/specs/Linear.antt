@@ -1,4 +1,4 @@
--- The readers of linear forms, each a function of the names. Assumes nothing.
+-- The readers of linear forms, each a function of the names.
 use mathlib.Core.Path.{_≡_}
 use mathlib.Core.Bool.{Bool, true, false}
 use mathlib.Core.List.{List}

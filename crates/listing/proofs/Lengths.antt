@@ -1,4 +1,4 @@
--- How long what is written of a line is, so that a caller's sum of lengths fits. Assumes nothing.
+-- How long what is written of a line is, so that a caller's sum of lengths fits.
 use mathlib.Core.Path.{_≡_, refl, ap}
 use mathlib.Core.List.{List, [], _∷_, map}
 use mathlib.Core.Option.{Option, none, some}

@@ -1,5 +1,5 @@
 -- Laws for callers: what is written of a proper line is the definition's, line after line into the rest of an output, and what a
--- cleared output then holds. Assumes nothing.
+-- cleared output then holds.
 use mathlib.Core.Path.{_≡_, refl, sym, _∙_, ap}
 use mathlib.Core.Option.{Option, none, some}
 use mathlib.Core.List.{List, [], _∷_, _++_, map, append-assoc, append-nil}

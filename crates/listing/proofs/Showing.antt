@@ -1,4 +1,4 @@
--- Laws of what is shown of a number or a value: how long it is, and that it is what the definition prints. Assumes nothing.
+-- Laws of what is shown of a number or a value: how long it is, and that it is what the definition prints.
 use mathlib.Core.Path.{_≡_, refl, sym, _∙_, ap}
 use mathlib.Core.Bool.{Bool, true, false}
 use mathlib.Core.List.{List, [], _++_}

@@ -1,4 +1,4 @@
--- Laws of writing: a text piece by piece, a line field by field, and the rest of an output. Assumes nothing.
+-- Laws of writing: a text piece by piece, a line field by field, and the rest of an output.
 use mathlib.Core.Path.{_≡_, refl, sym, _∙_}
 use mathlib.Core.Bool.{Bool, true, false}
 use mathlib.Core.List.{List, [], _∷_, _++_, map, append-nil}

@@ -1,5 +1,5 @@
 -- What the writers write of any line: its bytes, with nothing for a number or a value that is out of range. Of a proper line
--- these are the definition's bytes (`proofs/Lines.antt`). Assumes nothing.
+-- these are the definition's bytes (`proofs/Lines.antt`).
 use mathlib.Core.Bool.{cond}
 use mathlib.Core.Option.{Option, none, some}
 use mathlib.Core.List.{List, [], _∷_, _++_, map}

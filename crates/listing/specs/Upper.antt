@@ -1,4 +1,4 @@
--- An upper bound of the code, as the definition has it. Assumes nothing.
+-- An upper bound of the code, as the definition has it.
 use mathlib.Core.Option.{Option, none, some}
 use Rattle.value.specs.declared.Value.{Value}
 use Rattle.listing.specs.declared.Upper.{Upper}

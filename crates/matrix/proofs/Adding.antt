@@ -1,4 +1,4 @@
--- Laws of one element of a constraint: the entry that it adds, as a row in its slot or as a bound. Assumes nothing.
+-- Laws of one element of a constraint: the entry that it adds, as a row in its slot or as a bound.
 use mathlib.Core.Path.{_≡_, refl, sym, _∙_, ap, subst}
 use mathlib.Core.Bool.{Bool, true, false, not}
 use mathlib.Core.List.{List, [], _∷_, _++_, map}

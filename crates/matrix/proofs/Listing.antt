@@ -1,4 +1,4 @@
--- Laws of the list of constraints: each in its row, one after the other, and all of them. Assumes nothing.
+-- Laws of the list of constraints: each in its row, one after the other, and all of them.
 use mathlib.Core.Path.{_≡_, refl, sym, _∙_, subst}
 use mathlib.Core.Bool.{Bool, true, false}
 use mathlib.Core.List.{List, [], _∷_}

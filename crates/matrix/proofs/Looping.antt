@@ -1,4 +1,4 @@
--- Laws of the loops over the elements of a constraint: they start, add an entry, are refused or end. Assumes nothing.
+-- Laws of the loops over the elements of a constraint: they start, add an entry, are refused or end.
 use mathlib.Core.Path.{_≡_, refl, sym, _∙_, subst}
 use mathlib.Core.Bool.{true, false}
 use mathlib.Core.List.{List, [], _∷_, map}

@@ -1,5 +1,5 @@
 -- What each function answers: for every text, names, data and variables that the tables hold, and every constraint that stands in its
--- row, the entries that the definition adds, as the tables of rows, counts and bounds hold them. Assumes nothing.
+-- row, the entries that the definition adds, as the tables of rows, counts and bounds hold them.
 use mathlib.Core.Path.{_≡_}
 use mathlib.Core.Bool.{Bool, true, false}
 use mathlib.Core.List.{List, [], map}

@@ -1,4 +1,4 @@
--- The names of a structure that was read: domains of at most four indices, and the tokens that declare them. Assumes nothing.
+-- The names of a structure that was read: domains of at most four indices, and the tokens that declare them.
 use mathlib.Core.Path.{_≡_, refl, ap, subst}
 use mathlib.Core.List.{List}
 use Prim.Native.Nat.{ℕ, suc, _≤_}

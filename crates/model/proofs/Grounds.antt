@@ -1,4 +1,4 @@
--- What evaluation needs of the tables of a text whose structure was read. Assumes nothing.
+-- What evaluation needs of the tables of a text whose structure was read.
 use mathlib.Core.Path.{_≡_, refl, sym, _∙_, subst}
 use mathlib.Core.Bool.{Bool}
 use mathlib.Core.Option.{some}

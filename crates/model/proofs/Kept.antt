@@ -1,4 +1,4 @@
--- What the rows tell of the names and constraints, where each token of a second table is that of the first. Assumes nothing.
+-- What the rows tell of the names and constraints, where each token of a second table is that of the first.
 use mathlib.Core.Path.{_≡_, _∙_, ap}
 use mathlib.Core.List.{List, [], _∷_, _++_}
 use Prim.Native.Nat.{ℕ}

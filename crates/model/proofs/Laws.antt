@@ -1,4 +1,4 @@
--- Laws over plain variables that answer the code's needs. Assumes nothing.
+-- Laws over plain variables that answer the code's needs.
 use mathlib.Core.Path.{_≡_, refl, sym, _∙_, ap, subst}
 use mathlib.Core.List.{List, _++_}
 use Prim.Native.Nat.{ℕ, _*_, _≤_}

@@ -1,4 +1,4 @@
--- For callers: the refusal of a text, or its model and the world of it, which is its text, its names and its data. Assumes nothing.
+-- For callers: the refusal of a text, or its model and the world of it, which is its text, its names and its data.
 use mathlib.Core.Path.{_≡_, refl, sym, _∙_, ap, subst}
 use mathlib.Core.List.{List}
 use Prim.Native.Nat.{ℕ}

@@ -1,4 +1,4 @@
--- Declared domains of at most four indices. Assumes nothing.
+-- Declared domains of at most four indices.
 use mathlib.Core.List.{List}
 use Prim.Native.Nat.{_≤_}
 use Rattle.rules.specs.Limits.{indexLimit}

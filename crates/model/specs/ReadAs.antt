@@ -1,4 +1,4 @@
--- What code tells of a model text that it read: tables for evaluation, and where the parts of the model stand. Assumes nothing.
+-- What code tells of a model text that it read: tables for evaluation, and where the parts of the model stand.
 use mathlib.Core.Path.{_≡_}
 use mathlib.Core.Bool.{false}
 use mathlib.Core.List.{List}

@@ -1,5 +1,4 @@
 -- What a reader of the grammar takes has its brackets in pairs, so the end of a body is found by its brackets.
--- Assumes nothing.
 use mathlib.Core.Path.{_≡_, refl, sym, _∙_, ap}
 use mathlib.Core.Bool.{Bool, true, false, cond, _||_}
 use mathlib.Core.Logic.{_⊎_, inl, inr}

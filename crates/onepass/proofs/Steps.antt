@@ -1,5 +1,4 @@
 -- Sequences of readers and of walks, and the tokens that both pass: where a reader tests a token, the walk passes over it.
--- Assumes nothing.
 use mathlib.Core.Path.{_≡_, refl, sym, _∙_, ap}
 use mathlib.Core.Bool.{Bool, true, false}
 use mathlib.Core.Option.{Option, none, some}

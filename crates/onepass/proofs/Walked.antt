@@ -1,5 +1,4 @@
 -- A formula that is walked has the value of the tree that is read from its tokens, or its refusal, and leaves the same tokens.
--- Assumes nothing.
 use mathlib.Core.Path.{_≡_, refl, _∙_, ap, fun-ext}
 use mathlib.Core.Bool.{Bool, true, false, cond}
 use mathlib.Core.List.{List}

@@ -1,4 +1,4 @@
--- A domain that is walked has the limits and the domain test of the domain that is read from its tokens. Assumes nothing.
+-- A domain that is walked has the limits and the domain test of the domain that is read from its tokens.
 --
 -- A declaration is read with the names before it, and its tokens are walked with the same names: a name that is declared later
 -- could not be used in them, and no law is needed for names that grow.

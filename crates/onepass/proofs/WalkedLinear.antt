@@ -1,5 +1,5 @@
 -- A linear form that is walked gathers the row of the form that is read from its tokens, or has its refusal, and leaves the same
--- tokens. Assumes nothing.
+-- tokens.
 use mathlib.Core.Path.{_≡_, refl, sym, _∙_, ap, fun-ext}
 use mathlib.Core.Bool.{Bool, true, false}
 use mathlib.Core.List.{List}

@@ -1,6 +1,5 @@
 -- Tokens that write a domain: entry behind entry, each read as it stands, with the sign behind it. What was read of a declared
 -- domain and of a constraint's domain gives this (proofs/WalkedDomain.antt), and a walk of a domain needs no more.
--- Assumes nothing.
 use mathlib.Core.Path.{_≡_}
 use mathlib.Core.List.{List}
 use Prim.Native.Nat.{ℕ, zero, suc}

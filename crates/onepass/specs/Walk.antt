@@ -2,7 +2,6 @@
 -- before, so a sign that must stand there is passed over and not tested again. The body of a sum is walked anew for each
 -- number of its run; where it ends is found by its brackets. One theorem (proofs/Walked.antt) joins this to the trees: where
 -- a reader gives a tree, the walk of the same tokens gives the tree's value or refusal, and the same rest.
--- Assumes nothing.
 use mathlib.Core.Bool.{Bool, true, false, cond, _&&_, _||_}
 use mathlib.Core.Option.{Option, none, some}
 use mathlib.Core.List.{List, [], _∷_}

@@ -1,5 +1,5 @@
 -- Linear forms gathered while their tokens are walked, as code does that keeps tokens and no trees. One theorem
--- (proofs/WalkedLinear.antt) joins this to the trees. Assumes nothing.
+-- (proofs/WalkedLinear.antt) joins this to the trees.
 use mathlib.Core.Bool.{Bool, true, false}
 use mathlib.Core.List.{List}
 use Prim.Native.Nat.{ℕ, zero, suc}

@@ -1,4 +1,4 @@
--- What code tells of a model that it read. Assumes nothing.
+-- What code tells of a model that it read.
 use mathlib.Core.Path.{_≡_}
 use mathlib.Core.Bool.{Bool}
 use mathlib.Core.List.{List}

@@ -1,4 +1,4 @@
--- The parts of a model, each read by a function of the names. Assumes nothing.
+-- The parts of a model, each read by a function of the names.
 use mathlib.Core.Bool.{Bool}
 use mathlib.Core.List.{List}
 use Rattle.lexer.specs.Marks.{openWord, colon}

@@ -1,4 +1,4 @@
--- What a model generates, step by step. Assumes nothing.
+-- What a model generates, step by step.
 use mathlib.Core.Path.{_≡_, refl, sym, _∙_, ap}
 use mathlib.Core.List.{List, [], map}
 use Prim.Native.Nat.{ℕ}

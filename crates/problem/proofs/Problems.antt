@@ -1,4 +1,4 @@
--- From what the stations answer to the problem of a model. Assumes nothing.
+-- From what the stations answer to the problem of a model.
 use mathlib.Core.Path.{_≡_, refl, sym, _∙_, ap, subst, subst₂}
 use mathlib.Core.Bool.{Bool}
 use mathlib.Core.List.{List, [], map}

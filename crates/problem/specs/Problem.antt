@@ -1,4 +1,4 @@
--- What the tables tell of a model and of its problem. Assumes nothing.
+-- What the tables tell of a model and of its problem.
 use mathlib.Core.Path.{_≡_}
 use mathlib.Core.Bool.{Bool}
 use mathlib.Core.List.{List, []}

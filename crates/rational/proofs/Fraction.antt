@@ -1,6 +1,6 @@
 -- Laws of fractions up to `_≈_`: it is an equivalence that the operations respect, they are those of a commutative ring, and
 -- `_≼_` is an order that goes with them. Each law is an identity or a step of order in ℤ, stated over variables: in p, q, r
--- the numerators are a, b, c and the denominators x, y, z. Assumes nothing.
+-- the numerators are a, b, c and the denominators x, y, z.
 use mathlib.Core.Path.{_≡_, refl, sym, _∙_, ap, ap₂, subst, subst₂}
 use mathlib.Core.Logic.{_↔_, _⊎_}
 use mathlib.Core.Bool.{Bool, true, false}

@@ -1,6 +1,5 @@
 -- Laws of ℤ that the kit lacks: a commutative ring (`simp ringℤ`), its order, and division rounded down.
 -- They rest on ℕ: an integer is the difference of its parts, `up z - down z`, and `omega` does the rest.
--- Assumes nothing.
 use mathlib.Core.Path.{_≡_, refl, sym, _∙_, ap, subst}
 use mathlib.Core.Bool.{Bool, true, false, cond}
 use mathlib.Core.Logic.{_↔_, _⊎_, inl, inr}

@@ -1,6 +1,5 @@
 -- Fractions: a whole number over a positive one. Two are the same number (`_≈_`) where their cross products are equal.
 -- Sum, difference and product are those of fractions in general; a decimal is the case of a power of ten below.
--- Assumes nothing.
 use mathlib.Core.Path.{_≡_}
 use mathlib.Core.Bool.{Bool}
 use Prim.Native.Nat.{ℕ, _*_, _<_}

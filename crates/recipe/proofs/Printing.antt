@@ -1,4 +1,4 @@
--- What the program prints is the listing, or the refusal's line. Assumes nothing.
+-- What the program prints is the listing, or the refusal's line.
 use mathlib.Core.Path.{_≡_, refl, sym, _∙_, ap, subst}
 use mathlib.Core.Bool.{cond}
 use mathlib.Core.List.{List, [], _∷_, _++_}

@@ -1,4 +1,4 @@
--- What the program prints of a text, with a buffer of 65,536 bytes. Assumes nothing.
+-- What the program prints of a text, with a buffer of 65,536 bytes.
 use mathlib.Core.Path.{_≡_}
 use mathlib.Core.Bool.{cond}
 use mathlib.Core.List.{List}

@@ -1,4 +1,4 @@
--- Laws of bounds: one stated more, and what is no bound changes nothing. Assumes nothing.
+-- Laws of bounds: one stated more, and what is no bound changes nothing.
 use mathlib.Core.Path.{_≡_, refl, sym, _∙_, ap}
 use mathlib.Core.Bool.{Bool, true, false, cond, _&&_}
 use mathlib.Core.Option.{Option, none, some}

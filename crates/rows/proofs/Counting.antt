@@ -1,4 +1,4 @@
--- Laws of rows of counts: zeros, opposites, and a function at every count. Assumes nothing.
+-- Laws of rows of counts: zeros, opposites, and a function at every count.
 use mathlib.Core.Path.{_≡_, refl, sym, _∙_, ap}
 use mathlib.Core.Bool.{true, false}
 use mathlib.Core.List.{List, [], _∷_, map}

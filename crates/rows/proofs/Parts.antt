@@ -1,4 +1,4 @@
--- Laws of a part of a matrix that is lent and put back: its own row, and all others. Assumes nothing.
+-- Laws of a part of a matrix that is lent and put back: its own row, and all others.
 use mathlib.Core.Path.{_≡_, sym, _∙_, ap}
 use mathlib.Core.List.{List, _++_}
 use Prim.Native.Nat.{ℕ, _+_, _-_, _*_, _<_, _≤_}

@@ -1,4 +1,4 @@
--- Laws of slots: one row more, written where it belongs; what is no row changes nothing. Assumes nothing.
+-- Laws of slots: one row more, written where it belongs; what is no row changes nothing.
 use mathlib.Core.Path.{_≡_, refl, sym, _∙_, ap, subst}
 use mathlib.Core.Bool.{Bool, true, false, cond}
 use mathlib.Core.List.{List, [], _∷_, _++_, append-nil}

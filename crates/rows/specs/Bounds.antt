@@ -1,5 +1,5 @@
 -- The bounds that are stated for each variable, two words each: the largest lower one and the smallest upper one, 0 where none is
--- stated. Assumes nothing.
+-- stated.
 use mathlib.Core.Path.{_≡_}
 use mathlib.Core.Bool.{Bool, true, false, cond, _&&_}
 use mathlib.Core.List.{List, [], _∷_}

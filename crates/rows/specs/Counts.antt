@@ -1,4 +1,4 @@
--- A row of counts of millionths against a row of values, and its opposite. Assumes nothing.
+-- A row of counts of millionths against a row of values, and its opposite.
 use mathlib.Core.Path.{_≡_}
 use mathlib.Core.Bool.{cond}
 use mathlib.Core.List.{List}

@@ -1,7 +1,7 @@
 -- The rows of a problem, in slots: those of `<=` and `>=` from the first slot on, those of `=` from the last one back, each in
 -- text order; so a row keeps its slot while others come. A slot has a row of the table (the constraint's number and element as
 -- its key, the right side as its word) and a row of counts. The objective has a row of counts behind the slots, and one row more
--- is spare. Assumes nothing.
+-- is spare.
 use mathlib.Core.Path.{_≡_}
 use mathlib.Core.Bool.{Bool, true, false, cond}
 use mathlib.Core.List.{List}

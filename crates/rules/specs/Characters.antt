@@ -1,5 +1,5 @@
 -- Words and signs, as document 01 writes them: `code "+"` is the byte of a character, `bytes "OPEN"` the bytes of a word. Both
--- give ASCII codes. Assumes nothing.
+-- give ASCII codes.
 use mathlib.Core.List.{List, [], _∷_}
 use Prim.Native.Nat.{ℕ}
 pub use Prim.Native.Char.{code}

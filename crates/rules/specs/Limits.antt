@@ -1,4 +1,4 @@
--- Document 01, "Tables" and the other limits, each named once. Assumes nothing.
+-- Document 01, "Tables" and the other limits, each named once.
 use Prim.Native.Nat.{ℕ}
 
 -- a text has at most 16,384 bytes

@@ -1,4 +1,4 @@
--- Document 01, "Why a model comes back": the number of each refusal. Assumes nothing.
+-- Document 01, "Why a model comes back": the number of each refusal.
 use Prim.Native.Nat.{ℕ}
 use Rattle.rules.specs.declared.Refusal.{Refusal}
 use Rattle.rules.specs.declared.Refusal.the-variants.{LongText, StrangeByte, Misplaced, BadName, Unfit, Full, BadIndex, NotWhole, Outside, Missing, LongListing}

@@ -1,4 +1,4 @@
--- Laws of keys read back: the digits in the words of a key, and the element of its digits. Assumes nothing.
+-- Laws of keys read back: the digits in the words of a key, and the element of its digits.
 use mathlib.Core.Path.{_≡_, refl, _∙_}
 use mathlib.Core.List.{List, [], _∷_, _++_}
 use Prim.Native.Nat.{ℕ, zero, suc, _+_, _*_, _/_, _%_, _<_, _≤_}

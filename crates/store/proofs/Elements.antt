@@ -1,4 +1,4 @@
--- Laws of elements: their numbers as a list, one number more, bounds. Assumes nothing.
+-- Laws of elements: their numbers as a list, one number more, bounds.
 use mathlib.Core.Path.{_≡_, refl, sym}
 use mathlib.Core.Bool.{Bool, true, false, cond}
 use mathlib.Core.List.{List, [], _∷_, _++_}

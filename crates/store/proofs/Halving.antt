@@ -1,5 +1,5 @@
 -- Laws of the search by halving: keys are compared word by word; a key bracketed in a sorted table; the row that a search from
--- the front finds. Assumes nothing.
+-- the front finds.
 use mathlib.Core.Path.{_≡_, refl, sym, _∙_, ap, subst}
 use mathlib.Core.Bool.{Bool, true, false}
 use mathlib.Core.Option.{none, some}

@@ -1,5 +1,5 @@
 -- What a table holds: data as a list searched from the front, which an insertion extends by one entry, and variables by their
--- number, which a row appended extends by one variable. Assumes nothing.
+-- number, which a row appended extends by one variable.
 use mathlib.Core.Path.{_≡_, refl, sym, _∙_, ap}
 use mathlib.Core.Bool.{Bool, true, false, cond, _&&_}
 use mathlib.Core.Option.{Option, none, some}

@@ -1,4 +1,4 @@
--- Laws of an insertion, by what the code answers. Assumes nothing.
+-- Laws of an insertion, by what the code answers.
 use mathlib.Core.Path.{_≡_, refl, _∙_, subst}
 use mathlib.Core.List.{List}
 use Prim.Native.Nat.{ℕ, _*_, _/_, _<_, _≤_}

@@ -1,5 +1,5 @@
 -- Laws of keys: a digit tells its number and its order; two keys are equal where name and element are, and are ordered as name
--- and element are. Assumes nothing.
+-- and element are.
 use mathlib.Core.Path.{_≡_, refl, sym, _∙_, ap}
 use mathlib.Core.Bool.{Bool, true, false, _&&_}
 use mathlib.Core.List.{List, [], _∷_}

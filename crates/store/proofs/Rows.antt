@@ -1,5 +1,5 @@
 -- Laws of writing: a row written, words moved up, and a table that has grown by a row at its place, which stays sorted and in
--- which every other key is found as before. Assumes nothing.
+-- which every other key is found as before.
 use mathlib.Core.Path.{_≡_, refl, sym, _∙_, ap}
 use mathlib.Core.Bool.{Bool, true, false, cond}
 use mathlib.Core.Option.{some}

@@ -1,5 +1,4 @@
 -- What the machine reads of signed numbers, as digits and packed values need it; a packed value is unpacked again.
--- Assumes nothing.
 use mathlib.Core.Path.{_≡_, refl}
 use mathlib.Core.Bool.{Bool, true, false, cond}
 use Prim.Native.Nat.{ℕ, suc, _+_, _-_, _*_, _/_, _%_, _^_, _<_, _≤_}

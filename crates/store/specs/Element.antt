@@ -1,5 +1,5 @@
 -- An element: at most four whole numbers, the subscripts of a datum or of a variable. Its numbers as a list, and
--- their bounds. Assumes nothing.
+-- their bounds.
 use mathlib.Core.Bool.{cond}
 use mathlib.Core.List.{List, [], _∷_, _++_}
 use Prim.Native.Nat.{ℕ, _≤_}

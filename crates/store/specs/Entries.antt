@@ -1,5 +1,5 @@
 -- What a table holds, as lists that are searched from the front by name and element: data with their words, the newest first, and
--- variables by their number. Assumes nothing.
+-- variables by their number.
 use mathlib.Core.Path.{_≡_}
 use mathlib.Core.Bool.{true, false, _&&_}
 use mathlib.Core.Option.{Option, none, some}

@@ -1,5 +1,5 @@
 -- The key of a name and an element: one number, in three words. Its digits, most significant first, are the name's number and one
--- digit for each of four subscripts. Assumes nothing.
+-- digit for each of four subscripts.
 use mathlib.Core.Bool.{cond}
 use mathlib.Core.List.{List, [], _∷_}
 use Prim.Native.Nat.{ℕ, zero, suc, _+_, _*_}

@@ -1,4 +1,4 @@
--- A value as one word. Assumes nothing.
+-- A value as one word.
 use Prim.Native.Nat.{ℕ, suc, _+_, _*_, _/_, _%_}
 use mathlib.Core.Bool.{cond}
 use lib.Dec.{leb}

@@ -1,5 +1,5 @@
 -- A table is a list of rows of four words: the three words of a key, and one word that belongs to it. Its first n rows count, in
--- rising order of their keys. Assumes nothing.
+-- rising order of their keys.
 use mathlib.Core.Path.{_≡_}
 use mathlib.Core.Bool.{Bool, true, false, cond}
 use mathlib.Core.Option.{Option, none, some}

@@ -1,4 +1,4 @@
--- Laws of moves: a reader and the next one, and the readers of one token. Assumes nothing.
+-- Laws of moves: a reader and the next one, and the readers of one token.
 use mathlib.Core.Path.{_≡_, refl, sym, _∙_, subst, ap}
 use mathlib.Core.Bool.{Bool, true, false, _||_}
 use mathlib.Core.List.{List, _∷_, append-assoc, [], _++_}

@@ -1,5 +1,5 @@
 -- The token table and the name table as the definition's tokens and names, and what it means that code moves a position as a
--- reader of the definition does. Assumes nothing.
+-- reader of the definition does.
 use mathlib.Core.Path.{_≡_}
 use mathlib.Core.Bool.{true, false}
 use mathlib.Core.List.{List, [], _∷_, _++_}

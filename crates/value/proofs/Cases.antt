@@ -1,5 +1,5 @@
 -- The edges of what a literal is, and texts that are none: one table of inputs and answers, which antt computes over the
--- definitions of `specs/`. (Document 01's proof cases are one table, in `language`.) Assumes nothing.
+-- definitions of `specs/`. (Document 01's proof cases are one table, in `language`.)
 use mathlib.Core.Path.{_≡_, refl}
 use mathlib.Core.List.{List, [], _∷_, map}
 use Prim.Native.Nat.{ℕ}

@@ -1,5 +1,5 @@
 -- Laws of the lowest form, once for every sequence of denominators: it is exact, least, and depends on the number alone.
--- Then those of `fitOf`: exact, valid, of the number alone, and refusing only what no value is. Assumes nothing.
+-- Then those of `fitOf`: exact, valid, of the number alone, and refusing only what no value is.
 use mathlib.Core.Path.{_≡_, refl, sym, _∙_, ap, subst}
 use mathlib.Core.Bool.{Bool, true, false, cond}
 use Prim.Native.Nat.{ℕ, zero, suc, _+_, _-_, _*_, _/_, _%_, _^_, _<_, _≤_}

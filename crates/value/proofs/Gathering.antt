@@ -1,5 +1,5 @@
 -- Laws of gathering (`specs/Gathering.antt`): what each way of `gather` gives; counts stay counts; a count gathers as values
--- are added. Assumes nothing.
+-- are added.
 use mathlib.Core.Path.{_≡_, refl, sym, _∙_, ap}
 use mathlib.Core.Bool.{Bool, true, false, cond, _&&_}
 use mathlib.Core.List.{List}

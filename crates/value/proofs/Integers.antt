@@ -1,5 +1,4 @@
 -- ℤ: sizes of sums and products, signs, what the machine reads of a signed number, and a set for ring identities.
--- Assumes nothing.
 use mathlib.Core.Path.{_≡_, refl, _∙_, ap, subst}
 use mathlib.Core.Bool.{Bool, true, false, cond}
 use Prim.Native.Nat.{ℕ, zero, suc, _+_, _-_, _*_, _^_, _<_, _≤_}

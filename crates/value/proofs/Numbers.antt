@@ -1,4 +1,4 @@
--- Values as exact numbers: what fits is exact, and the order of values is that of their numbers. Assumes nothing.
+-- Values as exact numbers: what fits is exact, and the order of values is that of their numbers.
 use mathlib.Core.Path.{_≡_, refl, sym, _∙_, ap}
 use mathlib.Core.Bool.{Bool, true, false, cond}
 use Prim.Native.Nat.{ℕ, _^_}

@@ -1,5 +1,5 @@
 -- Sum, difference, product, sign, order and whole numbers: what the code computes is what the definitions say; the operations
--- are exact, give values, and refuse only what no value is. Assumes nothing.
+-- are exact, give values, and refuse only what no value is.
 use mathlib.Core.Path.{_≡_, refl, sym, subst}
 use mathlib.Core.Bool.{Bool, true, false, cond, _&&_}
 use Prim.Native.Nat.{ℕ, zero, suc, _+_, _-_, _*_, _%_, _^_, _<_, _≤_}

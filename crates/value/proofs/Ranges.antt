@@ -1,4 +1,4 @@
--- Laws of `inRange`: what the code tests of its operands. Assumes nothing.
+-- Laws of `inRange`: what the code tests of its operands.
 use mathlib.Core.Path.{_≡_, refl, sym, _∙_}
 use mathlib.Core.Bool.{Bool, true, false, _&&_}
 use Prim.Native.Nat.{ℕ, _<_, _≤_}

@@ -1,5 +1,4 @@
 -- What is printed reads back as the same value, so that two values never print alike; and how long a printed value is.
--- Assumes nothing.
 use mathlib.Core.Path.{_≡_, refl, sym, _∙_, ap}
 use mathlib.Core.Bool.{Bool, true, false, cond}
 use mathlib.Core.List.{List, [], _∷_, _++_, append-nil}

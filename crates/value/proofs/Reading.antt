@@ -1,4 +1,4 @@
--- Laws of literals (`specs/Literal.antt`). Assumes nothing.
+-- Laws of literals (`specs/Literal.antt`).
 use mathlib.Core.Path.{_≡_, refl, _∙_, ap, subst}
 use mathlib.Core.Bool.{Bool, true, false, cond, _&&_}
 use mathlib.Core.List.{List, [], _∷_, _++_, append-nil}

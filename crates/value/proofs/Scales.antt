@@ -1,4 +1,4 @@
--- Steps of `seek` over powers of ten: where x / 10^s can be written over 10^i, by a test on x alone. Assumes nothing.
+-- Steps of `seek` over powers of ten: where x / 10^s can be written over 10^i, by a test on x alone.
 use mathlib.Core.Path.{_≡_, refl, sym, _∙_, ap}
 use Prim.Native.Nat.{ℕ, zero, suc, _+_, _-_, _*_, _/_, _%_, _^_, _<_, _≤_}
 use native.Mathlib.Omega.{arith}

@@ -1,4 +1,4 @@
--- Decimals of one scale are added by their numerators, and products add the scales. Assumes nothing.
+-- Decimals of one scale are added by their numerators, and products add the scales.
 use mathlib.Core.Path.{_≡_, refl, sym, ap}
 use Prim.Native.Nat.{ℕ, _+_, _^_}
 use lib.Pow.{pow-add}

@@ -1,4 +1,4 @@
--- Laws of printed text and of writing it (`specs/Printed.antt`). Assumes nothing.
+-- Laws of printed text and of writing it (`specs/Printed.antt`).
 use mathlib.Core.Path.{_≡_, refl, sym, _∙_, ap, subst}
 use mathlib.Core.Bool.{true, false}
 use mathlib.Core.List.{List, [], _∷_, _++_, append-nil}

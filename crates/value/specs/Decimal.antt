@@ -1,5 +1,5 @@
 -- Document 01, "Values": a value is m / 10^s, s from 0 to 6, m whole, at most 999,999,999 either side of zero, with s as
--- small as it can be; such a value fits. Sums, differences and products are exact. Assumes nothing.
+-- small as it can be; such a value fits. Sums, differences and products are exact.
 use mathlib.Core.Path.{_≡_}
 use mathlib.Core.Bool.{Bool, true, false, cond, _&&_}
 use Prim.Native.Nat.{ℕ, zero, suc, _*_, _/_, _%_, _^_, _<_, _≤_}

@@ -1,5 +1,5 @@
 -- Document 01, "Numbering and bounds": the coefficients of one row are gathered in a lent run of wide numbers, one per
--- variable; each partial sum must fit. A wide number is a count of millionths. Assumes nothing.
+-- variable; each partial sum must fit. A wide number is a count of millionths.
 use mathlib.Core.Path.{_≡_}
 use mathlib.Core.Bool.{Bool, true, false, cond, _&&_}
 use mathlib.Core.List.{List}

@@ -1,5 +1,5 @@
 -- Document 01, "Values": a literal is digits, digits.digits or .digits, at most 18 digits in all. A longer literal, or one
--- that doesn't fit, is too big. Assumes nothing.
+-- that doesn't fit, is too big.
 use mathlib.Core.Bool.{Bool, true, false, cond, _&&_}
 use mathlib.Core.List.{List, [], _∷_, _++_}
 use Prim.Native.Nat.{ℕ, _+_, _-_, _*_}

@@ -1,4 +1,4 @@
--- The exact number that a value is. Assumes nothing.
+-- The exact number that a value is.
 use Rattle.value.specs.declared.Value.{Value}
 use Rattle.value.specs.Decimal.{frac}
 use Rattle.value.specs.Rational.{ℚ, rational}

@@ -1,4 +1,4 @@
--- What inner functions of the code answer, each tied to the definitions by a law of `proofs/`. Assumes nothing.
+-- What inner functions of the code answer, each tied to the definitions by a law of `proofs/`.
 use mathlib.Core.Bool.{cond, _&&_}
 use mathlib.Core.List.{List, _++_}
 use Prim.Native.Nat.{ℕ, _+_}

@@ -1,5 +1,4 @@
 -- Document 01, "Values", printed: `-` if negative, a whole part without spare zeros, a point and s digits if s > 0.
--- Assumes nothing.
 use mathlib.Core.Path.{_≡_}
 use mathlib.Core.Bool.{true, false, cond}
 use mathlib.Core.List.{List, [], _∷_, _++_}

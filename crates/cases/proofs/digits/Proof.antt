@@ -1,4 +1,4 @@
--- `cases::digits` meets its contract. Assumes nothing.
+-- `cases::digits` meets its contract.
 use native.Mathlib.Omega.{arith}
 use borrow.Author.Needs.{needs}
 use Rattle.cases.proofs.Laws.{digits-none, digits-most, digits-some}

@@ -1,4 +1,4 @@
--- `cases::field` meets its contract. Assumes nothing.
+-- `cases::field` meets its contract.
 use native.Mathlib.Omega.{arith}
 use borrow.Author.Needs.{needs}
 use Rattle.listing.proofs.Writing.{tab-then}

@@ -1,4 +1,4 @@
--- Laws over plain variables that answer the code's needs. Assumes nothing.
+-- Laws over plain variables that answer the code's needs.
 use mathlib.Core.Path.{_≡_, sym}
 use mathlib.Core.List.{List}
 use Prim.Native.Nat.{ℕ, _-_, _<_, _≤_}

@@ -1,4 +1,4 @@
--- `cases::line` meets its contract. Assumes nothing.
+-- `cases::line` meets its contract.
 use native.Mathlib.Omega.{arith}
 use borrow.Author.Needs.{needs}
 use Rattle.cases.proofs.Laws.{line-is}

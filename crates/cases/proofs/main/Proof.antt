@@ -1,6 +1,5 @@
 -- `cases::main` is safe and ends. The measure is the number of turns that are left.
 -- Nothing has to hold from turn to turn, so the invariant is `Unit {0}`, the fact that says nothing, which `tt` shows.
--- Assumes nothing.
 use native.Mathlib.Omega.{arith}
 use Rattle.cases.proofs.main.Statement.{statement}
 use Rattle.cases.proofs.main.Tie as tie

@@ -1,4 +1,4 @@
--- `cases::nonzero` meets its contract. The measure is the number of bytes that are left. Assumes nothing.
+-- `cases::nonzero` meets its contract. The measure is the number of bytes that are left.
 use Prim.Native.Nat.{_-_}
 use native.Mathlib.Omega.{arith}
 use borrow.Author.Needs.{needs}

@@ -1,4 +1,4 @@
--- `cases::one` meets its contract. Assumes nothing.
+-- `cases::one` meets its contract.
 use native.Mathlib.Omega.{arith}
 use Rattle.cases.proofs.Laws.{one-zero, one-other}
 use Rattle.cases.proofs.one.Statement.{statement}

@@ -1,4 +1,4 @@
--- `cases::put` meets its contract. Assumes nothing.
+-- `cases::put` meets its contract.
 use borrow.Author.Needs.{needs}
 use Rattle.value.proofs.Writing.{written-past}
 use Rattle.cases.proofs.put.Statement.{statement}

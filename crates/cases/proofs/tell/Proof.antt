@@ -1,4 +1,4 @@
--- `cases::tell` is safe and ends. Assumes nothing.
+-- `cases::tell` is safe and ends.
 use borrow.Author.Needs.{needs}
 use Rattle.cases.proofs.Laws.{line-part, out-part}
 use Rattle.cases.proofs.tell.Statement.{statement}

@@ -1,4 +1,4 @@
--- `cases::turn` is safe and ends. Assumes nothing.
+-- `cases::turn` is safe and ends.
 use borrow.Author.Needs.{needs}
 use Rattle.cases.proofs.frames.Laws.{text-within, text-part}
 use Rattle.cases.proofs.Laws.{filled-part}

@@ -1,4 +1,4 @@
--- What the head of a frame says. Assumes nothing.
+-- What the head of a frame says.
 use mathlib.Core.Bool.{cond}
 use Prim.Native.Nat.{ℕ, _+_, _*_, _-_, _≤_}
 use Prim.Native.Char.{code}

@@ -1,4 +1,4 @@
--- `constraints::constraint` meets its contract. Assumes nothing.
+-- `constraints::constraint` meets its contract.
 use Rattle.constraints.proofs.RowLaws.{row-title, row-left, row-relation, row-right, row-domain}
 use borrow.Author.Needs.{needs}
 use Rattle.constraints.proofs.constraint.Statement.{statement}

@@ -1,4 +1,4 @@
--- `constraints::full` meets its contract. Assumes nothing.
+-- `constraints::full` meets its contract.
 use Rattle.constraints.proofs.ListLaws.{full-token, full-wrong}
 use borrow.Author.Needs.{needs}
 use Rattle.constraints.proofs.full.Statement.{statement}

@@ -1,4 +1,4 @@
--- `constraints::goal` meets its contract. Assumes nothing.
+-- `constraints::goal` meets its contract.
 use Rattle.constraints.proofs.TokenLaws.{goal-yes, goal-no, goal-wrong}
 use borrow.Author.Needs.{needs}
 use Rattle.constraints.proofs.goal.Statement.{statement}

@@ -1,4 +1,4 @@
--- `constraints::more` meets its contract. Assumes nothing.
+-- `constraints::more` meets its contract.
 use Rattle.constraints.proofs.TokenLaws.{more-token, more-wrong}
 use borrow.Author.Needs.{needs}
 use Rattle.constraints.proofs.more.Statement.{statement}

@@ -1,4 +1,4 @@
--- `constraints::read_rows` meets its contract. Assumes nothing.
+-- `constraints::read_rows` meets its contract.
 use Rattle.constraints.proofs.ListLaws.{ConstraintsOn, constraints-start, constraints-refused, constraints-wrong, constraints-on, constraints-end, constraints-full}
 use Prim.Native.Nat.{_-_}
 use borrow.Author.Needs.{needs}

@@ -1,4 +1,4 @@
--- `constraints::relation` meets its contract. Assumes nothing.
+-- `constraints::relation` meets its contract.
 use Rattle.constraints.proofs.TokenLaws.{relation-yes, relation-no, relation-wrong}
 use borrow.Author.Needs.{needs}
 use Rattle.constraints.proofs.relation.Statement.{statement}

@@ -1,4 +1,4 @@
--- `constraints::title` meets its contract. Assumes nothing.
+-- `constraints::title` meets its contract.
 use Rattle.constraints.proofs.TokenLaws.{title-yes, title-no, title-wrong}
 use borrow.Author.Needs.{needs}
 use Rattle.constraints.proofs.title.Statement.{statement}

@@ -1,4 +1,4 @@
--- `read` meets its contract. Assumes nothing.
+-- `read` meets its contract.
 use Rattle.data.proofs.Filling.{read-done, read-not, read-refused}
 use borrow.Author.Needs.{needs}
 use Rattle.data.proofs.read.Statement.{statement}

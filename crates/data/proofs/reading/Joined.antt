@@ -1,4 +1,4 @@
--- The definition's readers of a portion by the parts that code reads. Assumes nothing.
+-- The definition's readers of a portion by the parts that code reads.
 use mathlib.Core.Path.{_≡_, refl, sym, _∙_, ap}
 use mathlib.Core.List.{List}
 use lib.IntN.{ℤ}

@@ -1,4 +1,4 @@
--- Laws of a portion's entries, its order and its head over plain variables. Assumes nothing.
+-- Laws of a portion's entries, its order and its head over plain variables.
 use mathlib.Core.Path.{_≡_, refl, sym, _∙_, ap, subst}
 use mathlib.Core.Bool.{Bool, true, false, _&&_}
 use mathlib.Core.List.{List, [], _∷_, _++_, append-nil}

@@ -1,4 +1,4 @@
--- Laws of at most four numbers over plain variables. Assumes nothing.
+-- Laws of at most four numbers over plain variables.
 use mathlib.Core.Path.{_≡_, refl, sym, _∙_, ap}
 use mathlib.Core.Bool.{Bool, true, false}
 use mathlib.Core.List.{List, [], _∷_, _++_}

@@ -1,4 +1,4 @@
--- Laws of a portion's entries over plain variables. Assumes nothing.
+-- Laws of a portion's entries over plain variables.
 use mathlib.Core.Path.{_≡_, refl, sym, _∙_, ap}
 use mathlib.Core.Bool.{Bool, true, false}
 use mathlib.Core.Option.{none, some}

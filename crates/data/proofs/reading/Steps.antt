@@ -1,4 +1,4 @@
--- Laws of the readers of one token over plain variables: an index, an entry, a number, the data section's ends. Assumes nothing.
+-- Laws of the readers of one token over plain variables: an index, an entry, a number, the data section's ends.
 use mathlib.Core.Path.{_≡_, refl, sym, _∙_, ap, subst}
 use mathlib.Core.Bool.{Bool, true, false, _||_}
 use mathlib.Core.Option.{Option, none, some}

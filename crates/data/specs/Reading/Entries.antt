@@ -1,4 +1,4 @@
--- A portion's entries as a list. Assumes nothing.
+-- A portion's entries as a list.
 use mathlib.Core.Path.{_≡_}
 use mathlib.Core.Bool.{Bool, false}
 use mathlib.Core.List.{List, [], _∷_, _++_}

@@ -1,4 +1,4 @@
--- At most four numbers as a list. Assumes nothing.
+-- At most four numbers as a list.
 use mathlib.Core.Path.{_≡_}
 use mathlib.Core.Bool.{Bool}
 use mathlib.Core.List.{List, [], _∷_, _++_}

@@ -1,4 +1,4 @@
--- The readers of a portion's entries, its order and its head. Assumes nothing.
+-- The readers of a portion's entries, its order and its head.
 use mathlib.Core.Path.{_≡_}
 use mathlib.Core.Bool.{Bool, true, false}
 use mathlib.Core.List.{List, [], _∷_}

@@ -1,4 +1,4 @@
--- The readers of a portion's parts, and what code answers as the definition's outcome. Assumes nothing.
+-- The readers of a portion's parts, and what code answers as the definition's outcome.
 use mathlib.Core.Path.{_≡_}
 use mathlib.Core.Bool.{Bool}
 use mathlib.Core.List.{List}

@@ -1,4 +1,4 @@
--- `declarations::declarations` meets its contract. Assumes nothing.
+-- `declarations::declarations` meets its contract.
 use Rattle.declarations.proofs.ListLaws.{declared-all}
 use borrow.Author.Needs.{needs}
 use Rattle.declarations.proofs.declarations.Statement.{statement}

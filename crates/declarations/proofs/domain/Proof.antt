@@ -1,4 +1,4 @@
--- `declarations::domain` meets its contract. Assumes nothing.
+-- `declarations::domain` meets its contract.
 use Rattle.declarations.proofs.EntryLaws.{domain-open, domain-list, domain-first, domain-due}
 use borrow.Author.Needs.{needs}
 use Rattle.declarations.proofs.domain.Statement.{statement}

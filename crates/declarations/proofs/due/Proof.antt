@@ -1,4 +1,4 @@
--- `declarations::due` meets its contract. Assumes nothing.
+-- `declarations::due` meets its contract.
 use Prim.Native.Nat.{_-_, _≤_}
 use lib.ListN.{length}
 use Rattle.declarations.proofs.DueLaws.{DueOn, due-start, due-none, due-entry, due-last, due-comma, due-on}

@@ -1,4 +1,4 @@
--- `declarations::due_entry` meets its contract. Assumes nothing.
+-- `declarations::due_entry` meets its contract.
 use Rattle.domains.proofs.Laws.{entry-lower, entry-index, entry-sign, entry-upper}
 use borrow.Author.Needs.{needs}
 use Rattle.declarations.proofs.due_entry.Statement.{statement}

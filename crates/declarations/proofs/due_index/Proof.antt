@@ -1,4 +1,4 @@
--- `declarations::due_index` meets its contract. Assumes nothing.
+-- `declarations::due_index` meets its contract.
 use Rattle.declarations.proofs.DueLaws.{due-wrong, due-yes, due-other}
 use borrow.Author.Needs.{needs}
 use Rattle.declarations.proofs.due_index.Statement.{statement}

@@ -1,4 +1,4 @@
--- `declarations::entries` meets its contract. Assumes nothing.
+-- `declarations::entries` meets its contract.
 use Rattle.declarations.proofs.ListLaws.{EntriesOn, entries-start, entries-part, entries-none, entries-refused, entries-end, entries-on}
 use borrow.Author.Needs.{needs}
 use Rattle.declarations.proofs.entries.Statement.{statement}

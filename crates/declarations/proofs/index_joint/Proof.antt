@@ -1,4 +1,4 @@
--- `declarations::index_joint` meets its contract. Assumes nothing.
+-- `declarations::index_joint` meets its contract.
 use Rattle.declarations.proofs.IndexLaws.{joint-last, joint-comma, joint-close, joint-wrong}
 use borrow.Author.Needs.{needs}
 use Rattle.declarations.proofs.index_joint.Statement.{statement}

@@ -1,4 +1,4 @@
--- `declarations::index_number` meets its contract. Assumes nothing.
+-- `declarations::index_number` meets its contract.
 use Rattle.declarations.proofs.IndexLaws.{number-wrong, number-other, number-yes}
 use borrow.Author.Needs.{needs}
 use Rattle.declarations.proofs.index_number.Statement.{statement}

@@ -1,4 +1,4 @@
--- `declarations::item` meets its contract. Assumes nothing.
+-- `declarations::item` meets its contract.
 use Rattle.declarations.proofs.DueLaws.{item-past}
 use borrow.Author.Needs.{needs}
 use Rattle.declarations.proofs.item.Statement.{statement}

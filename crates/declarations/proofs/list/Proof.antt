@@ -1,4 +1,4 @@
--- `declarations::list` meets its contract. Assumes nothing.
+-- `declarations::list` meets its contract.
 use Rattle.declarations.proofs.ListLaws.{list-word, list-none, list-wrong}
 use borrow.Author.Needs.{needs}
 use Rattle.declarations.proofs.list.Statement.{statement}

@@ -1,4 +1,4 @@
--- `declarations::lists` meets its contract. Assumes nothing.
+-- `declarations::lists` meets its contract.
 use Prim.Native.Nat.{_-_}
 use Rattle.declarations.proofs.ListLaws.{ListsOn, lists-start, lists-end, lists-refused, lists-on}
 use borrow.Author.Needs.{needs}

@@ -1,4 +1,4 @@
--- `declarations::new_name` meets its contract. Assumes nothing.
+-- `declarations::new_name` meets its contract.
 use Rattle.declarations.proofs.RowLaws.{title-wrong, title-no-name, title-again, title-full, title-new}
 use borrow.Author.Needs.{needs}
 use Rattle.declarations.proofs.new_name.Statement.{statement}

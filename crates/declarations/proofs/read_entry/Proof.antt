@@ -1,4 +1,4 @@
--- `declarations::read_entry` meets its contract. Assumes nothing.
+-- `declarations::read_entry` meets its contract.
 use Rattle.declarations.proofs.EntryLaws.{sort-index, sort-domain, sort-equals, sort-formula}
 use borrow.Author.Needs.{needs}
 use Rattle.declarations.proofs.read_entry.Statement.{statement}

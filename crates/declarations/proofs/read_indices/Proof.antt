@@ -1,4 +1,4 @@
--- `declarations::read_indices` meets its contract. Assumes nothing.
+-- `declarations::read_indices` meets its contract.
 use Prim.Native.Nat.{_-_, _≤_}
 use Rattle.declarations.proofs.IndexLaws.{IndicesOn, indices-start, indices-full, indices-index, indices-sign, indices-end, indices-on}
 use native.Mathlib.Omega.{arith}

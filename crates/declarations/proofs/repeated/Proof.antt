@@ -1,4 +1,4 @@
--- `declarations::repeated` meets its contract. Assumes nothing.
+-- `declarations::repeated` meets its contract.
 use Rattle.declarations.proofs.DueLaws.{Shows, shows-start, shows-none, shows-found, shows-on}
 use borrow.Author.Needs.{needs}
 use Rattle.declarations.proofs.repeated.Statement.{statement}

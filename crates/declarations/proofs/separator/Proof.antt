@@ -1,4 +1,4 @@
--- `declarations::separator` meets its contract. Assumes nothing.
+-- `declarations::separator` meets its contract.
 use Rattle.declarations.proofs.RowLaws.{separator-comma, separator-end, separator-no, separator-wrong}
 use borrow.Author.Needs.{needs}
 use Rattle.declarations.proofs.separator.Statement.{statement}

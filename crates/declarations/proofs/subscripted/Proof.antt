@@ -1,4 +1,4 @@
--- `declarations::subscripted` meets its contract. Assumes nothing.
+-- `declarations::subscripted` meets its contract.
 use Rattle.declarations.proofs.EntryLaws.{subscripted-some, subscripted-none, subscripted-wrong}
 use borrow.Author.Needs.{needs}
 use Rattle.declarations.proofs.subscripted.Statement.{statement}

@@ -1,4 +1,4 @@
--- `domains::entries` meets its contract. Assumes nothing.
+-- `domains::entries` meets its contract.
 use Rattle.domains.proofs.Laws.{entries-first, entries-last, entries-wrong, entries-end, entries-on}
 use native.Mathlib.Omega.{arith}
 use borrow.Author.Needs.{needs}

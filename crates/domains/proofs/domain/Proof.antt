@@ -1,4 +1,4 @@
--- `domains::domain` meets its contract. Assumes nothing.
+-- `domains::domain` meets its contract.
 use Rattle.domains.proofs.Laws.{domain-open, domain-entries}
 use borrow.Author.Needs.{needs}
 use Rattle.domains.proofs.domain.Statement.{statement}

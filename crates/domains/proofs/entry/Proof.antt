@@ -1,4 +1,4 @@
--- `domains::entry` meets its contract. Assumes nothing.
+-- `domains::entry` meets its contract.
 use Rattle.domains.proofs.Laws.{entry-lower, entry-index, entry-sign, entry-upper}
 use borrow.Author.Needs.{needs}
 use Rattle.domains.proofs.entry.Statement.{statement}

@@ -1,4 +1,4 @@
--- `domains::optional_domain` meets its contract. Assumes nothing.
+-- `domains::optional_domain` meets its contract.
 use Rattle.domains.proofs.Laws.{optional-wrong, optional-some, optional-none}
 use borrow.Author.Needs.{needs}
 use Rattle.domains.proofs.optional_domain.Statement.{statement}

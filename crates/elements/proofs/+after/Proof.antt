@@ -1,4 +1,4 @@
--- `elements::after` meets its contract. Assumes nothing.
+-- `elements::after` meets its contract.
 use Prim.Native.Nat.{ℕ, _<_, _-_}
 use native.Mathlib.Omega.{arith}
 use lib.ListN.{length}

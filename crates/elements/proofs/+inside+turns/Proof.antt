@@ -1,4 +1,4 @@
--- `elements::inside` and `elements::turns` meet their contracts. Assumes nothing.
+-- `elements::inside` and `elements::turns` meet their contracts.
 use Prim.Native.Nat.{ℕ, _<_, _+_, _*_}
 use native.Mathlib.Omega.{arith}
 use borrow.Author.Needs.{needs}

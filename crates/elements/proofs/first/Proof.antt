@@ -1,4 +1,4 @@
--- `first` meets its contract. Assumes nothing.
+-- `first` meets its contract.
 use borrow.Author.Needs.{needs}
 use Rattle.elements.proofs.Entering.{first-is}
 use Rattle.elements.proofs.first.Statement.{statement}

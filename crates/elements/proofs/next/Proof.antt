@@ -1,4 +1,4 @@
--- `next` meets its contract. Assumes nothing.
+-- `next` meets its contract.
 use borrow.Author.Needs.{needs}
 use Rattle.elements.proofs.Going.{next-is}
 use Rattle.elements.proofs.next.Statement.{statement}

@@ -1,5 +1,4 @@
 -- The cycle of evaluation: each function meets its contract. The level falls at a declared name, the nesting at a bracket.
--- Assumes nothing.
 use Prim.Native.Nat.{_+_, _*_, _-_}
 use native.Mathlib.Omega.{arith}
 use borrow.Author.Needs.{needs}

@@ -1,4 +1,4 @@
--- Laws of the steps on values: what each answers, and that it is what the definition says of values. Assumes nothing.
+-- Laws of the steps on values: what each answers, and that it is what the definition says of values.
 use mathlib.Core.Path.{_≡_, refl, _∙_, ap}
 use mathlib.Core.Bool.{Bool, true, false, cond}
 use mathlib.Core.List.{List}

@@ -1,4 +1,4 @@
--- Laws of names by their numbers: the table resolved, rows, and what a token's number says of the names. Assumes nothing.
+-- Laws of names by their numbers: the table resolved, rows, and what a token's number says of the names.
 use mathlib.Core.Path.{_≡_, refl, sym, _∙_, ap, subst}
 use mathlib.Core.Bool.{Bool, true, false, cond}
 use mathlib.Core.Option.{Option, none, some}

@@ -1,4 +1,4 @@
--- Laws of what is passed over: one token, tokens up to a bracket's end, an optional sign. Assumes nothing.
+-- Laws of what is passed over: one token, tokens up to a bracket's end, an optional sign.
 use mathlib.Core.Path.{_≡_, refl, sym, _∙_, ap, subst}
 use mathlib.Core.Bool.{Bool, true, false, _||_}
 use mathlib.Core.List.{List, [], _∷_}

@@ -1,4 +1,4 @@
--- Laws of runs: bounds, lengths, the numbers of a run, and the domain test of one number. Assumes nothing.
+-- Laws of runs: bounds, lengths, the numbers of a run, and the domain test of one number.
 use mathlib.Core.Path.{_≡_, refl, sym, _∙_, ap, subst}
 use mathlib.Core.Bool.{Bool, true, false, _&&_, not}
 use mathlib.Core.Option.{Option}

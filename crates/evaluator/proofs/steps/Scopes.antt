@@ -1,4 +1,4 @@
--- Laws of scopes: what is bound, one index more, none, and bounds. Assumes nothing.
+-- Laws of scopes: what is bound, one index more, none, and bounds.
 use mathlib.Core.Path.{_≡_, refl, sym, _∙_, ap, subst}
 use mathlib.Core.Bool.{Bool, true, false, cond, _&&_}
 use mathlib.Core.Option.{Option, none, some}

@@ -1,4 +1,4 @@
--- `value` meets its contract. Assumes nothing.
+-- `value` meets its contract.
 use Rattle.evaluator.proofs.Laws.{value-formula}
 use borrow.Author.Needs.{needs}
 use Rattle.evaluator.proofs.value.Statement.{statement}

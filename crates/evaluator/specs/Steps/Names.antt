@@ -1,4 +1,4 @@
--- Names by the numbers that their tokens hold. Assumes nothing.
+-- Names by the numbers that their tokens hold.
 use mathlib.Core.Path.{_≡_}
 use mathlib.Core.Bool.{cond}
 use mathlib.Core.List.{List}

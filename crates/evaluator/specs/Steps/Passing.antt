@@ -1,4 +1,4 @@
--- What code passes over, against the walks of the definition, for every text. Assumes nothing.
+-- What code passes over, against the walks of the definition, for every text.
 use mathlib.Core.Path.{_≡_}
 use mathlib.Core.List.{List}
 use Prim.Native.Nat.{ℕ}

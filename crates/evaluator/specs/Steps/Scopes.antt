@@ -1,4 +1,4 @@
--- A scope as the code holds it, and the bindings of the definition. Assumes nothing.
+-- A scope as the code holds it, and the bindings of the definition.
 use mathlib.Core.Bool.{Bool, true, false, cond}
 use mathlib.Core.Option.{Option, none, some}
 use mathlib.Core.List.{List, [], _∷_}

@@ -1,4 +1,4 @@
--- What the steps on values and whole numbers answer. Assumes nothing.
+-- What the steps on values and whole numbers answer.
 use mathlib.Core.Path.{_≡_}
 use mathlib.Core.Bool.{Bool, true, false, cond, _&&_}
 use mathlib.Core.Option.{Option, none, some}

@@ -1,4 +1,4 @@
--- The cycle of formulas: each function meets its contract. Assumes nothing.
+-- The cycle of formulas: each function meets its contract.
 use Prim.Native.Nat.{_+_, _*_}
 use Rattle.formulas.proofs.Laws.{inside-full, inside-formula, part-refused, part-sign, nested-full, nested-part, term-refused, term-rest, formula-sign, formula-term, formula-rest, sum-head, sum-lower, sum-upper, sum-body, named-unknown, named-plain, named-datum, named-other, primary-wrong, primary-sum, primary-nested, primary-name, primary-literal, primary-other}
 use Rattle.formulas.proofs.Loops.{FactorsOn, SummandsOn, factors-start, factors-none, factors-wrong, factors-end, factors-refused, factors-on, summands-start, summands-none, summands-wrong, summands-end, summands-refused, summands-on, EntriesOn, subscripts-none, subscripts-open, entries-start, entries-refused, entries-on, entries-last}

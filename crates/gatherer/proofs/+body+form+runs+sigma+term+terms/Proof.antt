@@ -1,5 +1,5 @@
 -- The cycle of terms, forms and sigmas: each function meets its contract. The number of tokens behind the position
--- falls from a sigma to the sigma in its body. Assumes nothing.
+-- falls from a sigma to the sigma in its body.
 use Prim.Native.Nat.{ℕ, _+_, _*_, _-_, _<_}
 use native.Mathlib.Omega.{arith}
 use mathlib.Core.Bool.{cond}

@@ -1,4 +1,4 @@
--- `end_of` meets its contract. Assumes nothing.
+-- `end_of` meets its contract.
 use borrow.Author.Needs.{needs}
 use Rattle.gatherer.proofs.Endings.{EndingOn, ending-start, ending-none, ending-wrong, ending-sigma, ending-variable, ending-refused, ending-on}
 use Rattle.gatherer.proofs.end_of.Statement.{statement}

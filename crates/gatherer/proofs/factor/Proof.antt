@@ -1,4 +1,4 @@
--- `factor` meets its contract. Assumes nothing.
+-- `factor` meets its contract.
 use borrow.Author.Needs.{needs}
 use Rattle.gatherer.proofs.Endings.{factor-refused, factor-wrong, factor-product}
 use Rattle.gatherer.proofs.factor.Statement.{statement}

@@ -1,4 +1,4 @@
--- `gathered` meets its contract. Assumes nothing.
+-- `gathered` meets its contract.
 use borrow.Author.Needs.{needs}
 use Rattle.gatherer.proofs.Forms.{gathered-form}
 use Rattle.gatherer.proofs.gathered.Statement.{statement}

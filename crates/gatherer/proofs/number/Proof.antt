@@ -1,4 +1,4 @@
--- `number` meets its contract. Assumes nothing.
+-- `number` meets its contract.
 use borrow.Author.Needs.{needs}
 use Rattle.gatherer.proofs.Numbers.{number-subscripts, number-outside, number-nothing, number-found}
 use Rattle.gatherer.proofs.number.Statement.{statement}

@@ -1,4 +1,4 @@
--- `run_of` meets its contract. Assumes nothing.
+-- `run_of` meets its contract.
 use borrow.Author.Needs.{needs}
 use Rattle.gatherer.proofs.Variables.{run-head, run-limits, run-refused, run-back, run-count}
 use Rattle.gatherer.proofs.run_of.Statement.{statement}

@@ -1,4 +1,4 @@
--- `variable` meets its contract. Assumes nothing.
+-- `variable` meets its contract.
 use borrow.Author.Needs.{needs}
 use Rattle.gatherer.proofs.Variables.{variable-refused, variable-fits, variable-unfit}
 use Rattle.gatherer.proofs.variable.Statement.{statement}

@@ -1,4 +1,4 @@
--- `variable_at` meets its contract. Assumes nothing.
+-- `variable_at` meets its contract.
 use borrow.Author.Needs.{needs}
 use Rattle.gatherer.proofs.Numbers.{begins-mark, begins-unknown, begins-late, begins-variable, begins-other}
 use Rattle.gatherer.proofs.variable_at.Statement.{statement}

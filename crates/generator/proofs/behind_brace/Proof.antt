@@ -1,4 +1,4 @@
--- `generator::behind_brace` meets its contract. Assumes nothing.
+-- `generator::behind_brace` meets its contract.
 use borrow.Author.Needs.{needs}
 use Rattle.generator.proofs.Listings.{brace-inside, brace-outside}
 use Rattle.generator.proofs.behind_brace.Statement.{statement}

@@ -1,4 +1,4 @@
--- `generator::generate_in` meets its contract. Assumes nothing.
+-- `generator::generate_in` meets its contract.
 use borrow.Author.Needs.{needs}
 use Rattle.generator.proofs.Listings.{text-unread, text-listed}
 use Rattle.generator.proofs.generate_in.Statement.{statement}

@@ -1,4 +1,4 @@
--- `generator::list` meets its contract. Assumes nothing.
+-- `generator::list` meets its contract.
 use mathlib.Core.Path.{refl}
 use borrow.Author.Needs.{needs}
 use Rattle.generator.proofs.list.Statement.{statement}

@@ -1,4 +1,4 @@
--- `generator::list_in` meets its contract. Assumes nothing.
+-- `generator::list_in` meets its contract.
 use borrow.Author.Needs.{needs}
 use Rattle.generator.proofs.Listings.{list-refused, list-done}
 use Rattle.generator.proofs.list_in.Statement.{statement}

@@ -1,4 +1,4 @@
--- `generator::part` meets its contract. Assumes nothing.
+-- `generator::part` meets its contract.
 use borrow.Author.Needs.{needs}
 use Rattle.model.proofs.Laws.{rows-part, tokens-part}
 use Rattle.generator.proofs.part.Statement.{statement}

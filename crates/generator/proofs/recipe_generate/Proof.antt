@@ -1,4 +1,4 @@
--- `generator::recipe_generate` meets its contract. Assumes nothing.
+-- `generator::recipe_generate` meets its contract.
 use borrow.Author.Needs.{needs}
 use Rattle.generator.proofs.Answers.{defined-refused, defined-listed, defined-long, defined-means, accepts-refused, accepts-listed, accepts-long}
 use Rattle.generator.proofs.recipe_generate.Statement.{statement}

@@ -1,4 +1,4 @@
--- `generator::refuse` meets its contract. Assumes nothing.
+-- `generator::refuse` meets its contract.
 use borrow.Author.Needs.{needs}
 use Rattle.generator.proofs.Answers.{numbered}
 use Rattle.generator.proofs.refuse.Statement.{statement}

@@ -1,4 +1,4 @@
--- `generator::write` meets its contract. Assumes nothing.
+-- `generator::write` meets its contract.
 use borrow.Author.Needs.{needs}
 use Rattle.model.proofs.Laws.{rows-part}
 use Rattle.generator.proofs.Listings.{listed-rows}

@@ -1,4 +1,4 @@
--- `lexer::between_braces` meets its contract. Assumes nothing.
+-- `lexer::between_braces` meets its contract.
 use borrow.Author.Needs.{needs}
 use Rattle.lexer.proofs.Runs.{braces-out, run-slice}
 use Rattle.lexer.proofs.between_braces.Statement.{statement}

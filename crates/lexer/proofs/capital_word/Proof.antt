@@ -1,4 +1,4 @@
--- `lexer::capital_word` meets its contract. Assumes nothing.
+-- `lexer::capital_word` meets its contract.
 use borrow.Author.Needs.{needs}
 use Rattle.lexer.specs.Marks.{capitalWords}
 use Rattle.lexer.proofs.Words.{word-none, word-or}

@@ -1,4 +1,4 @@
--- `lexer::ends_count` meets its contract. Assumes nothing.
+-- `lexer::ends_count` meets its contract.
 use borrow.Author.Needs.{needs}
 use Rattle.lexer.specs.Text.{uncounted}
 use Rattle.lexer.proofs.Calls.{ends-is}

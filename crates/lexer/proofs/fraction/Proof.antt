@@ -1,4 +1,4 @@
--- `lexer::fraction` meets its contract. Assumes nothing.
+-- `lexer::fraction` meets its contract.
 use borrow.Author.Needs.{needs}
 use Rattle.lexer.proofs.Tokens.{fraction-is}
 use Rattle.lexer.proofs.fraction.Statement.{statement}

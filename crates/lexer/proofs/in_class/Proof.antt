@@ -1,4 +1,4 @@
--- `lexer::in_class` meets its contract. Assumes nothing.
+-- `lexer::in_class` meets its contract.
 use borrow.Author.Needs.{needs}
 use Rattle.lexer.proofs.Runs.{class-is}
 use Rattle.lexer.proofs.in_class.Statement.{statement}

@@ -1,4 +1,4 @@
--- `lexer::in_name` meets its contract. Assumes nothing.
+-- `lexer::in_name` meets its contract.
 use mathlib.Core.Path.{refl}
 use Rattle.value.specs.Literal.{isDigit}
 use Rattle.lexer.specs.Text.{isSmall, inName}

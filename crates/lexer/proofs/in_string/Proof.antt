@@ -1,4 +1,4 @@
--- `lexer::in_string` meets its contract. Assumes nothing.
+-- `lexer::in_string` meets its contract.
 use mathlib.Core.Path.{refl}
 use Rattle.lexer.specs.Text.{inString}
 use Rattle.lexer.proofs.in_string.Statement.{statement}

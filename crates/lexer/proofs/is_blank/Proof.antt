@@ -1,4 +1,4 @@
--- `lexer::is_blank` meets its contract. Assumes nothing.
+-- `lexer::is_blank` meets its contract.
 use mathlib.Core.Path.{refl}
 use Rattle.lexer.specs.Text.{isBlank}
 use Rattle.lexer.proofs.is_blank.Statement.{statement}

@@ -1,4 +1,4 @@
--- `lexer::is_capital` meets its contract. Assumes nothing.
+-- `lexer::is_capital` meets its contract.
 use mathlib.Core.Path.{refl}
 use Rattle.lexer.specs.Text.{isCapital}
 use Rattle.lexer.proofs.is_capital.Statement.{statement}

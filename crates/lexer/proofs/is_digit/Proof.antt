@@ -1,4 +1,4 @@
--- `lexer::is_digit` meets its contract. Assumes nothing.
+-- `lexer::is_digit` meets its contract.
 use mathlib.Core.Path.{refl}
 use Rattle.value.specs.Literal.{isDigit}
 use Rattle.lexer.proofs.is_digit.Statement.{statement}

@@ -1,4 +1,4 @@
--- `lexer::is_sign` meets its contract. Assumes nothing.
+-- `lexer::is_sign` meets its contract.
 use mathlib.Core.Path.{refl}
 use Rattle.lexer.specs.Text.{isSign}
 use Rattle.lexer.proofs.is_sign.Statement.{statement}

@@ -1,4 +1,4 @@
--- `lexer::is_small` meets its contract. Assumes nothing.
+-- `lexer::is_small` meets its contract.
 use mathlib.Core.Path.{refl}
 use Rattle.lexer.specs.Text.{isSmall}
 use Rattle.lexer.proofs.is_small.Statement.{statement}

@@ -1,4 +1,4 @@
--- `lexer::literal` meets its contract. Assumes nothing.
+-- `lexer::literal` meets its contract.
 use borrow.Author.Needs.{needs}
 use Rattle.lexer.proofs.Tokens.{point-after, literal-fraction, literal-whole}
 use Rattle.lexer.proofs.literal.Statement.{statement}

@@ -1,4 +1,4 @@
--- `lexer::name` meets its contract. Assumes nothing.
+-- `lexer::name` meets its contract.
 use borrow.Author.Needs.{needs}
 use Rattle.rules.specs.Limits.{nameLength}
 use Rattle.lexer.proofs.Tokens.{name-word, name-new, name-long}

@@ -1,4 +1,4 @@
--- `lexer::no_brace` meets its contract. Assumes nothing.
+-- `lexer::no_brace` meets its contract.
 use mathlib.Core.Path.{refl}
 use Rattle.lexer.specs.Text.{noBrace}
 use Rattle.lexer.proofs.no_brace.Statement.{statement}

@@ -1,4 +1,4 @@
--- `lexer::order` meets its contract. Assumes nothing.
+-- `lexer::order` meets its contract.
 use borrow.Author.Needs.{needs}
 use Rattle.lexer.proofs.Tokens.{order-yes, order-no}
 use Rattle.lexer.proofs.order.Statement.{statement}

@@ -1,4 +1,4 @@
--- `lexer::other` meets its contract. Assumes nothing.
+-- `lexer::other` meets its contract.
 use borrow.Author.Needs.{needs}
 use Rattle.lexer.proofs.Tokens.{other-string, other-most, other-least, other-wrong}
 use Rattle.lexer.proofs.other.Statement.{statement}

@@ -1,4 +1,4 @@
--- `lexer::part` meets its contract. Assumes nothing.
+-- `lexer::part` meets its contract.
 use borrow.Author.Needs.{needs}
 use Rattle.lexer.proofs.Runs.{part-out, part-rest, part-whole}
 use Rattle.lexer.proofs.part.Statement.{statement}

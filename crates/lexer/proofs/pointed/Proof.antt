@@ -1,4 +1,4 @@
--- `lexer::pointed` meets its contract. Assumes nothing.
+-- `lexer::pointed` meets its contract.
 use borrow.Author.Needs.{needs}
 use Rattle.lexer.proofs.Tokens.{point-end, point-here}
 use Rattle.lexer.proofs.pointed.Statement.{statement}

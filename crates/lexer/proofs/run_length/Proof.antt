@@ -1,4 +1,4 @@
--- `lexer::run_length` meets its contract. Assumes nothing.
+-- `lexer::run_length` meets its contract.
 use Prim.Native.Nat.{_-_}
 use borrow.Author.Needs.{needs}
 use lib.ListN.{length}

@@ -1,4 +1,4 @@
--- `lexer::same_bytes` meets its contract. Assumes nothing.
+-- `lexer::same_bytes` meets its contract.
 use Prim.Native.Nat.{_-_}
 use borrow.Author.Needs.{needs}
 use lib.ListN.{length}

@@ -1,4 +1,4 @@
--- `lexer::same_parts` meets its contract. Assumes nothing.
+-- `lexer::same_parts` meets its contract.
 use borrow.Author.Needs.{needs}
 use Rattle.lexer.proofs.same_parts.Statement.{statement}
 use Rattle.lexer.proofs.same_parts.Tie as tie

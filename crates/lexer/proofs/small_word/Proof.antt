@@ -1,4 +1,4 @@
--- `lexer::small_word` meets its contract. Assumes nothing.
+-- `lexer::small_word` meets its contract.
 use borrow.Author.Needs.{needs}
 use Rattle.lexer.specs.Marks.{smallWords}
 use Rattle.lexer.proofs.Words.{word-none, word-or}

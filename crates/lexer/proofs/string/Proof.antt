@@ -1,4 +1,4 @@
--- `lexer::string` meets its contract. Assumes nothing.
+-- `lexer::string` meets its contract.
 use borrow.Author.Needs.{needs}
 use Rattle.rules.specs.Limits.{stringLength}
 use Rattle.lexer.proofs.Tokens.{string-strange, string-good, string-wrong}

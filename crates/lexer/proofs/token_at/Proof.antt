@@ -1,4 +1,4 @@
--- `lexer::token_at` meets its contract. Assumes nothing.
+-- `lexer::token_at` meets its contract.
 use borrow.Author.Needs.{needs}
 use Rattle.lexer.proofs.Tokens.{token-sign, token-number, token-name, token-word, token-other}
 use Rattle.lexer.proofs.token_at.Statement.{statement}

@@ -1,4 +1,4 @@
--- `lexer::valued` meets its contract. Assumes nothing.
+-- `lexer::valued` meets its contract.
 use borrow.Author.Needs.{needs}
 use Rattle.lexer.proofs.Tokens.{found-is}
 use Rattle.lexer.proofs.valued.Statement.{statement}

@@ -1,4 +1,4 @@
--- `lexer::word` meets its contract. Assumes nothing.
+-- `lexer::word` meets its contract.
 use borrow.Author.Needs.{needs}
 use Rattle.lexer.proofs.Tokens.{word-mark, word-wrong}
 use Rattle.lexer.proofs.word.Statement.{statement}

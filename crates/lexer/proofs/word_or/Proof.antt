@@ -1,4 +1,4 @@
--- `lexer::word_or` meets its contract. Assumes nothing.
+-- `lexer::word_or` meets its contract.
 use borrow.Author.Needs.{needs}
 use Rattle.lexer.proofs.Words.{word-same, word-other}
 use Rattle.lexer.proofs.word_or.Statement.{statement}

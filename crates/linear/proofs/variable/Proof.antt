@@ -1,4 +1,4 @@
--- `linear::variable` meets its contract. Assumes nothing.
+-- `linear::variable` meets its contract.
 use Rattle.linear.proofs.Laws.{begins-variable, begins-other, begins-unknown, begins-mark}
 use borrow.Author.Needs.{needs}
 use Rattle.linear.proofs.variable.Statement.{statement}

@@ -1,4 +1,4 @@
--- `listing::clear` meets its contract. Assumes nothing.
+-- `listing::clear` meets its contract.
 use Prim.Native.Nat.{_-_}
 use borrow.Author.Needs.{needs}
 use lib.ListN.{length}

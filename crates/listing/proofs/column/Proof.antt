@@ -1,4 +1,4 @@
--- `listing::column` meets its contract. Assumes nothing.
+-- `listing::column` meets its contract.
 use native.Mathlib.Omega.{arith}
 use borrow.Author.Needs.{needs}
 use Rattle.language.specs.Listing.{colLine}

@@ -1,4 +1,4 @@
--- `listing::element_fields` meets its contract. Assumes nothing.
+-- `listing::element_fields` meets its contract.
 use mathlib.Core.List.{map}
 use Prim.Native.Nat.{_+_, _-_, _*_, _≤_}
 use native.Mathlib.Omega.{arith}

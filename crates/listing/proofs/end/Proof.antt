@@ -1,4 +1,4 @@
--- `listing::end` meets its contract. Assumes nothing.
+-- `listing::end` meets its contract.
 use borrow.Author.Needs.{needs}
 use Rattle.listing.proofs.Writing.{end-line}
 use Rattle.listing.proofs.end.Statement.{statement}

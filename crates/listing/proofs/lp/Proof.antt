@@ -1,4 +1,4 @@
--- `listing::lp` meets its contract. Assumes nothing.
+-- `listing::lp` meets its contract.
 use native.Mathlib.Omega.{arith}
 use borrow.Author.Needs.{needs}
 use Rattle.language.specs.Listing.{lpLine}

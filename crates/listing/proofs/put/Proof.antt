@@ -1,4 +1,4 @@
--- `listing::put` meets its contract. Assumes nothing.
+-- `listing::put` meets its contract.
 use borrow.Author.Needs.{needs}
 use Rattle.value.proofs.Writing.{written-past}
 use Rattle.listing.proofs.put.Statement.{statement}

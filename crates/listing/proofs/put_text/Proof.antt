@@ -1,4 +1,4 @@
--- `listing::put_text` meets its contract. Assumes nothing.
+-- `listing::put_text` meets its contract.
 use mathlib.Core.Path.{_≡_}
 use Prim.Native.Nat.{_+_, _-_, _≤_}
 use native.Mathlib.Omega.{arith}

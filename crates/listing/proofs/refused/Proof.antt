@@ -1,4 +1,4 @@
--- `listing::refused` meets its contract. Assumes nothing.
+-- `listing::refused` meets its contract.
 use native.Mathlib.Omega.{arith}
 use borrow.Author.Needs.{needs}
 use Rattle.listing.proofs.Writing.{refused-then, field-then, line-end}

@@ -1,4 +1,4 @@
--- `listing::row` meets its contract. Assumes nothing.
+-- `listing::row` meets its contract.
 use native.Mathlib.Omega.{arith}
 use borrow.Author.Needs.{needs}
 use Rattle.language.specs.Listing.{rowLine}

@@ -1,4 +1,4 @@
--- Laws of one coefficient: where it stands, its value and its line. Assumes nothing.
+-- Laws of one coefficient: where it stands, its value and its line.
 use mathlib.Core.Path.{_≡_, refl, sym, _∙_, ap}
 use mathlib.Core.Bool.{Bool, true, false}
 use mathlib.Core.List.{List, [], _∷_, append-nil}

@@ -1,4 +1,4 @@
--- Laws of the lines of coefficients, one row or one variable more. Assumes nothing.
+-- Laws of the lines of coefficients, one row or one variable more.
 use mathlib.Core.Path.{_≡_, _∙_, ap}
 use mathlib.Core.List.{List, _++_}
 use Prim.Native.Nat.{ℕ, suc, _+_, _-_, _<_, _≤_}

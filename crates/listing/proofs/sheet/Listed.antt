@@ -1,4 +1,4 @@
--- The listing: the tables of a problem tell its lines. Assumes nothing.
+-- The listing: the tables of a problem tell its lines.
 use mathlib.Core.Path.{_≡_, refl, sym, _∙_, ap, subst}
 use mathlib.Core.Bool.{Bool, true, false, not}
 use mathlib.Core.List.{List, [], _∷_, _++_, append-assoc}

@@ -1,4 +1,4 @@
--- Laws of the rows of a problem in their slots: the row of a number, its line and its coefficients. Assumes nothing.
+-- Laws of the rows of a problem in their slots: the row of a number, its line and its coefficients.
 use mathlib.Core.Path.{_≡_, refl, sym, _∙_, ap, subst}
 use mathlib.Core.Bool.{Bool, true, false, cond}
 use mathlib.Core.Logic.{inl, inr}

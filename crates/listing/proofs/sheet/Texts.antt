@@ -1,5 +1,5 @@
 -- Laws of names and strings: what the tables tell is the part of the text that the definition reads, since all of its bytes are
--- visible. Assumes nothing.
+-- visible.
 use mathlib.Core.Path.{_≡_, refl, sym, _∙_, ap, subst}
 use mathlib.Core.Bool.{Bool, true, false}
 use mathlib.Core.List.{List, [], _∷_}

@@ -1,4 +1,4 @@
--- Laws of the variables of a problem: the line of a number, its bounds and its name. Assumes nothing.
+-- Laws of the variables of a problem: the line of a number, its bounds and its name.
 use mathlib.Core.Path.{_≡_, refl, sym, _∙_, ap}
 use mathlib.Core.Option.{some}
 use mathlib.Core.List.{List, [], _∷_}

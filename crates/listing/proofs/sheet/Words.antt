@@ -1,4 +1,4 @@
--- Laws of sizes within the limits, of words, and of the names, strings and bounds that they tell. Assumes nothing.
+-- Laws of sizes within the limits, of words, and of the names, strings and bounds that they tell.
 use mathlib.Core.Path.{_≡_, refl, sym, ap}
 use mathlib.Core.Bool.{Bool, true, false, _&&_}
 use mathlib.Core.Option.{some}

@@ -1,4 +1,4 @@
--- Laws of the lines that tables tell: one line written, and line after line. Assumes nothing.
+-- Laws of the lines that tables tell: one line written, and line after line.
 use mathlib.Core.Path.{_≡_, refl, _∙_, ap}
 use mathlib.Core.Bool.{Bool}
 use mathlib.Core.Option.{Option}

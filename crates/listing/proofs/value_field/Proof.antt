@@ -1,4 +1,4 @@
--- `listing::value_field` meets its contract. Assumes nothing.
+-- `listing::value_field` meets its contract.
 use native.Mathlib.Omega.{arith}
 use borrow.Author.Needs.{needs}
 use Rattle.listing.proofs.Showing.{shown-most}

@@ -1,4 +1,4 @@
--- `listing::whole_field` meets its contract. Assumes nothing.
+-- `listing::whole_field` meets its contract.
 use borrow.Author.Needs.{needs}
 use mir.Facts.{toZ-ofZ}
 use Rattle.listing.proofs.Showing.{whole-is}

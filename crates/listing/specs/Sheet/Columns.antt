@@ -1,4 +1,4 @@
--- The lines of coefficients, as the table of counts tells them. Assumes nothing.
+-- The lines of coefficients, as the table of counts tells them.
 use mathlib.Core.Bool.{cond}
 use mathlib.Core.List.{List, [], _∷_, _++_}
 use Prim.Native.Nat.{ℕ, zero, suc, _+_, _-_, _*_}

@@ -1,4 +1,4 @@
--- The tables of a model and of its problem, and the listing that is written from them. Assumes nothing.
+-- The tables of a model and of its problem, and the listing that is written from them.
 use mathlib.Core.Path.{_≡_}
 use mathlib.Core.List.{List}
 use Prim.Native.Nat.{ℕ, _≤_}

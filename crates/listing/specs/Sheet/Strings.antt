@@ -1,4 +1,4 @@
--- Names, strings and bounds, as the tables tell them. Assumes nothing.
+-- Names, strings and bounds, as the tables tell them.
 use mathlib.Core.Bool.{Bool, cond, _&&_}
 use mathlib.Core.Option.{Option, none, some}
 use mathlib.Core.List.{List}

@@ -1,4 +1,4 @@
--- Lines that the tables tell, one for each row and one for each variable. Assumes nothing.
+-- Lines that the tables tell, one for each row and one for each variable.
 use mathlib.Core.Path.{_≡_}
 use mathlib.Core.List.{List}
 use Prim.Native.Nat.{ℕ, _+_, _*_, _≤_}

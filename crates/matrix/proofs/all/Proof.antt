@@ -1,4 +1,4 @@
--- `matrix::all` meets its contract. Assumes nothing.
+-- `matrix::all` meets its contract.
 use Prim.Native.Nat.{_-_}
 use Rattle.matrix.proofs.Listing.{AllOn, all-start, all-done, all-refused, all-more}
 use borrow.Author.Needs.{needs}

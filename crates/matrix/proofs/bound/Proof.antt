@@ -1,4 +1,4 @@
--- `matrix::bound` meets its contract. Assumes nothing.
+-- `matrix::bound` meets its contract.
 use Rattle.matrix.proofs.Adding.{bound-refused, bound-stated}
 use borrow.Author.Needs.{needs}
 use Rattle.matrix.proofs.bound.Statement.{statement}

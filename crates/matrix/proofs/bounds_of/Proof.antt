@@ -1,4 +1,4 @@
--- `matrix::bounds_of` meets its contract. Assumes nothing.
+-- `matrix::bounds_of` meets its contract.
 use Rattle.elements.specs.Steps.{turnsLeft}
 use Rattle.elements.proofs.Loops.{next-less}
 use Rattle.matrix.proofs.Looping.{BoundsOn, bounds-start, bounds-done, bounds-stopped, bounds-refused, bounds-more}

@@ -1,4 +1,4 @@
--- `matrix::constraints` meets its contract. Assumes nothing.
+-- `matrix::constraints` meets its contract.
 use Rattle.matrix.proofs.Listing.{too-many, few-enough}
 use borrow.Author.Needs.{needs}
 use Rattle.matrix.proofs.constraints.Statement.{statement}

@@ -1,4 +1,4 @@
--- `matrix::objective` meets its contract. Assumes nothing.
+-- `matrix::objective` meets its contract.
 use Rattle.matrix.proofs.Adding.{objective-many}
 use borrow.Author.Needs.{needs}
 use Rattle.matrix.proofs.objective.Statement.{statement}

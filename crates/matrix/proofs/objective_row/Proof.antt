@@ -1,4 +1,4 @@
--- `matrix::objective_row` meets its contract. Assumes nothing.
+-- `matrix::objective_row` meets its contract.
 use Rattle.matrix.proofs.Adding.{objective-is}
 use borrow.Author.Needs.{needs}
 use Rattle.matrix.proofs.objective_row.Statement.{statement}

@@ -1,4 +1,4 @@
--- `matrix::one` meets its contract. Assumes nothing.
+-- `matrix::one` meets its contract.
 use Rattle.matrix.proofs.Listing.{one-rows, one-bounds, one-refused}
 use borrow.Author.Needs.{needs}
 use Rattle.matrix.proofs.one.Statement.{statement}

@@ -1,4 +1,4 @@
--- `matrix::row` meets its contract. Assumes nothing.
+-- `matrix::row` meets its contract.
 use Rattle.matrix.proofs.Adding.{slot-low, row-refused, row-full, row-written}
 use borrow.Author.Needs.{needs}
 use native.Mathlib.Omega.{arith}

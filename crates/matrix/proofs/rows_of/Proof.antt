@@ -1,4 +1,4 @@
--- `matrix::rows_of` meets its contract. Assumes nothing.
+-- `matrix::rows_of` meets its contract.
 use Rattle.elements.specs.Steps.{turnsLeft}
 use Rattle.elements.proofs.Loops.{next-less}
 use Rattle.matrix.proofs.Looping.{RowsOn, rows-start, rows-done, rows-stopped, rows-refused, rows-more}

@@ -1,4 +1,4 @@
--- Laws for a left side that is one variable, without sign or factor. Assumes nothing.
+-- Laws for a left side that is one variable, without sign or factor.
 use mathlib.Core.Path.{_≡_, refl, sym, _∙_, ap, subst}
 use mathlib.Core.Bool.{Bool, true, false, not, _||_, _&&_, cond}
 use mathlib.Core.List.{List, []}

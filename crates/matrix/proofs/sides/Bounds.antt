@@ -1,4 +1,4 @@
--- Laws over plain variables for a bound: the variable's number, and the right side's value. Assumes nothing.
+-- Laws over plain variables for a bound: the variable's number, and the right side's value.
 use mathlib.Core.Path.{_≡_, refl, sym, _∙_, ap, subst}
 use mathlib.Core.Bool.{Bool, true, false, _&&_, cond}
 use mathlib.Core.List.{List}

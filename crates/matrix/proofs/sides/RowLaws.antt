@@ -1,4 +1,4 @@
--- Laws over plain variables for rows: gathered from zeros, both sides under the relation's sign. Assumes nothing.
+-- Laws over plain variables for rows: gathered from zeros, both sides under the relation's sign.
 use mathlib.Core.Path.{_≡_, refl, sym, _∙_, ap, subst}
 use mathlib.Core.Bool.{Bool, true, false}
 use mathlib.Core.List.{List, map}

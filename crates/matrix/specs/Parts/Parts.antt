@@ -1,5 +1,4 @@
 -- What code tells of a constraint's row, for every text, and for all names and constraints that the tables tell of.
--- Assumes nothing.
 use mathlib.Core.Path.{_≡_}
 use mathlib.Core.List.{List, [], _∷_}
 use Prim.Native.Nat.{ℕ, _+_, _*_, _≤_}

@@ -1,5 +1,5 @@
 -- What each function answers: for every text, names, data and variables that the tables hold, what one element of a constraint
--- becomes, and the objective's row. `level`: how many names are visible. Assumes nothing.
+-- becomes, and the objective's row. `level`: how many names are visible.
 use mathlib.Core.Path.{_≡_}
 use mathlib.Core.Bool.{Bool, true, false, not}
 use mathlib.Core.List.{List, map}

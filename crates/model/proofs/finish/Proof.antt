@@ -1,4 +1,4 @@
--- `model::finish` meets its contract. Assumes nothing.
+-- `model::finish` meets its contract.
 use Rattle.model.proofs.Laws.{finishes}
 use borrow.Author.Needs.{needs}
 use Rattle.model.proofs.finish.Statement.{statement}

@@ -1,4 +1,4 @@
--- `model::model_of` meets its contract. Assumes nothing.
+-- `model::model_of` meets its contract.
 use Rattle.model.proofs.Laws.{model-given, model-refused}
 use borrow.Author.Needs.{needs}
 use Rattle.model.proofs.model_of.Statement.{statement}

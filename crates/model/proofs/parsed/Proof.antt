@@ -1,4 +1,4 @@
--- `model::parsed` meets its contract. Assumes nothing.
+-- `model::parsed` meets its contract.
 use Rattle.model.proofs.Laws.{tokens-part}
 use borrow.Author.Needs.{needs}
 use Rattle.model.proofs.parsed.Statement.{statement}

@@ -1,4 +1,4 @@
--- `model::read` meets its contract. Assumes nothing.
+-- `model::read` meets its contract.
 use Rattle.model.proofs.Laws.{read-model, read-refused}
 use borrow.Author.Needs.{needs}
 use Rattle.model.proofs.read.Statement.{statement}

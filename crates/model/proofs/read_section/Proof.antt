@@ -1,4 +1,4 @@
--- `model::read_section` meets its contract. Assumes nothing.
+-- `model::read_section` meets its contract.
 use Rattle.model.proofs.Laws.{tokens-part, rows-part}
 use borrow.Author.Needs.{needs}
 use Rattle.model.proofs.read_section.Statement.{statement}

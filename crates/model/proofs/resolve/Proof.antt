@@ -1,4 +1,4 @@
--- `model::resolve` meets its contract. Assumes nothing.
+-- `model::resolve` meets its contract.
 use Rattle.model.proofs.Laws.{tokens-part, rows-part, resolved-part}
 use borrow.Author.Needs.{needs}
 use Rattle.model.proofs.resolve.Statement.{statement}

@@ -1,4 +1,4 @@
--- `model::scan` meets its contract. Assumes nothing.
+-- `model::scan` meets its contract.
 use Rattle.model.proofs.Laws.{scan-holds}
 use borrow.Author.Needs.{needs}
 use Rattle.model.proofs.scan.Statement.{statement}

@@ -1,4 +1,4 @@
--- `parser::parse` meets its contract. Assumes nothing.
+-- `parser::parse` meets its contract.
 use Rattle.parser.proofs.Laws.{parse-opening, parse-names, parse-body}
 use borrow.Author.Needs.{needs}
 use Rattle.parser.proofs.parse.Statement.{statement}

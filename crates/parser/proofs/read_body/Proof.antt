@@ -1,4 +1,4 @@
--- `parser::read_body` meets its contract. Assumes nothing.
+-- `parser::read_body` meets its contract.
 use Rattle.parser.proofs.Laws.{names-part, body-objective, body-rows}
 use borrow.Author.Needs.{needs}
 use Rattle.parser.proofs.read_body.Statement.{statement}

@@ -1,4 +1,4 @@
--- `parser::read_opening` meets its contract. Assumes nothing.
+-- `parser::read_opening` meets its contract.
 use Rattle.parser.proofs.Laws.{opening-word, opening-title}
 use borrow.Author.Needs.{needs}
 use Rattle.parser.proofs.read_opening.Statement.{statement}

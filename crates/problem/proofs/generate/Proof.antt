@@ -1,4 +1,4 @@
--- `problem::generate` meets its contract. Assumes nothing.
+-- `problem::generate` meets its contract.
 use borrow.Author.Needs.{needs}
 use Rattle.problem.proofs.Problems.{missing-refused, variables-refused, shaped}
 use Rattle.problem.proofs.generate.Statement.{statement}

@@ -1,4 +1,4 @@
--- Laws for one name: a value at an element, and the loop over the elements of a declared domain. Assumes nothing.
+-- Laws for one name: a value at an element, and the loop over the elements of a declared domain.
 use mathlib.Core.Path.{_≡_, refl, sym, _∙_, ap, subst}
 use mathlib.Core.Bool.{Bool, true, false, not}
 use mathlib.Core.Option.{Option, none, some}

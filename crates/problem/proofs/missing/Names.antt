@@ -1,4 +1,4 @@
--- Laws for the loop over the names: by the sort of a name, and name after name. Assumes nothing.
+-- Laws for the loop over the names: by the sort of a name, and name after name.
 use mathlib.Core.Path.{_≡_, refl, sym, _∙_, ap, subst}
 use mathlib.Core.Bool.{true, false, _||_}
 use mathlib.Core.List.{List}

@@ -1,4 +1,4 @@
--- `problem::shape` meets its contract. Assumes nothing.
+-- `problem::shape` meets its contract.
 use borrow.Author.Needs.{needs}
 use Rattle.problem.proofs.Problems.{objective-refused, constraints-refused, constraints-done}
 use Rattle.problem.proofs.shape.Statement.{statement}

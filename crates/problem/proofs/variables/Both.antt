@@ -1,4 +1,4 @@
--- The discrete names, then the continuous ones: each sort is picked by its number, and both loops make the whole. Assumes nothing.
+-- The discrete names, then the continuous ones: each sort is picked by its number, and both loops make the whole.
 use mathlib.Core.Path.{_≡_, refl, _∙_, ap, subst}
 use mathlib.Core.Option.{none}
 use mathlib.Core.List.{List, []}

@@ -1,4 +1,4 @@
--- Laws of the loop over the elements of one name: it starts, appends a row, is refused or ends. Assumes nothing.
+-- Laws of the loop over the elements of one name: it starts, appends a row, is refused or ends.
 use mathlib.Core.Path.{_≡_, refl, sym, _∙_, ap, subst, subst₂}
 use mathlib.Core.Bool.{true}
 use mathlib.Core.List.{List, [], _∷_, _++_, map}

@@ -1,4 +1,4 @@
--- The six lists stand in a fixed order, so in declared names every discrete name stands before every continuous one. Assumes nothing.
+-- The six lists stand in a fixed order, so in declared names every discrete name stands before every continuous one.
 use mathlib.Core.Path.{_≡_, refl, sym, _∙_, ap, subst}
 use mathlib.Core.Bool.{Bool, true, false}
 use mathlib.Core.Option.{Option, none, some}

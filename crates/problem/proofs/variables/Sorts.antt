@@ -1,4 +1,4 @@
--- Laws of the loop over the names of a sort: it starts, passes a name, adds one, is refused or ends. Assumes nothing.
+-- Laws of the loop over the names of a sort: it starts, passes a name, adds one, is refused or ends.
 use mathlib.Core.Path.{_≡_, refl, sym, _∙_, ap, subst}
 use mathlib.Core.Option.{Option, none, some}
 use mathlib.Core.List.{List, _∷_}

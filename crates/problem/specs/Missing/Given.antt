@@ -1,4 +1,4 @@
--- What the functions answer, for every text, names and data that the tables hold. Assumes nothing.
+-- What the functions answer, for every text, names and data that the tables hold.
 use mathlib.Core.Path.{_≡_}
 use mathlib.Core.Bool.{Bool, not}
 use mathlib.Core.Option.{some}

@@ -1,5 +1,5 @@
 -- What code answers, for every text, names and data that the tables hold: the variables of one name, of the names of a sort, and all of
--- them, in the rows of a table. Assumes nothing.
+-- them, in the rows of a table.
 use mathlib.Core.Path.{_≡_}
 use mathlib.Core.Option.{Option, none, some}
 use mathlib.Core.List.{List, []}

@@ -1,4 +1,4 @@
--- Every discrete name stands before every continuous one. Assumes nothing.
+-- Every discrete name stands before every continuous one.
 use mathlib.Core.Path.{_≡_}
 use mathlib.Core.Option.{some}
 use mathlib.Core.List.{List}

@@ -1,4 +1,4 @@
--- `recipe::answer` meets its contract. Assumes nothing.
+-- `recipe::answer` meets its contract.
 use borrow.Author.Needs.{needs}
 use Rattle.recipe.proofs.Printing.{prints-listing, prints-refusal}
 use Rattle.recipe.proofs.answer.Statement.{statement}

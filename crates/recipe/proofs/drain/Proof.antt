@@ -1,4 +1,4 @@
--- `recipe::drain` is safe and ends. Assumes nothing.
+-- `recipe::drain` is safe and ends.
 use native.Mathlib.Omega.{arith}
 use Rattle.recipe.proofs.drain.Statement.{statement}
 use Rattle.recipe.proofs.drain.Tie as tie

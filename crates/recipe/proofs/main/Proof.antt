@@ -1,4 +1,4 @@
--- `recipe::main` is safe and ends. Assumes nothing.
+-- `recipe::main` is safe and ends.
 use borrow.Author.Needs.{needs}
 use Rattle.recipe.proofs.Printing.{printed-part}
 use Rattle.recipe.proofs.main.Statement.{statement}

@@ -1,4 +1,4 @@
--- `rows::clear` meets its contract. Assumes nothing.
+-- `rows::clear` meets its contract.
 use mathlib.Core.Path.{refl, _∙_}
 use Prim.Native.Nat.{_-_}
 use lib.ListN.{length}

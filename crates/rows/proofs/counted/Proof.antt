@@ -1,4 +1,4 @@
--- `rows::counted` meets its contract. Assumes nothing.
+-- `rows::counted` meets its contract.
 use Rattle.rows.proofs.Slotting.{counted-equal, counted-less}
 use borrow.Author.Needs.{needs}
 use Rattle.rows.proofs.counted.Statement.{statement}

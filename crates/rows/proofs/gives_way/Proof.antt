@@ -1,4 +1,4 @@
--- `rows::gives_way` meets its contract. Assumes nothing.
+-- `rows::gives_way` meets its contract.
 use Rattle.rows.proofs.Bounding.{way-larger, way-smaller}
 use borrow.Author.Needs.{needs}
 use Rattle.rows.proofs.gives_way.Statement.{statement}

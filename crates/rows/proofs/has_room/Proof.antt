@@ -1,4 +1,4 @@
--- `rows::has_room` meets its contract. Assumes nothing.
+-- `rows::has_room` meets its contract.
 use Rattle.rows.proofs.Slotting.{room-none, room-left}
 use borrow.Author.Needs.{needs}
 use Rattle.rows.proofs.has_room.Statement.{statement}

@@ -1,4 +1,4 @@
--- `rows::negate` meets its contract. Assumes nothing.
+-- `rows::negate` meets its contract.
 use mathlib.Core.Path.{_∙_}
 use Prim.Native.Nat.{_-_}
 use lib.ListN.{length}

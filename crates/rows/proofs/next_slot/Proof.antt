@@ -1,4 +1,4 @@
--- `rows::next_slot` meets its contract. Assumes nothing.
+-- `rows::next_slot` meets its contract.
 use borrow.Author.Tests.{not-true, not-false}
 use Rattle.rows.proofs.Slotting.{has-slot, slot-spare, slot-equal, slot-less}
 use borrow.Author.Needs.{needs}

@@ -1,4 +1,4 @@
--- `rows::one_more` meets its contract. Assumes nothing.
+-- `rows::one_more` meets its contract.
 use Rattle.rows.proofs.Slotting.{more-counted, none-counted}
 use borrow.Author.Needs.{needs}
 use Rattle.rows.proofs.one_more.Statement.{statement}

@@ -1,4 +1,4 @@
--- `rows::opposite_of` meets its contract. Assumes nothing.
+-- `rows::opposite_of` meets its contract.
 use mathlib.Core.Path.{_∙_}
 use mir.Facts.{toZ-ofZ}
 use Rattle.rows.proofs.Counting.{opposed-low, opposed-other, opposed-fits}

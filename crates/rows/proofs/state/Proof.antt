@@ -1,4 +1,4 @@
--- `rows::state` meets its contract. Assumes nothing.
+-- `rows::state` meets its contract.
 use Rattle.rows.proofs.Bounding.{bound-out, bound-in}
 use borrow.Author.Needs.{needs}
 use Rattle.rows.proofs.state.Statement.{statement}

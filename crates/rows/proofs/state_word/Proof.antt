@@ -1,4 +1,4 @@
--- `rows::state_word` meets its contract. Assumes nothing.
+-- `rows::state_word` meets its contract.
 use borrow.Author.Tests.{not-true, not-false}
 use Rattle.rows.proofs.Bounding.{state-none, state-out, state-set}
 use borrow.Author.Needs.{needs}

@@ -1,4 +1,4 @@
--- `rows::stated` meets its contract. Assumes nothing.
+-- `rows::stated` meets its contract.
 use Rattle.rows.proofs.Bounding.{stated-new, stated-over, stated-old}
 use borrow.Author.Needs.{needs}
 use Rattle.rows.proofs.stated.Statement.{statement}

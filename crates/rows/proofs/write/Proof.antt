@@ -1,4 +1,4 @@
--- `rows::write` meets its contract. Assumes nothing.
+-- `rows::write` meets its contract.
 use Rattle.rows.proofs.Slotting.{wrote}
 use borrow.Author.Needs.{needs}
 use Rattle.rows.proofs.write.Statement.{statement}

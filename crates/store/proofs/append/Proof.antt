@@ -1,4 +1,4 @@
--- `store::append` meets its contract. Assumes nothing.
+-- `store::append` meets its contract.
 use mathlib.Core.Path.{_∙_}
 use Rattle.store.proofs.Rows.{append-room, append-none}
 use borrow.Author.Needs.{needs}

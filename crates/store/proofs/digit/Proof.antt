@@ -1,4 +1,4 @@
--- `store::digit` meets its contract. Assumes nothing.
+-- `store::digit` meets its contract.
 use mathlib.Core.Path.{_≡_, refl}
 use native.Mathlib.Omega.{arith}
 use borrow.Author.Needs.{needs}

@@ -1,4 +1,4 @@
--- `store::digit_at` meets its contract. Assumes nothing.
+-- `store::digit_at` meets its contract.
 use mathlib.Core.Path.{_∙_}
 use native.Mathlib.Omega.{arith}
 use borrow.Author.Needs.{needs}

@@ -1,4 +1,4 @@
--- `store::element_at` meets its contract. Assumes nothing.
+-- `store::element_at` meets its contract.
 use Rattle.store.proofs.Back.{element-read}
 use borrow.Author.Needs.{needs}
 use Rattle.store.proofs.element_at.Statement.{statement}

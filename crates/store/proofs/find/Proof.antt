@@ -1,4 +1,4 @@
--- `store::find` meets its contract. Assumes nothing.
+-- `store::find` meets its contract.
 use Rattle.store.proofs.Halving.{finds-taken, finds-free}
 use borrow.Author.Needs.{needs}
 use Rattle.store.proofs.find.Statement.{statement}

@@ -1,4 +1,4 @@
--- `store::insert` meets its contract. Assumes nothing.
+-- `store::insert` meets its contract.
 use Prim.Native.Nat.{_≤_}
 use native.Mathlib.Omega.{arith}
 use Rattle.store.proofs.Inserting.{insert-present, insert-no-room, free-within, insert-done}

@@ -1,4 +1,4 @@
--- `store::is_at` meets its contract. Assumes nothing.
+-- `store::is_at` meets its contract.
 use borrow.Author.Needs.{needs}
 use Rattle.store.proofs.Halving.{high-differs, middle-differs, low-same}
 use Rattle.store.proofs.is_at.Statement.{statement}

@@ -1,4 +1,4 @@
--- `store::is_below` meets its contract. Assumes nothing.
+-- `store::is_below` meets its contract.
 use borrow.Author.Needs.{needs}
 use Rattle.store.proofs.Halving.{high-below, high-above, middle-below, middle-above, low-below}
 use Rattle.store.proofs.is_below.Statement.{statement}

@@ -1,4 +1,4 @@
--- `store::key_at` meets its contract. Assumes nothing.
+-- `store::key_at` meets its contract.
 use Rattle.store.proofs.Back.{row-words}
 use borrow.Author.Needs.{needs}
 use Rattle.store.proofs.key_at.Statement.{statement}

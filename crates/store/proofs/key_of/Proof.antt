@@ -1,4 +1,4 @@
--- `store::key_of` meets its contract. Assumes nothing.
+-- `store::key_of` meets its contract.
 use borrow.Author.Needs.{needs}
 use Rattle.store.proofs.Keys.{key-words}
 use Rattle.store.proofs.key_of.Statement.{statement}

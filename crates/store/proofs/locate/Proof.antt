@@ -1,4 +1,4 @@
--- `store::locate` meets its contract. Assumes nothing.
+-- `store::locate` meets its contract.
 use mathlib.Core.Path.{sym, _∙_}
 use borrow.Author.Tests.{eqb-true, eqb-false}
 use borrow.Author.Needs.{needs}

@@ -1,4 +1,4 @@
--- `store::move_up` meets its contract. Assumes nothing.
+-- `store::move_up` meets its contract.
 use mathlib.Core.Path.{_≡_}
 use Prim.Native.Nat.{_≤_}
 use native.Mathlib.Omega.{arith}

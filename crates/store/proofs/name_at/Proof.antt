@@ -1,4 +1,4 @@
--- `store::name_at` meets its contract. Assumes nothing.
+-- `store::name_at` meets its contract.
 use Rattle.store.proofs.Back.{name-read}
 use borrow.Author.Needs.{needs}
 use Rattle.store.proofs.name_at.Statement.{statement}

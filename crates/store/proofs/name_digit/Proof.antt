@@ -1,4 +1,4 @@
--- `store::name_digit` meets its contract. Assumes nothing.
+-- `store::name_digit` meets its contract.
 use native.Mathlib.Omega.{arith}
 use borrow.Author.Tests.{lt-ltb, le-ltb}
 use Rattle.store.specs.Key.{nameBound, nameDigit}

@@ -1,4 +1,4 @@
--- `store::pack` meets its contract. Assumes nothing.
+-- `store::pack` meets its contract.
 use native.Mathlib.Omega.{arith}
 use borrow.Author.Needs.{needs}
 use Rattle.value.proofs.Integers.{back}

@@ -1,4 +1,4 @@
--- `store::pair` meets its contract. Assumes nothing.
+-- `store::pair` meets its contract.
 use mathlib.Core.Path.{refl}
 use borrow.Author.Needs.{needs}
 use Rattle.store.specs.Key.{paired}

@@ -1,4 +1,4 @@
--- `store::part` meets its contract. Assumes nothing.
+-- `store::part` meets its contract.
 use mathlib.Core.Path.{refl, sym}
 use native.Mathlib.Omega.{arith}
 use lib.ListN.{List·getD-eq-default}

@@ -1,4 +1,4 @@
--- `store::rank` meets its contract. Assumes nothing.
+-- `store::rank` meets its contract.
 use Prim.Native.Nat.{_-_}
 use native.Mathlib.Omega.{arith}
 use borrow.Author.Needs.{needs}

@@ -1,4 +1,4 @@
--- `store::set_row` meets its contract. Assumes nothing.
+-- `store::set_row` meets its contract.
 use mathlib.Core.Path.{refl}
 use native.Mathlib.Omega.{arith}
 use lib.ListN.{length-set}

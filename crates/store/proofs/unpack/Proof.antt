@@ -1,4 +1,4 @@
--- `store::unpack` meets its contract. Assumes nothing.
+-- `store::unpack` meets its contract.
 use borrow.Author.Needs.{needs}
 use Rattle.store.proofs.Words.{unpacked-fits, unpacked-is}
 use Rattle.store.proofs.unpack.Statement.{statement}

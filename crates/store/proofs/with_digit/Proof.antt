@@ -1,4 +1,4 @@
--- `store::with_digit` meets its contract. Assumes nothing.
+-- `store::with_digit` meets its contract.
 use Rattle.store.proofs.Back.{digit-none, digit-more}
 use native.Mathlib.Omega.{arith}
 use borrow.Author.Needs.{needs}

@@ -1,4 +1,4 @@
--- `store::word_at` meets its contract. Assumes nothing.
+-- `store::word_at` meets its contract.
 use borrow.Author.Needs.{needs}
 use Rattle.store.specs.Table.{wordAt}
 use Rattle.store.proofs.word_at.Statement.{statement}

@@ -1,4 +1,4 @@
--- `tokens::bracket` meets its contract. Assumes nothing.
+-- `tokens::bracket` meets its contract.
 use Rattle.tokens.proofs.Moved.{bracket-wrong, bracket-no, bracket-full, bracket-yes}
 use borrow.Author.Needs.{needs}
 use Rattle.tokens.proofs.bracket.Statement.{statement}

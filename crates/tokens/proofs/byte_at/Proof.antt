@@ -1,4 +1,4 @@
--- `tokens::byte_at` meets its contract. Assumes nothing.
+-- `tokens::byte_at` meets its contract.
 use Rattle.tokens.proofs.Tables.{byte-past, byte-past-2}
 use borrow.Author.Needs.{needs}
 use Rattle.tokens.proofs.byte_at.Statement.{statement}

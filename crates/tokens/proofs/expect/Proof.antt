@@ -1,4 +1,4 @@
--- `tokens::expect` meets its contract. Assumes nothing.
+-- `tokens::expect` meets its contract.
 use Rattle.tokens.proofs.Moved.{expect-wrong, expect-yes, expect-no}
 use borrow.Author.Needs.{needs}
 use Rattle.tokens.proofs.expect.Statement.{statement}

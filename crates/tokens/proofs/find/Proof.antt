@@ -1,4 +1,4 @@
--- `tokens::find` meets its contract. Assumes nothing.
+-- `tokens::find` meets its contract.
 use Prim.Native.Nat.{_-_, _≤_}
 use lib.ListN.{length}
 use Rattle.tokens.proofs.Tables.{Tells, tells-start, tells-name, tells-nothing, tells-on}

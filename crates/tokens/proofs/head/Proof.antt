@@ -1,4 +1,4 @@
--- `tokens::head` meets its contract. Assumes nothing.
+-- `tokens::head` meets its contract.
 use Rattle.tokens.proofs.Moved.{head-open, head-index, head-comma}
 use borrow.Author.Needs.{needs}
 use Rattle.tokens.proofs.head.Statement.{statement}

@@ -1,4 +1,4 @@
--- `tokens::index` meets its contract. Assumes nothing.
+-- `tokens::index` meets its contract.
 use Rattle.tokens.proofs.Moved.{index-wrong, index-yes, index-other}
 use borrow.Author.Needs.{needs}
 use Rattle.tokens.proofs.index.Statement.{statement}

@@ -1,4 +1,4 @@
--- `tokens::known_name` meets its contract. Assumes nothing.
+-- `tokens::known_name` meets its contract.
 use Rattle.tokens.proofs.Moved.{known-wrong, known-no-name, known-unknown, known-name}
 use borrow.Author.Needs.{needs}
 use Rattle.tokens.proofs.known_name.Statement.{statement}

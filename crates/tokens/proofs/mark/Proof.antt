@@ -1,4 +1,4 @@
--- `tokens::mark` meets its contract. Assumes nothing.
+-- `tokens::mark` meets its contract.
 use Rattle.tokens.proofs.Tables.{mark-none, mark-own}
 use Rattle.tokens.proofs.mark.Statement.{statement}
 use Rattle.tokens.proofs.mark.Tie as tie

@@ -1,4 +1,4 @@
--- `tokens::put_row` meets its contract. Assumes nothing.
+-- `tokens::put_row` meets its contract.
 use lib.ListN.{length-set}
 use Rattle.tokens.proofs.Tables.{put-none, put-five}
 use native.Mathlib.Omega.{arith}

@@ -1,4 +1,4 @@
--- `tokens::refusal` meets its contract. Assumes nothing.
+-- `tokens::refusal` meets its contract.
 use borrow.Author.Needs.{needs}
 use Rattle.tokens.specs.Stored.{refusalOf}
 use Rattle.tokens.proofs.Tables.{refusal-other}

@@ -1,4 +1,4 @@
--- `tokens::same_name` meets its contract. Assumes nothing.
+-- `tokens::same_name` meets its contract.
 use Prim.Native.Nat.{_-_}
 use Rattle.tokens.proofs.Tables.{same-lengths, Alike, alike-start, alike-end, alike-not, alike-on}
 use borrow.Author.Needs.{needs}

@@ -1,5 +1,5 @@
 -- For callers: what each word of a scanned table is. The last word, and no other, is the end or a refusal; a literal has a
--- valid value; a name's payload is its length. Assumes nothing.
+-- valid value; a name's payload is its length.
 use mathlib.Core.Path.{_≡_, refl, sym, _∙_, ap, subst}
 use mathlib.Core.Bool.{true, false}
 use mathlib.Core.Logic.{_⊎_, inl, inr}

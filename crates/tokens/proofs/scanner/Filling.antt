@@ -1,4 +1,4 @@
--- A table that is being filled: what it holds, and behind it what is still to come, are the tokens of the text. Assumes nothing.
+-- A table that is being filled: what it holds, and behind it what is still to come, are the tokens of the text.
 use mathlib.Core.Path.{_≡_, refl, sym, _∙_, ap, subst}
 use mathlib.Core.Bool.{Bool, true, false}
 use mathlib.Core.List.{List, [], _∷_, _++_, append-assoc}

@@ -1,4 +1,4 @@
--- The tokens of a text: what each is like, and that the last one, and no other, is the end or a refusal. Assumes nothing.
+-- The tokens of a text: what each is like, and that the last one, and no other, is the end or a refusal.
 use mathlib.Core.Path.{_≡_, refl, subst}
 use mathlib.Core.Bool.{Bool, true, false, cond, _&&_, _||_}
 use mathlib.Core.List.{List, [], _∷_, _++_}

@@ -1,4 +1,4 @@
--- A token as a word: the word has room for it, and holds that token. Assumes nothing.
+-- A token as a word: the word has room for it, and holds that token.
 use mathlib.Core.Path.{_≡_, refl, sym, _∙_, ap}
 use mathlib.Core.Bool.{Bool, true, false}
 use mathlib.Core.List.{List, _∷_}

@@ -1,4 +1,4 @@
--- `tokens::sign` meets its contract. Assumes nothing.
+-- `tokens::sign` meets its contract.
 use Rattle.tokens.proofs.Moved.{sign-wrong, sign-yes, sign-no}
 use borrow.Author.Needs.{needs}
 use Rattle.tokens.proofs.sign.Statement.{statement}

@@ -1,4 +1,4 @@
--- `tokens::token_at` meets its contract. Assumes nothing.
+-- `tokens::token_at` meets its contract.
 use Rattle.tokens.proofs.Tables.{looks-past, looks-wrong, looks-token}
 use borrow.Author.Needs.{needs}
 use Rattle.tokens.proofs.token_at.Statement.{statement}

@@ -1,4 +1,4 @@
--- A text's tokens in a table, one word each, and what the scanner promises of the table. Assumes nothing.
+-- A text's tokens in a table, one word each, and what the scanner promises of the table.
 use mathlib.Core.Path.{_≡_}
 use mathlib.Core.Bool.{cond}
 use mathlib.Core.List.{List}

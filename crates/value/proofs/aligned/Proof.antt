@@ -1,4 +1,4 @@
--- `value::aligned` meets its contract. Assumes nothing.
+-- `value::aligned` meets its contract.
 use mathlib.Core.Path.{_∙_}
 use native.Mathlib.Omega.{arith}
 use Rattle.rules.specs.Limits.{mantissaLimit, scaleLimit}

@@ -1,4 +1,4 @@
--- `value::all_digits` meets its contract. The invariant: what is left is as it was. Assumes nothing.
+-- `value::all_digits` meets its contract. The invariant: what is left is as it was.
 use borrow.Author.Needs.{needs}
 use mathlib.Core.Path.{_≡_, refl, sym, _∙_}
 use Prim.Native.Nat.{_-_}

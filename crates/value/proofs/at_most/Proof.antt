@@ -1,4 +1,4 @@
--- `value::at_most` meets its contract. Assumes nothing.
+-- `value::at_most` meets its contract.
 use mathlib.Core.Path.{sym, _∙_}
 use Rattle.rules.specs.Limits.{mantissaLimit, scaleLimit}
 use Rattle.value.specs.Decimal.{isAtMost}

@@ -1,4 +1,4 @@
--- `value::both_in_range` meets its contract. Assumes nothing.
+-- `value::both_in_range` meets its contract.
 use mathlib.Core.Path.{sym, _∙_}
 use borrow.Author.Needs.{needs}
 use Rattle.value.proofs.both_in_range.Statement.{statement}

@@ -1,4 +1,4 @@
--- `value::chosen` meets its contract. Assumes nothing.
+-- `value::chosen` meets its contract.
 use Rattle.value.proofs.Integers.{back}
 use Rattle.value.proofs.Scales.{choose-fits, choose-too-big}
 use borrow.Author.Needs.{needs}

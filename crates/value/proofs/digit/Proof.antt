@@ -1,4 +1,4 @@
--- `value::digit` meets its contract. Assumes nothing.
+-- `value::digit` meets its contract.
 use mathlib.Core.Path.{sym, _∙_}
 use Rattle.value.proofs.Reading.{digit-from, digit-value, digit-none}
 use borrow.Author.Needs.{needs}

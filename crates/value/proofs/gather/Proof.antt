@@ -1,4 +1,4 @@
--- `value::gather` meets its contract. Assumes nothing.
+-- `value::gather` meets its contract.
 use mathlib.Core.Path.{_≡_, sym, _∙_}
 use mathlib.Core.Bool.{true}
 use native.Mathlib.Omega.{arith}

@@ -1,4 +1,4 @@
--- `value::in_range` meets its contract. Assumes nothing.
+-- `value::in_range` meets its contract.
 use mathlib.Core.Path.{_≡_, _∙_}
 use native.Mathlib.Omega.{arith}
 use lib.IntN.{natAbs}

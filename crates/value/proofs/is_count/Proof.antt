@@ -1,4 +1,4 @@
--- `value::is_count` meets its contract. Assumes nothing.
+-- `value::is_count` meets its contract.
 use Rattle.value.specs.Gathering.{isCount}
 use Rattle.value.proofs.Integers.{back}
 use borrow.Author.Needs.{needs}

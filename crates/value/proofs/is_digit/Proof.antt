@@ -1,4 +1,4 @@
--- `value::is_digit` meets its contract. Assumes nothing.
+-- `value::is_digit` meets its contract.
 use Rattle.value.proofs.Reading.{digit-low, digit-test}
 use Rattle.value.proofs.is_digit.Statement.{statement}
 use Rattle.value.proofs.is_digit.Tie as tie

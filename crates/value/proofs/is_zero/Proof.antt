@@ -1,4 +1,4 @@
--- `value::is_zero` meets its contract. Assumes nothing.
+-- `value::is_zero` meets its contract.
 use Rattle.value.specs.Decimal.{isZero}
 use Rattle.value.proofs.Integers.{back}
 use borrow.Author.Needs.{needs}

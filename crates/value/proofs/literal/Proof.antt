@@ -1,4 +1,4 @@
--- `value::literal` meets its contract. Assumes nothing.
+-- `value::literal` meets its contract.
 use Rattle.value.proofs.Reading.{part-rest, part-none, literal-empty, literal-whole, literal-ends, literal-parts}
 use mathlib.Core.Path.{_∙_}
 use native.Mathlib.Omega.{arith}

@@ -1,4 +1,4 @@
--- `value::magnitude` meets its contract. Assumes nothing.
+-- `value::magnitude` meets its contract.
 use mathlib.Core.Path.{_≡_}
 use mathlib.Core.Bool.{true, false}
 use lib.IntN.{pos}

@@ -1,4 +1,4 @@
--- `value::mul` meets its contract. Assumes nothing.
+-- `value::mul` meets its contract.
 use mathlib.Core.Path.{sym, _∙_}
 use Prim.Native.Nat.{_+_, _≤_}
 use native.Mathlib.Omega.{arith}

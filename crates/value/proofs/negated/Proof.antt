@@ -1,4 +1,4 @@
--- `value::negated` meets its contract. Assumes nothing.
+-- `value::negated` meets its contract.
 use mathlib.Core.Path.{sym, _∙_}
 use native.Mathlib.Omega.{arith}
 use Rattle.value.proofs.Integers.{back}

@@ -1,4 +1,4 @@
--- `value::normalise` meets its contract. The invariant: the scales below i do not serve. Assumes nothing.
+-- `value::normalise` meets its contract. The invariant: the scales below i do not serve.
 use borrow.Author.Needs.{needs}
 use mathlib.Core.Path.{_∙_}
 use Prim.Native.Nat.{_-_}

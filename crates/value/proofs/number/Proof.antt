@@ -1,4 +1,4 @@
--- `value::number` meets its contract. The invariant: what is left reads on to the same number, and there is room for it. Assumes nothing.
+-- `value::number` meets its contract. The invariant: what is left reads on to the same number, and there is room for it.
 use native.Mathlib.Nat.{sub-zero}
 use mathlib.Core.Path.{_≡_, refl, sym, _∙_, subst}
 use native.Mathlib.Omega.{arith}

@@ -1,4 +1,4 @@
--- `value::of_millionths` meets its contract. Assumes nothing.
+-- `value::of_millionths` meets its contract.
 use mathlib.Core.Path.{_∙_}
 use Rattle.rules.specs.Limits.{scaleLimit}
 use Rattle.value.specs.Gathering.{ofMillionths}

@@ -1,4 +1,4 @@
--- `value::of_whole` meets its contract. Assumes nothing.
+-- `value::of_whole` meets its contract.
 use Rattle.value.specs.Decimal.{ofWhole}
 use Rattle.value.proofs.Integers.{back}
 use Rattle.value.proofs.of_whole.Statement.{statement}

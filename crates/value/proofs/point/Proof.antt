@@ -1,4 +1,4 @@
--- `value::point` meets its contract. Assumes nothing.
+-- `value::point` meets its contract.
 use mathlib.Core.Path.{_≡_}
 use native.Mathlib.Omega.{arith}
 use borrow.Author.Needs.{needs}

@@ -1,4 +1,4 @@
--- `value::print` meets its contract. Assumes nothing.
+-- `value::print` meets its contract.
 use mathlib.Core.Path.{sym, _∙_}
 use Rattle.value.proofs.Writing.{written-none, shown-printed, shown-none}
 use borrow.Author.Needs.{needs}

@@ -1,4 +1,4 @@
--- `value::put` meets its contract. Assumes nothing.
+-- `value::put` meets its contract.
 use borrow.Author.Needs.{needs}
 use Rattle.value.proofs.Writing.{written-past}
 use Rattle.value.proofs.put.Statement.{statement}

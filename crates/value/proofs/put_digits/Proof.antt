@@ -1,4 +1,4 @@
--- `value::put_digits` meets its contract. Assumes nothing.
+-- `value::put_digits` meets its contract.
 use mathlib.Core.Path.{_≡_, refl, _∙_}
 use native.Mathlib.Omega.{arith}
 use borrow.Author.Needs.{needs}

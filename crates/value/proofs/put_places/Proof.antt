@@ -1,4 +1,4 @@
--- `value::put_places` meets its contract. Assumes nothing.
+-- `value::put_places` meets its contract.
 use borrow.Author.Needs.{needs}
 use Rattle.value.proofs.Writing.{written-none, written-then, places-none, places-some}
 use Rattle.value.proofs.put_places.Statement.{statement}

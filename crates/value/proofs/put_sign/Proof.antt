@@ -1,4 +1,4 @@
--- `value::put_sign` meets its contract. Assumes nothing.
+-- `value::put_sign` meets its contract.
 use borrow.Author.Needs.{needs}
 use Rattle.value.proofs.Integers.{back}
 use Rattle.value.proofs.Writing.{written-none, sign-negative, sign-other}

@@ -1,4 +1,4 @@
--- `value::put_value` meets its contract. Assumes nothing.
+-- `value::put_value` meets its contract.
 use mathlib.Core.Path.{_∙_}
 use Prim.Native.Nat.{_/_}
 use native.Mathlib.Omega.{arith}

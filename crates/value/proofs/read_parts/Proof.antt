@@ -1,4 +1,4 @@
--- `value::read_parts` meets its contract. Assumes nothing.
+-- `value::read_parts` meets its contract.
 use mathlib.Core.Path.{sym, _∙_}
 use Prim.Native.Nat.{_<_, _^_}
 use lib.IntN.{pos}

@@ -1,4 +1,4 @@
--- `value::scaled` meets its contract. Assumes nothing.
+-- `value::scaled` meets its contract.
 use mathlib.Core.Path.{_∙_}
 use Prim.Native.Nat.{_<_, _^_}
 use native.Mathlib.Omega.{arith}

@@ -1,4 +1,4 @@
--- `value::whole_of` meets its contract. Assumes nothing.
+-- `value::whole_of` meets its contract.
 use Rattle.value.proofs.Integers.{back}
 use Rattle.value.proofs.Operations.{whole-number, not-whole}
 use Rattle.value.proofs.whole_of.Statement.{statement}

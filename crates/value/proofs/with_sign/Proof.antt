@@ -1,4 +1,4 @@
--- `value::with_sign` meets its contract. Assumes nothing.
+-- `value::with_sign` meets its contract.
 use mathlib.Core.Path.{_∙_}
 use borrow.Author.Needs.{needs}
 use lib.IntN.{pos}

@@ -1,4 +1,4 @@
--- `frames::digit` meets its contract. Assumes nothing.
+-- `frames::digit` meets its contract.
 use native.Mathlib.Omega.{arith}
 use borrow.Author.Needs.{needs}
 use Rattle.cases.proofs.frames.Laws.{digit-low, digit-high, digit-is}

@@ -1,4 +1,4 @@
--- `frames::take` meets its contract. Assumes nothing.
+-- `frames::take` meets its contract.
 use borrow.Author.Needs.{needs}
 use Rattle.cases.proofs.frames.Laws.{part-length}
 use Rattle.cases.proofs.frames.take.Statement.{statement}

@@ -1,4 +1,4 @@
--- `carrying::carry_out` meets its contract. Assumes nothing.
+-- `carrying::carry_out` meets its contract.
 use Rattle.data.proofs.Portions.{carry-runs, carry-refused}
 use borrow.Author.Needs.{needs}
 use Rattle.data.proofs.carrying.carry_out.Statement.{statement}

@@ -1,4 +1,4 @@
--- `carrying::head_of` meets its contract. Assumes nothing.
+-- `carrying::head_of` meets its contract.
 use Rattle.data.proofs.Portions.{head-none, head-some}
 use borrow.Author.Needs.{needs}
 use Rattle.data.proofs.carrying.head_of.Statement.{statement}

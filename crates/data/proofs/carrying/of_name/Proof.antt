@@ -1,4 +1,4 @@
--- `carrying::of_name` meets its contract. Assumes nothing.
+-- `carrying::of_name` meets its contract.
 use Rattle.data.proofs.Portions.{name-other, name-carries}
 use borrow.Author.Needs.{needs}
 use Rattle.data.proofs.carrying.of_name.Statement.{statement}

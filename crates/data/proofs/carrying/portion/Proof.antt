@@ -1,4 +1,4 @@
--- `carrying::portion` meets its contract. Assumes nothing.
+-- `carrying::portion` meets its contract.
 use Rattle.data.proofs.Portions.{portion-named, portion-unknown}
 use borrow.Author.Needs.{needs}
 use Rattle.data.proofs.carrying.portion.Statement.{statement}

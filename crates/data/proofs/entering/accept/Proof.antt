@@ -1,4 +1,4 @@
--- `entering::accept` meets its contract. Assumes nothing.
+-- `entering::accept` meets its contract.
 use Rattle.data.proofs.Accepting.{accept-unsuited, accept-outside, accept-enters}
 use borrow.Author.Tests.{not-true, not-false}
 use borrow.Author.Needs.{needs}

@@ -1,4 +1,4 @@
--- `entering::enter` meets its contract. Assumes nothing.
+-- `entering::enter` meets its contract.
 use Rattle.data.proofs.Rows.{enter-present, enter-full, enter-done}
 use borrow.Author.Needs.{needs}
 use Rattle.data.proofs.entering.enter.Statement.{statement}

@@ -1,4 +1,4 @@
--- `entering::one_more` meets its contract. Assumes nothing.
+-- `entering::one_more` meets its contract.
 use Rattle.data.proofs.Rows.{more-below, more-full}
 use borrow.Author.Needs.{needs}
 use Rattle.data.proofs.entering.one_more.Statement.{statement}

@@ -1,4 +1,4 @@
--- `entering::suits` meets its contract. Assumes nothing.
+-- `entering::suits` meets its contract.
 use Rattle.data.proofs.Accepting.{suits-real, suits-whole, suits-not}
 use borrow.Author.Tests.{not-true, not-false}
 use borrow.Author.Needs.{needs}

@@ -1,4 +1,4 @@
--- `layouts::lay_out` meets its contract. Assumes nothing.
+-- `layouts::lay_out` meets its contract.
 use Rattle.data.proofs.Laying.{LaidOn, laid-start, laid-stuck, laid-on, laid-end}
 use borrow.Author.Needs.{needs}
 use Rattle.data.proofs.layouts.lay_out.Statement.{statement}

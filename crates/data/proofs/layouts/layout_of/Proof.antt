@@ -1,4 +1,4 @@
--- `layouts::layout_of` meets its contract. Assumes nothing.
+-- `layouts::layout_of` meets its contract.
 use Prim.Native.Nat.{_*_}
 use lib.ListN.{length-take}
 use Rattle.data.proofs.Laying.{lays-not, lays-visible}

@@ -1,4 +1,4 @@
--- `layouts::pass_entry` meets its contract. Assumes nothing.
+-- `layouts::pass_entry` meets its contract.
 use Rattle.data.proofs.Laying.{pass-lower, pass-token, pass-upper, pass-all}
 use borrow.Author.Needs.{needs}
 use Rattle.data.proofs.layouts.pass_entry.Statement.{statement}

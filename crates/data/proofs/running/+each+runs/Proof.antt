@@ -1,4 +1,4 @@
--- `running::each` and `running::runs` meet their contracts: with each call one position less is left to run. Assumes nothing.
+-- `running::each` and `running::runs` meet their contracts: with each call one position less is left to run.
 use Prim.Native.Nat.{ℕ, _<_, _+_, _-_, _*_}
 use native.Mathlib.Omega.{arith}
 use borrow.Author.Needs.{needs}

@@ -1,4 +1,4 @@
--- `running::element` meets its contract. Assumes nothing.
+-- `running::element` meets its contract.
 use Prim.Native.Nat.{_-_}
 use Rattle.data.specs.Reading.Entries.{entriesOf}
 use Rattle.data.proofs.reading.Marks.{entries-few}

@@ -1,4 +1,4 @@
--- `running::position_run` meets its contract. Assumes nothing.
+-- `running::position_run` meets its contract.
 use Rattle.data.proofs.PositionRuns.{position-past, position-wrong, position-runs}
 use borrow.Author.Needs.{needs}
 use Rattle.data.proofs.running.position_run.Statement.{statement}

@@ -1,4 +1,4 @@
--- `running::run_of` meets its contract. Assumes nothing.
+-- `running::run_of` meets its contract.
 use Rattle.data.proofs.PositionRuns.{run-wrong, run-counted}
 use borrow.Author.Needs.{needs}
 use Rattle.data.proofs.running.run_of.Statement.{statement}

@@ -1,4 +1,4 @@
--- `running::scope_before` meets its contract. Assumes nothing.
+-- `running::scope_before` meets its contract.
 use Prim.Native.Nat.{_-_}
 use Rattle.data.proofs.Positions.{Scoping, scoping-start, scoping-marked, scoping-fixed, scoping-end}
 use borrow.Author.Needs.{needs}

@@ -1,4 +1,4 @@
--- `sections::closed` meets its contract. Assumes nothing.
+-- `sections::closed` meets its contract.
 use Rattle.data.proofs.Filling.{closed-done, closed-not, closed-refused}
 use borrow.Author.Needs.{needs}
 use Rattle.data.proofs.sections.closed.Statement.{statement}

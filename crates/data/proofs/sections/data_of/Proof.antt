@@ -1,4 +1,4 @@
--- `sections::data_of` meets its contract. Assumes nothing.
+-- `sections::data_of` meets its contract.
 use Rattle.data.proofs.Filling.{data-rest, data-title}
 use borrow.Author.Needs.{needs}
 use Rattle.data.proofs.sections.data_of.Statement.{statement}

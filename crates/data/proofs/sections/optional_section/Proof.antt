@@ -1,4 +1,4 @@
--- `sections::optional_section` meets its contract. Assumes nothing.
+-- `sections::optional_section` meets its contract.
 use Rattle.data.proofs.Filling.{section-data, section-none, section-other, section-wrong}
 use borrow.Author.Needs.{needs}
 use Rattle.data.proofs.sections.optional_section.Statement.{statement}

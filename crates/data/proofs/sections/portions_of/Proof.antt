@@ -1,4 +1,4 @@
--- `sections::portions_of` meets its contract. Assumes nothing.
+-- `sections::portions_of` meets its contract.
 use native.Mathlib.Omega.{arith}
 use Rattle.data.proofs.Filling.{PortionsOn, portions-start, portions-none, portions-refused, portions-wrong, portions-end, portions-on}
 use borrow.Author.Needs.{needs}

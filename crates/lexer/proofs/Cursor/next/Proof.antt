@@ -1,4 +1,4 @@
--- `Cursor::next` meets its contract. Assumes nothing.
+-- `Cursor::next` meets its contract.
 use native.Mathlib.Omega.{arith}
 use borrow.Author.Needs.{needs}
 use Rattle.lexer.proofs.Stream.{next-end, next-token, size-most}

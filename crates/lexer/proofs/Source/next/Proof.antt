@@ -1,4 +1,4 @@
--- `Source::next` meets its contract. Assumes nothing.
+-- `Source::next` meets its contract.
 use borrow.Author.Needs.{needs}
 use Rattle.lexer.proofs.Calls.{turn-free, turn-full, turn-on}
 use Rattle.lexer.proofs.Source.next.Statement.{statement}

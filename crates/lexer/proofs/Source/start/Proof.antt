@@ -1,4 +1,4 @@
--- `Source::start` meets its contract. Assumes nothing.
+-- `Source::start` meets its contract.
 use mathlib.Core.Path.{refl}
 use Rattle.rules.specs.Limits.{tokenLimit}
 use Rattle.lexer.proofs.Source.start.Statement.{statement}

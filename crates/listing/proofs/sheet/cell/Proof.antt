@@ -1,4 +1,4 @@
--- `sheet::cell` meets its contract. Assumes nothing.
+-- `sheet::cell` meets its contract.
 use mathlib.Core.Path.{sym, _∙_, ap}
 use native.Mathlib.Omega.{arith}
 use borrow.Author.Needs.{needs}

@@ -1,4 +1,4 @@
--- `sheet::column` meets its contract. Assumes nothing.
+-- `sheet::column` meets its contract.
 use Prim.Native.Nat.{_+_, _-_, _*_, _≤_}
 use native.Mathlib.Omega.{arith}
 use borrow.Author.Needs.{needs}

@@ -1,4 +1,4 @@
--- `sheet::column_line` meets its contract. Assumes nothing.
+-- `sheet::column_line` meets its contract.
 use native.Mathlib.Omega.{arith}
 use borrow.Author.Needs.{needs}
 use Rattle.language.specs.Listing.{colLine}

@@ -1,4 +1,4 @@
--- `sheet::columns` meets its contract. Assumes nothing.
+-- `sheet::columns` meets its contract.
 use mathlib.Core.Path.{_≡_, refl, _∙_}
 use Prim.Native.Nat.{_+_, _-_, _*_, _≤_}
 use native.Mathlib.Omega.{arith}

@@ -1,4 +1,4 @@
--- `sheet::count_at` meets its contract. Assumes nothing.
+-- `sheet::count_at` meets its contract.
 use mathlib.Core.Path.{sym}
 use native.Mathlib.Omega.{arith}
 use borrow.Author.Needs.{needs}

@@ -1,4 +1,4 @@
--- `sheet::first_line` meets its contract. Assumes nothing.
+-- `sheet::first_line` meets its contract.
 use borrow.Author.Needs.{needs}
 use Rattle.listing.proofs.sheet.Words.{string-most, part-most}
 use Rattle.listing.proofs.sheet.Writing.{first-written}

@@ -1,4 +1,4 @@
--- `sheet::is_within` meets its contract. Assumes nothing.
+-- `sheet::is_within` meets its contract.
 use Rattle.listing.proofs.sheet.Words.{within-no, within-test}
 use Rattle.listing.proofs.sheet.is_within.Statement.{statement}
 use Rattle.listing.proofs.sheet.is_within.Tie as tie

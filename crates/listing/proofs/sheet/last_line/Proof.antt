@@ -1,4 +1,4 @@
--- `sheet::last_line` meets its contract. Assumes nothing.
+-- `sheet::last_line` meets its contract.
 use native.Mathlib.Omega.{arith}
 use borrow.Author.Needs.{needs}
 use Rattle.language.specs.Listing.{endLine}

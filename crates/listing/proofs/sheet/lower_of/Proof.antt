@@ -1,4 +1,4 @@
--- `sheet::lower_of` meets its contract. Assumes nothing.
+-- `sheet::lower_of` meets its contract.
 use borrow.Author.Needs.{needs}
 use Rattle.listing.proofs.sheet.Words.{lower-none, lower-some}
 use Rattle.listing.proofs.sheet.lower_of.Statement.{statement}

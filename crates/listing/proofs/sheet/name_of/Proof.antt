@@ -1,4 +1,4 @@
--- `sheet::name_of` meets its contract. Assumes nothing.
+-- `sheet::name_of` meets its contract.
 use borrow.Author.Needs.{needs}
 use Rattle.listing.proofs.sheet.Words.{name-is}
 use Rattle.listing.proofs.sheet.name_of.Statement.{statement}

@@ -1,4 +1,4 @@
--- `sheet::row_line` meets its contract. Assumes nothing.
+-- `sheet::row_line` meets its contract.
 use native.Mathlib.Omega.{arith}
 use borrow.Author.Needs.{needs}
 use Rattle.listing.proofs.sheet.Words.{title-most}

@@ -1,4 +1,4 @@
--- `sheet::row_lines` meets its contract. Assumes nothing.
+-- `sheet::row_lines` meets its contract.
 use Prim.Native.Nat.{_-_}
 use native.Mathlib.Omega.{arith}
 use Rattle.listing.specs.Sheet.Told.{RowTold}

@@ -1,4 +1,4 @@
--- `sheet::slot` meets its contract. Assumes nothing.
+-- `sheet::slot` meets its contract.
 use native.Mathlib.Omega.{arith}
 use borrow.Author.Needs.{needs}
 use Rattle.listing.proofs.sheet.Cells.{slot-less, slot-equal}

@@ -1,4 +1,4 @@
--- `sheet::string_at` meets its contract. Assumes nothing.
+-- `sheet::string_at` meets its contract.
 use borrow.Author.Needs.{needs}
 use Rattle.listing.proofs.sheet.Words.{string-is}
 use Rattle.listing.proofs.sheet.string_at.Statement.{statement}

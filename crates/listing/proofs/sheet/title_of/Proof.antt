@@ -1,4 +1,4 @@
--- `sheet::title_of` meets its contract. Assumes nothing.
+-- `sheet::title_of` meets its contract.
 use borrow.Author.Needs.{needs}
 use Rattle.listing.proofs.sheet.Words.{title-is}
 use Rattle.listing.proofs.sheet.title_of.Statement.{statement}

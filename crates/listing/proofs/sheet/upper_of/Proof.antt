@@ -1,4 +1,4 @@
--- `sheet::upper_of` meets its contract. Assumes nothing.
+-- `sheet::upper_of` meets its contract.
 use borrow.Author.Needs.{needs}
 use Rattle.listing.proofs.sheet.Words.{upper-none, upper-some}
 use Rattle.listing.proofs.sheet.upper_of.Statement.{statement}

@@ -1,4 +1,4 @@
--- `sheet::value_of` meets its contract. Assumes nothing.
+-- `sheet::value_of` meets its contract.
 use borrow.Author.Needs.{needs}
 use Rattle.value.proofs.Integers.{back}
 use Rattle.listing.proofs.sheet.Cells.{value-fits, value-none}

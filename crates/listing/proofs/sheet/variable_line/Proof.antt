@@ -1,4 +1,4 @@
--- `sheet::variable_line` meets its contract. Assumes nothing.
+-- `sheet::variable_line` meets its contract.
 use native.Mathlib.Omega.{arith}
 use borrow.Author.Needs.{needs}
 use Rattle.listing.proofs.sheet.Words.{name-most}

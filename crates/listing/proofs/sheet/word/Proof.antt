@@ -1,4 +1,4 @@
--- `sheet::word` meets its contract. Assumes nothing.
+-- `sheet::word` meets its contract.
 use mathlib.Core.Path.{sym}
 use native.Mathlib.Omega.{arith}
 use borrow.Author.Needs.{needs}

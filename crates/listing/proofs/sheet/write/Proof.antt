@@ -1,4 +1,4 @@
--- `sheet::write` meets its contract. Assumes nothing.
+-- `sheet::write` meets its contract.
 use mathlib.Core.Path.{sym, _∙_}
 use native.Mathlib.Omega.{arith}
 use borrow.Author.Needs.{needs}

@@ -1,4 +1,4 @@
--- `parts::entries` meets its contract. Assumes nothing.
+-- `parts::entries` meets its contract.
 use Prim.Native.Nat.{_-_}
 use Rattle.matrix.proofs.parts.Laws.{Counting, counting-first, counting-full, counting-stuck, counting-wrong, counting-end, counting-more}
 use borrow.Author.Needs.{needs}

@@ -1,4 +1,4 @@
--- `parts::extent_at` meets its contract. Assumes nothing.
+-- `parts::extent_at` meets its contract.
 use Rattle.matrix.proofs.parts.Laws.{extent-some, extent-none, extent-wrong}
 use borrow.Author.Needs.{needs}
 use Rattle.matrix.proofs.parts.extent_at.Statement.{statement}

@@ -1,4 +1,4 @@
--- `parts::place_at` meets its contract. Assumes nothing.
+-- `parts::place_at` meets its contract.
 use Rattle.matrix.proofs.parts.Laws.{place-is, place-wrong}
 use borrow.Author.Needs.{needs}
 use Rattle.matrix.proofs.parts.place_at.Statement.{statement}

@@ -1,4 +1,4 @@
--- `parts::read` meets its contract. Assumes nothing.
+-- `parts::read` meets its contract.
 use Rattle.matrix.proofs.parts.Laws.{parts-are}
 use borrow.Author.Needs.{needs}
 use Rattle.matrix.proofs.parts.read.Statement.{statement}

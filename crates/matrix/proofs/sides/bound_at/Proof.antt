@@ -1,4 +1,4 @@
--- `bound_at` meets its contract. Assumes nothing.
+-- `bound_at` meets its contract.
 use borrow.Author.Needs.{needs}
 use Rattle.matrix.proofs.sides.Bounds.{bound-value, bound-side, bound-number}
 use Rattle.matrix.proofs.sides.bound_at.Statement.{statement}

@@ -1,4 +1,4 @@
--- `gather` meets its contract. Assumes nothing.
+-- `gather` meets its contract.
 use borrow.Author.Needs.{needs}
 use Rattle.matrix.proofs.sides.RowLaws.{gather-done, gather-refused}
 use Rattle.matrix.proofs.sides.gather.Statement.{statement}

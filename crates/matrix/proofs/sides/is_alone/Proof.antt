@@ -1,4 +1,4 @@
--- `is_alone` meets its contract. Assumes nothing.
+-- `is_alone` meets its contract.
 use borrow.Author.Needs.{needs}
 use Rattle.matrix.proofs.sides.Bare.{alone-sum, alone-other, alone-wrong}
 use Rattle.matrix.proofs.sides.is_alone.Statement.{statement}

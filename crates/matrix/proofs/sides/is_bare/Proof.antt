@@ -1,4 +1,4 @@
--- `is_bare` meets its contract. Assumes nothing.
+-- `is_bare` meets its contract.
 use borrow.Author.Needs.{needs}
 use Rattle.matrix.proofs.sides.Bare.{bare-alone, bare-refused, bare-other, bare-wrong}
 use Rattle.matrix.proofs.sides.is_bare.Statement.{statement}

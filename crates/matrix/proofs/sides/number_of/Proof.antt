@@ -1,4 +1,4 @@
--- `number_of` meets its contract. Assumes nothing.
+-- `number_of` meets its contract.
 use borrow.Author.Needs.{needs}
 use Rattle.matrix.proofs.sides.Bounds.{of-number, of-nothing, of-wrong}
 use Rattle.matrix.proofs.sides.number_of.Statement.{statement}

@@ -1,4 +1,4 @@
--- `objective_at` meets its contract. Assumes nothing.
+-- `objective_at` meets its contract.
 use borrow.Author.Needs.{needs}
 use Rattle.matrix.proofs.sides.RowLaws.{objective-row}
 use Rattle.matrix.proofs.sides.objective_at.Statement.{statement}

@@ -1,4 +1,4 @@
--- `row_at` meets its contract. Assumes nothing.
+-- `row_at` meets its contract.
 use borrow.Author.Needs.{needs}
 use Rattle.matrix.proofs.sides.RowLaws.{row-value, row-side, row-form}
 use Rattle.matrix.proofs.sides.row_at.Statement.{statement}

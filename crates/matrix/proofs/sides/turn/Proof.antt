@@ -1,4 +1,4 @@
--- `turn` meets its contract. Assumes nothing.
+-- `turn` meets its contract.
 use borrow.Author.Needs.{needs}
 use Rattle.matrix.proofs.sides.RowLaws.{turn-negated, turn-kept}
 use Rattle.matrix.proofs.sides.turn.Statement.{statement}

@@ -1,4 +1,4 @@
--- `missing::all_given` meets its contract: the names before i have their data. Assumes nothing.
+-- `missing::all_given` meets its contract: the names before i have their data.
 use Prim.Native.Nat.{_-_, _/_}
 use native.Mathlib.Omega.{arith}
 use borrow.Author.Needs.{needs}

@@ -1,4 +1,4 @@
--- `missing::domain_given` meets its contract: the elements from the step on are still to be asked. Assumes nothing.
+-- `missing::domain_given` meets its contract: the elements from the step on are still to be asked.
 use borrow.Author.Needs.{needs}
 use Rattle.elements.specs.Steps.{turnsLeft}
 use Rattle.elements.proofs.Loops.{next-less}

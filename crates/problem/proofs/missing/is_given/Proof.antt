@@ -1,4 +1,4 @@
--- `missing::is_given` meets its contract. Assumes nothing.
+-- `missing::is_given` meets its contract.
 use borrow.Author.Needs.{needs}
 use Rattle.problem.proofs.missing.Elements.{given-found, given-nothing}
 use Rattle.problem.proofs.missing.is_given.Statement.{statement}

@@ -1,4 +1,4 @@
--- `missing::name_given` meets its contract. Assumes nothing.
+-- `missing::name_given` meets its contract.
 use borrow.Author.Needs.{needs}
 use Rattle.problem.proofs.missing.Names.{name-data, name-other}
 use Rattle.problem.proofs.missing.name_given.Statement.{statement}

@@ -1,4 +1,4 @@
--- `add_name` meets its contract. Assumes nothing.
+-- `add_name` meets its contract.
 use native.Mathlib.Omega.{arith}
 use borrow.Author.Needs.{needs}
 use Rattle.elements.specs.Steps.{turnsLeft}

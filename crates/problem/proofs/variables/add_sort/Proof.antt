@@ -1,4 +1,4 @@
--- `add_sort` meets its contract. Assumes nothing.
+-- `add_sort` meets its contract.
 use Prim.Native.Nat.{_-_, _/_}
 use lib.ListN.{length}
 use borrow.Author.Needs.{needs}

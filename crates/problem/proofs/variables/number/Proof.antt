@@ -1,4 +1,4 @@
--- `number` meets its contract. Assumes nothing.
+-- `number` meets its contract.
 use borrow.Author.Needs.{needs}
 use Rattle.problem.proofs.variables.Both.{number-refused, number-later, number-of}
 use Rattle.problem.proofs.variables.number.Statement.{statement}

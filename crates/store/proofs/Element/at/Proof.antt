@@ -1,4 +1,4 @@
--- `Element::at` meets its contract. Assumes nothing.
+-- `Element::at` meets its contract.
 use mathlib.Core.Path.{_≡_, _∙_}
 use native.Mathlib.Omega.{arith}
 use Rattle.store.proofs.Elements.{number-at, number-past, length-few, length-within}

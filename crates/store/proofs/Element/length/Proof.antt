@@ -1,4 +1,4 @@
--- `Element::length` meets its contract. Assumes nothing.
+-- `Element::length` meets its contract.
 use Rattle.store.proofs.Elements.{length-count, length-four}
 use Rattle.store.proofs.Element.length.Statement.{statement}
 use Rattle.store.proofs.Element.length.Tie as tie

@@ -1,4 +1,4 @@
--- `Element::none` meets its contract. Assumes nothing.
+-- `Element::none` meets its contract.
 use mathlib.Core.Path.{refl}
 use Rattle.store.specs.Element.{listOf}
 use Rattle.store.proofs.Element.none.Statement.{statement}

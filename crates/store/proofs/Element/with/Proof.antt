@@ -1,4 +1,4 @@
--- `Element::with` meets its contract. Assumes nothing.
+-- `Element::with` meets its contract.
 use native.Mathlib.Omega.{arith}
 use Rattle.store.proofs.Elements.{with-first, with-second, with-third, with-fourth, with-none}
 use Rattle.value.proofs.Integers.{back}

@@ -1,4 +1,4 @@
--- `scanner::fill` meets its contract. Assumes nothing.
+-- `scanner::fill` meets its contract.
 use native.Mathlib.Omega.{arith}
 use Prim.Native.Nat.{_-_}
 use lib.ListN.{length, length-set}

@@ -1,4 +1,4 @@
--- `scanner::payload_of` meets its contract. Assumes nothing.
+-- `scanner::payload_of` meets its contract.
 use Rattle.tokens.proofs.scanner.Words.{packs-literal, payload-literal}
 use borrow.Author.Needs.{needs}
 use Rattle.tokens.proofs.scanner.payload_of.Statement.{statement}

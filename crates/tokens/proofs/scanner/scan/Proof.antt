@@ -1,4 +1,4 @@
--- `scanner::scan` meets its contract. Assumes nothing.
+-- `scanner::scan` meets its contract.
 use Rattle.rules.specs.Limits.{byteLimit}
 use Rattle.tokens.proofs.scanner.Filling.{scanned-none, scanned-long}
 use borrow.Author.Needs.{needs}

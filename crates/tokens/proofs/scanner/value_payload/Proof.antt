@@ -1,4 +1,4 @@
--- `scanner::value_payload` meets its contract. Assumes nothing.
+-- `scanner::value_payload` meets its contract.
 use native.Mathlib.Omega.{arith}
 use Rattle.tokens.proofs.scanner.Words.{value-small, plain-back}
 use borrow.Author.Needs.{needs}

@@ -1,4 +1,4 @@
--- `scanner::word` meets its contract. Assumes nothing.
+-- `scanner::word` meets its contract.
 use native.Mathlib.Omega.{arith}
 use Rattle.rules.specs.Limits.{byteLimit}
 use Rattle.tokens.proofs.scanner.Words.{payload-small}

@@ -1,4 +1,4 @@
--- `ends::close` meets its contract. Assumes nothing.
+-- `ends::close` meets its contract.
 use Rattle.data.proofs.reading.Steps.{close-wrong, close-sign, close-yes, close-no}
 use borrow.Author.Needs.{needs}
 use Rattle.data.proofs.reading.ends.close.Statement.{statement}

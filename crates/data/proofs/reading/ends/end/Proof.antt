@@ -1,4 +1,4 @@
--- `ends::end` meets its contract. Assumes nothing.
+-- `ends::end` meets its contract.
 use Rattle.data.proofs.reading.Steps.{end-wrong, end-yes, end-no}
 use borrow.Author.Needs.{needs}
 use Rattle.data.proofs.reading.ends.end.Statement.{statement}

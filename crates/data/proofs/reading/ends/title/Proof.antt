@@ -1,4 +1,4 @@
--- `ends::title` meets its contract. Assumes nothing.
+-- `ends::title` meets its contract.
 use Rattle.data.proofs.reading.Steps.{title-wrong, title-yes, title-no}
 use borrow.Author.Needs.{needs}
 use Rattle.data.proofs.reading.ends.title.Statement.{statement}

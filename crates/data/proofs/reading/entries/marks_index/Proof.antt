@@ -1,4 +1,4 @@
--- `entries::marks_index` meets its contract. Assumes nothing.
+-- `entries::marks_index` meets its contract.
 use Rattle.data.proofs.reading.Marks.{marks-same}
 use borrow.Author.Needs.{needs}
 use Rattle.data.proofs.reading.entries.marks_index.Statement.{statement}

@@ -1,4 +1,4 @@
--- `heads::behind_index` meets its contract. Assumes nothing.
+-- `heads::behind_index` meets its contract.
 use Rattle.data.proofs.reading.Listings.{behind-wrong, behind-more-item, behind-last-item, behind-no}
 use borrow.Author.Needs.{needs}
 use Rattle.data.proofs.reading.heads.behind_index.Statement.{statement}

@@ -1,4 +1,4 @@
--- `heads::bracketed_order` meets its contract. Assumes nothing.
+-- `heads::bracketed_order` meets its contract.
 use Rattle.data.proofs.reading.Listings.{bracketed-wrong, bracketed-yes, bracketed-no}
 use borrow.Author.Needs.{needs}
 use Rattle.data.proofs.reading.heads.bracketed_order.Statement.{statement}

@@ -1,4 +1,4 @@
--- `heads::entries_head` meets its contract. Assumes nothing.
+-- `heads::entries_head` meets its contract.
 use Rattle.data.proofs.reading.Listings.{rest-wrong, rest-on}
 use borrow.Author.Needs.{needs}
 use Rattle.data.proofs.reading.heads.entries_head.Statement.{statement}

@@ -1,4 +1,4 @@
--- `heads::entry` meets its contract. Assumes nothing.
+-- `heads::entry` meets its contract.
 use Rattle.data.proofs.reading.Steps.{entry-wrong, entry-mark, entry-whole, entry-plus, entry-minus, entry-other}
 use borrow.Author.Needs.{needs}
 use Rattle.data.proofs.reading.heads.entry.Statement.{statement}

@@ -1,4 +1,4 @@
--- `heads::head` meets its contract. Assumes nothing.
+-- `heads::head` meets its contract.
 use Rattle.data.proofs.reading.Listings.{head-wrong, head-on}
 use borrow.Author.Needs.{needs}
 use Rattle.data.proofs.reading.heads.head.Statement.{statement}

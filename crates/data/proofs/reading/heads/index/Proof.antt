@@ -1,4 +1,4 @@
--- `heads::index` meets its contract. Assumes nothing.
+-- `heads::index` meets its contract.
 use Rattle.data.proofs.reading.Steps.{index-wrong, index-yes, index-other}
 use borrow.Author.Needs.{needs}
 use Rattle.data.proofs.reading.heads.index.Statement.{statement}

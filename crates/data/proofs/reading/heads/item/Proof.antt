@@ -1,4 +1,4 @@
--- `heads::item` meets its contract. Assumes nothing.
+-- `heads::item` meets its contract.
 use Rattle.data.proofs.reading.Listings.{item-wrong, item-yes, item-no}
 use borrow.Author.Needs.{needs}
 use Rattle.data.proofs.reading.heads.item.Statement.{statement}

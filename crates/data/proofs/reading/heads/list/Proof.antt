@@ -1,4 +1,4 @@
--- `heads::list` meets its contract. Assumes nothing.
+-- `heads::list` meets its contract.
 use Rattle.data.proofs.reading.Listings.{Listing, listing-start, listing-wrong, listing-on, listing-end}
 use borrow.Author.Needs.{needs}
 use Rattle.data.proofs.reading.heads.list.Statement.{statement}

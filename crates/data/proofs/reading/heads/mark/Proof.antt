@@ -1,4 +1,4 @@
--- `heads::mark` meets its contract. Assumes nothing.
+-- `heads::mark` meets its contract.
 use Rattle.data.proofs.reading.Steps.{mark-wrong, mark-yes}
 use borrow.Author.Needs.{needs}
 use Rattle.data.proofs.reading.heads.mark.Statement.{statement}

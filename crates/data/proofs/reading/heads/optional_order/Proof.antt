@@ -1,4 +1,4 @@
--- `heads::optional_order` meets its contract. Assumes nothing.
+-- `heads::optional_order` meets its contract.
 use Rattle.data.proofs.reading.Listings.{optional-wrong, optional-some, optional-none}
 use borrow.Author.Needs.{needs}
 use Rattle.data.proofs.reading.heads.optional_order.Statement.{statement}

@@ -1,4 +1,4 @@
--- `heads::order_item` meets its contract. Assumes nothing.
+-- `heads::order_item` meets its contract.
 use Rattle.data.proofs.reading.Listings.{turn-wrong, turn-on}
 use borrow.Author.Needs.{needs}
 use Rattle.data.proofs.reading.heads.order_item.Statement.{statement}

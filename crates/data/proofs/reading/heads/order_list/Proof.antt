@@ -1,4 +1,4 @@
--- `heads::order_list` meets its contract. Assumes nothing.
+-- `heads::order_list` meets its contract.
 use Rattle.data.proofs.reading.Listings.{OrderOn, order-start, order-more, order-last, order-wrong, order-out}
 use borrow.Author.Needs.{needs}
 use Rattle.data.proofs.reading.heads.order_list.Statement.{statement}

@@ -1,4 +1,4 @@
--- `heads::ordered_head` meets its contract. Assumes nothing.
+-- `heads::ordered_head` meets its contract.
 use Rattle.data.proofs.reading.Listings.{head-repeats, head-order, head-runs}
 use borrow.Author.Tests.{not-true, not-false}
 use borrow.Author.Needs.{needs}

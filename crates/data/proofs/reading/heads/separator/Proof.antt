@@ -1,4 +1,4 @@
--- `heads::separator` meets its contract. Assumes nothing.
+-- `heads::separator` meets its contract.
 use Rattle.data.proofs.reading.Listings.{separator-last, separator-more}
 use Rattle.data.proofs.reading.heads.separator.Statement.{statement}
 use Rattle.data.proofs.reading.heads.separator.Tie as tie

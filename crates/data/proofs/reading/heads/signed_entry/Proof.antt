@@ -1,4 +1,4 @@
--- `heads::signed_entry` meets its contract. Assumes nothing.
+-- `heads::signed_entry` meets its contract.
 use Rattle.data.proofs.reading.Steps.{fixed-wrong, fixed-yes, fixed-no}
 use borrow.Author.Needs.{needs}
 use Rattle.data.proofs.reading.heads.signed_entry.Statement.{statement}

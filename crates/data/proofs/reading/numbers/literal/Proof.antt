@@ -1,4 +1,4 @@
--- `numbers::literal` meets its contract. Assumes nothing.
+-- `numbers::literal` meets its contract.
 use Rattle.data.proofs.reading.Steps.{literal-wrong, literal-yes, literal-no}
 use borrow.Author.Needs.{needs}
 use Rattle.data.proofs.reading.numbers.literal.Statement.{statement}

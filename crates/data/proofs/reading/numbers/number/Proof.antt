@@ -1,4 +1,4 @@
--- `numbers::number` meets its contract. Assumes nothing.
+-- `numbers::number` meets its contract.
 use Rattle.data.proofs.reading.Steps.{number-wrong, number-yes, number-no}
 use borrow.Author.Needs.{needs}
 use Rattle.data.proofs.reading.numbers.number.Statement.{statement}

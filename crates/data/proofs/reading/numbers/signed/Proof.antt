@@ -1,4 +1,4 @@
--- `numbers::signed` meets its contract. Assumes nothing.
+-- `numbers::signed` meets its contract.
 use Rattle.data.proofs.reading.Steps.{opposite-fits, signed-minus, signed-plus}
 use borrow.Author.Needs.{needs}
 use Rattle.data.proofs.reading.numbers.signed.Statement.{statement}

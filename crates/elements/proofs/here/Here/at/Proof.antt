@@ -1,4 +1,4 @@
--- `Here::at` meets its contract. Assumes nothing.
+-- `Here::at` meets its contract.
 use borrow.Author.Needs.{needs}
 use Rattle.elements.proofs.Held.{at-past, at-none, at-first, at-second, at-third, at-fourth}
 use Rattle.elements.proofs.here.Here.at.Statement.{statement}

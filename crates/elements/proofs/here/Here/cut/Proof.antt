@@ -1,4 +1,4 @@
--- `Here::cut` meets its contract. Assumes nothing.
+-- `Here::cut` meets its contract.
 use Rattle.elements.proofs.Held.{cut-less, cut-all}
 use Rattle.elements.proofs.here.Here.cut.Statement.{statement}
 use Rattle.elements.proofs.here.Here.cut.Tie as tie

@@ -1,4 +1,4 @@
--- `Here::element` meets its contract. Assumes nothing.
+-- `Here::element` meets its contract.
 use Rattle.elements.proofs.Held.{element-is}
 use Rattle.elements.proofs.here.Here.element.Statement.{statement}
 use Rattle.elements.proofs.here.Here.element.Tie as tie

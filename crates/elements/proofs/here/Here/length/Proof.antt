@@ -1,4 +1,4 @@
--- `Here::length` meets its contract. Assumes nothing.
+-- `Here::length` meets its contract.
 use Rattle.elements.proofs.Held.{length-count, length-four}
 use Rattle.elements.proofs.here.Here.length.Statement.{statement}
 use Rattle.elements.proofs.here.Here.length.Tie as tie

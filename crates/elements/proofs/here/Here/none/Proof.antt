@@ -1,4 +1,4 @@
--- `Here::none` meets its contract. Assumes nothing.
+-- `Here::none` meets its contract.
 use borrow.Author.Needs.{needs}
 use Rattle.elements.proofs.Held.{held-none}
 use Rattle.elements.proofs.here.Here.none.Statement.{statement}

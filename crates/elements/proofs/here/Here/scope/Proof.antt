@@ -1,4 +1,4 @@
--- `Here::scope` meets its contract. Assumes nothing.
+-- `Here::scope` meets its contract.
 use Rattle.elements.proofs.Held.{scope-is}
 use Rattle.elements.proofs.here.Here.scope.Statement.{statement}
 use Rattle.elements.proofs.here.Here.scope.Tie as tie

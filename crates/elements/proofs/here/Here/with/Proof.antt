@@ -1,4 +1,4 @@
--- `Here::with` meets its contract. Assumes nothing.
+-- `Here::with` meets its contract.
 use Rattle.elements.proofs.Held.{with-first, with-second, with-third, with-fourth, with-none}
 use Rattle.elements.proofs.here.Here.with.Statement.{statement}
 use Rattle.elements.proofs.here.Here.with.Tie as tie

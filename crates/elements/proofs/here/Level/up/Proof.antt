@@ -1,4 +1,4 @@
--- `Level::up` meets its contract. Assumes nothing.
+-- `Level::up` meets its contract.
 use borrow.Author.Needs.{needs}
 use Rattle.elements.proofs.Numbers.{up-same, up-fits, up-number}
 use Rattle.elements.proofs.here.Level.up.Statement.{statement}

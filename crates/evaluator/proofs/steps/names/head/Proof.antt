@@ -1,4 +1,4 @@
--- `names::head` meets its contract. Assumes nothing.
+-- `names::head` meets its contract.
 use Rattle.evaluator.proofs.steps.Numbers.{heads-wrong, heads-index}
 use borrow.Author.Needs.{needs}
 use Rattle.evaluator.proofs.steps.names.head.Statement.{statement}

@@ -1,4 +1,4 @@
--- `names::held_number` meets its contract. Assumes nothing.
+-- `names::held_number` meets its contract.
 use Rattle.evaluator.proofs.steps.Numbers.{kept-name, kept-beyond, kept-nothing}
 use borrow.Author.Needs.{needs}
 use Rattle.evaluator.proofs.steps.names.held_number.Statement.{statement}

@@ -1,4 +1,4 @@
--- `names::index_number` meets its contract. Assumes nothing.
+-- `names::index_number` meets its contract.
 use Rattle.evaluator.proofs.steps.Numbers.{index-past, index-other, index-none, index-late, index-name}
 use borrow.Author.Needs.{needs}
 use Rattle.evaluator.proofs.steps.names.index_number.Statement.{statement}

@@ -1,4 +1,4 @@
--- `names::name_at` meets its contract. Assumes nothing.
+-- `names::name_at` meets its contract.
 use Rattle.evaluator.proofs.steps.Numbers.{listed-none, listed-name}
 use borrow.Author.Needs.{needs}
 use Rattle.evaluator.proofs.steps.names.name_at.Statement.{statement}

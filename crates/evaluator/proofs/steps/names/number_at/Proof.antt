@@ -1,4 +1,4 @@
--- `names::number_at` meets its contract. Assumes nothing.
+-- `names::number_at` meets its contract.
 use Rattle.evaluator.proofs.steps.Numbers.{number-past}
 use borrow.Author.Needs.{needs}
 use Rattle.evaluator.proofs.steps.names.number_at.Statement.{statement}

@@ -1,4 +1,4 @@
--- `names::resolve` meets its contract. Assumes nothing.
+-- `names::resolve` meets its contract.
 use Prim.Native.Nat.{_-_}
 use lib.ListN.{length}
 use Rattle.evaluator.proofs.steps.Numbers.{Resolving, resolving-start, resolving-more, resolving-end}

@@ -1,4 +1,4 @@
--- `names::resolved` meets its contract. Assumes nothing.
+-- `names::resolved` meets its contract.
 use Rattle.evaluator.proofs.steps.Numbers.{word-other, word-name}
 use borrow.Author.Needs.{needs}
 use Rattle.evaluator.proofs.steps.names.resolved.Statement.{statement}

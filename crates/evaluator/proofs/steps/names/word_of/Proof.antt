@@ -1,4 +1,4 @@
--- `names::word_of` meets its contract. Assumes nothing.
+-- `names::word_of` meets its contract.
 use Rattle.evaluator.proofs.steps.Numbers.{row-here, row-past, row-beyond, row-wide}
 use borrow.Author.Needs.{needs}
 use Rattle.evaluator.proofs.steps.names.word_of.Statement.{statement}

@@ -1,4 +1,4 @@
--- `passing::behind_bracket` meets its contract. Assumes nothing.
+-- `passing::behind_bracket` meets its contract.
 use Prim.Native.Nat.{_-_}
 use lib.ListN.{length}
 use Rattle.evaluator.proofs.steps.Passed.{Open, open-start, open-end, open-more, open-closed, open-less, open-other}

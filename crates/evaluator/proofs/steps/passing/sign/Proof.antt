@@ -1,4 +1,4 @@
--- `passing::sign` meets its contract. Assumes nothing.
+-- `passing::sign` meets its contract.
 use Rattle.evaluator.proofs.steps.Passed.{leads-wrong, leads-sign, leads-none}
 use borrow.Author.Needs.{needs}
 use Rattle.evaluator.proofs.steps.passing.sign.Statement.{statement}

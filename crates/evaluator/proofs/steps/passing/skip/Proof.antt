@@ -1,4 +1,4 @@
--- `passing::skip` meets its contract. Assumes nothing.
+-- `passing::skip` meets its contract.
 use Rattle.evaluator.proofs.steps.Passed.{skips-past, skips-one}
 use borrow.Author.Needs.{needs}
 use Rattle.evaluator.proofs.steps.passing.skip.Statement.{statement}

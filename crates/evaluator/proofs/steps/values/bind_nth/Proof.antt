@@ -1,4 +1,4 @@
--- `values::bind_nth` meets its contract. Assumes nothing.
+-- `values::bind_nth` meets its contract.
 use Rattle.evaluator.proofs.steps.Runs.{nth-bound}
 use borrow.Author.Needs.{needs}
 use Rattle.evaluator.proofs.steps.values.bind_nth.Statement.{statement}

@@ -1,4 +1,4 @@
--- `values::bounds_of` meets its contract. Assumes nothing.
+-- `values::bounds_of` meets its contract.
 use Rattle.evaluator.proofs.steps.Answers.{bounds-are}
 use borrow.Author.Needs.{needs}
 use Rattle.evaluator.proofs.steps.values.bounds_of.Statement.{statement}

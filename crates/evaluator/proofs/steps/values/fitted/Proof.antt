@@ -1,4 +1,4 @@
--- `values::fitted` meets its contract. Assumes nothing.
+-- `values::fitted` meets its contract.
 use Rattle.evaluator.proofs.steps.Answers.{fitted-value, fitted-not}
 use borrow.Author.Needs.{needs}
 use Rattle.evaluator.proofs.steps.values.fitted.Statement.{statement}

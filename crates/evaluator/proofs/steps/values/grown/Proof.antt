@@ -1,4 +1,4 @@
--- `values::grown` meets its contract. Assumes nothing.
+-- `values::grown` meets its contract.
 use Rattle.evaluator.proofs.steps.Answers.{grown-is}
 use borrow.Author.Needs.{needs}
 use Rattle.evaluator.proofs.steps.values.grown.Statement.{statement}

@@ -1,4 +1,4 @@
--- `values::index_value` meets its contract. Assumes nothing.
+-- `values::index_value` meets its contract.
 use Rattle.evaluator.proofs.steps.Answers.{bound-yes, bound-no}
 use borrow.Author.Needs.{needs}
 use Rattle.evaluator.proofs.steps.values.index_value.Statement.{statement}

@@ -1,4 +1,4 @@
--- `values::is_small` meets its contract. Assumes nothing.
+-- `values::is_small` meets its contract.
 use Rattle.evaluator.proofs.steps.Runs.{small-low, small-high}
 use borrow.Author.Needs.{needs}
 use Rattle.evaluator.proofs.steps.values.is_small.Statement.{statement}

@@ -1,4 +1,4 @@
--- `values::known` meets its contract. Assumes nothing.
+-- `values::known` meets its contract.
 use Rattle.evaluator.proofs.steps.Answers.{known-no, known-yes}
 use borrow.Author.Needs.{needs}
 use Rattle.evaluator.proofs.steps.values.known.Statement.{statement}

@@ -1,4 +1,4 @@
--- `values::length_of` meets its contract. Assumes nothing.
+-- `values::length_of` meets its contract.
 use Rattle.evaluator.proofs.steps.Runs.{span-small, length-none, length-low, length-high, length-span}
 use borrow.Author.Needs.{needs}
 use Rattle.evaluator.proofs.steps.values.length_of.Statement.{statement}

@@ -1,4 +1,4 @@
--- `values::literal` meets its contract. Assumes nothing.
+-- `values::literal` meets its contract.
 use Rattle.evaluator.proofs.steps.Answers.{literal-is}
 use borrow.Author.Needs.{needs}
 use Rattle.evaluator.proofs.steps.values.literal.Statement.{statement}

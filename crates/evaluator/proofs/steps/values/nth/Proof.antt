@@ -1,4 +1,4 @@
--- `values::nth` meets its contract. Assumes nothing.
+-- `values::nth` meets its contract.
 use Rattle.evaluator.proofs.steps.Runs.{nth-cast, nth-fits, nth-is}
 use Rattle.evaluator.proofs.steps.values.nth.Statement.{statement}
 use Rattle.evaluator.proofs.steps.values.nth.Tie as tie

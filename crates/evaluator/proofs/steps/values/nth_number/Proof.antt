@@ -1,4 +1,4 @@
--- `values::nth_number` meets its contract. Assumes nothing.
+-- `values::nth_number` meets its contract.
 use Rattle.evaluator.proofs.steps.Runs.{seen, nth-wide, nth-beyond, nth-may, nth-number}
 use borrow.Author.Needs.{needs}
 use Rattle.evaluator.proofs.steps.values.nth_number.Statement.{statement}

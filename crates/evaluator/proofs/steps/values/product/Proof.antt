@@ -1,4 +1,4 @@
--- `values::product` meets its contract. Assumes nothing.
+-- `values::product` meets its contract.
 use Rattle.evaluator.proofs.steps.Answers.{fitted-same}
 use borrow.Author.Needs.{needs}
 use Rattle.evaluator.proofs.steps.values.product.Statement.{statement}

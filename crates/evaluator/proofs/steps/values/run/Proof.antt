@@ -1,4 +1,4 @@
--- `values::run` meets its contract. Assumes nothing.
+-- `values::run` meets its contract.
 use Rattle.evaluator.proofs.steps.Runs.{run-long, run-bound, run-count}
 use borrow.Author.Needs.{needs}
 use Rattle.evaluator.proofs.steps.values.run.Statement.{statement}

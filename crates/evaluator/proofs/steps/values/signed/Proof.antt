@@ -1,4 +1,4 @@
--- `values::signed` meets its contract. Assumes nothing.
+-- `values::signed` meets its contract.
 use Rattle.evaluator.proofs.steps.Answers.{signed-minus, signed-plus}
 use borrow.Author.Needs.{needs}
 use Rattle.evaluator.proofs.steps.values.signed.Statement.{statement}

@@ -1,4 +1,4 @@
--- `values::span` meets its contract. Assumes nothing.
+-- `values::span` meets its contract.
 use Rattle.evaluator.proofs.steps.Runs.{span-fits, span-cast, span-sum, span-count}
 use Rattle.evaluator.proofs.steps.values.span.Statement.{statement}
 use Rattle.evaluator.proofs.steps.values.span.Tie as tie

@@ -1,4 +1,4 @@
--- `values::sum` meets its contract. Assumes nothing.
+-- `values::sum` meets its contract.
 use Rattle.evaluator.proofs.steps.Answers.{sum-same}
 use borrow.Author.Needs.{needs}
 use Rattle.evaluator.proofs.steps.values.sum.Statement.{statement}

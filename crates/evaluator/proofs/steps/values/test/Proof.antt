@@ -1,4 +1,4 @@
--- `values::test` meets its contract. Assumes nothing.
+-- `values::test` meets its contract.
 use Rattle.evaluator.proofs.steps.Runs.{test-low, test-high, test-inside}
 use borrow.Author.Needs.{needs}
 use Rattle.evaluator.proofs.steps.values.test.Statement.{statement}

@@ -1,4 +1,4 @@
--- `values::whole` meets its contract. Assumes nothing.
+-- `values::whole` meets its contract.
 use Rattle.evaluator.proofs.steps.Answers.{whole-yes, whole-no}
 use borrow.Author.Needs.{needs}
 use Rattle.evaluator.proofs.steps.values.whole.Statement.{statement}

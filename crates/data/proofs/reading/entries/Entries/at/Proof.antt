@@ -1,4 +1,4 @@
--- `entries::Entries::at` meets its contract. Assumes nothing.
+-- `entries::Entries::at` meets its contract.
 use Rattle.data.proofs.reading.Marks.{entry-past, entry-first, entry-second, entry-third, entry-fourth, entry-beyond}
 use native.Mathlib.Omega.{arith}
 use Rattle.data.proofs.reading.entries.Entries.at.Statement.{statement}

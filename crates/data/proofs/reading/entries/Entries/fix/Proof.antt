@@ -1,4 +1,4 @@
--- `entries::Entries::fix` meets its contract. Assumes nothing.
+-- `entries::Entries::fix` meets its contract.
 use Rattle.data.proofs.reading.Marks.{fix-bound}
 use borrow.Author.Needs.{needs}
 use Rattle.data.proofs.reading.entries.Entries.fix.Statement.{statement}

@@ -1,4 +1,4 @@
--- `entries::Entries::length` meets its contract. Assumes nothing.
+-- `entries::Entries::length` meets its contract.
 use Rattle.data.proofs.reading.Marks.{entries-count, entries-four}
 use Rattle.data.proofs.reading.entries.Entries.length.Statement.{statement}
 use Rattle.data.proofs.reading.entries.Entries.length.Tie as tie

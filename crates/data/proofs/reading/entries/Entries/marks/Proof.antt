@@ -1,4 +1,4 @@
--- `entries::Entries::marks` meets its contract. Assumes nothing.
+-- `entries::Entries::marks` meets its contract.
 use Prim.Native.Nat.{_-_}
 use Rattle.data.specs.Reading.Entries.{entriesOf}
 use Rattle.data.proofs.reading.Marks.{Marking, marking-start, marking-fixed, marking-marked, marking-end}

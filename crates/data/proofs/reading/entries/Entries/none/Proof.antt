@@ -1,4 +1,4 @@
--- `entries::Entries::none` meets its contract. Assumes nothing.
+-- `entries::Entries::none` meets its contract.
 use Rattle.data.proofs.reading.Marks.{none-held}
 use Rattle.data.proofs.reading.entries.Entries.none.Statement.{statement}
 use Rattle.data.proofs.reading.entries.Entries.none.Tie as tie

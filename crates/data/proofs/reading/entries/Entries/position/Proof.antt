@@ -1,4 +1,4 @@
--- `entries::Entries::position` meets its contract. Assumes nothing.
+-- `entries::Entries::position` meets its contract.
 use Prim.Native.Nat.{_-_}
 use Rattle.data.specs.Reading.Entries.{entriesOf}
 use Rattle.data.proofs.reading.Marks.{Placing, placing-start, placing-found, placing-on, placing-end}

@@ -1,4 +1,4 @@
--- `entries::Entries::positions` meets its contract. Assumes nothing.
+-- `entries::Entries::positions` meets its contract.
 use Prim.Native.Nat.{_-_}
 use Rattle.data.specs.Reading.Few.{numbersOf}
 use Rattle.data.specs.Reading.Entries.{entriesOf}

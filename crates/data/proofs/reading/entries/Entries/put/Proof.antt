@@ -1,4 +1,4 @@
--- `entries::Entries::put` meets its contract. Assumes nothing.
+-- `entries::Entries::put` meets its contract.
 use Rattle.data.proofs.reading.Marks.{put-first, put-second, put-third, put-fourth, put-none}
 use native.Mathlib.Omega.{arith}
 use Rattle.data.proofs.reading.entries.Entries.put.Statement.{statement}

@@ -1,4 +1,4 @@
--- `entries::Entries::with` meets its contract. Assumes nothing.
+-- `entries::Entries::with` meets its contract.
 use Rattle.data.proofs.reading.Marks.{grows-none, grows-put}
 use borrow.Author.Needs.{needs}
 use Rattle.data.proofs.reading.entries.Entries.with.Statement.{statement}

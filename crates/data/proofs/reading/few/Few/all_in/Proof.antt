@@ -1,4 +1,4 @@
--- `few::Few::all_in` meets its contract. Assumes nothing.
+-- `few::Few::all_in` meets its contract.
 use Prim.Native.Nat.{_-_}
 use Rattle.data.specs.Reading.Few.{numbersOf}
 use Rattle.data.proofs.reading.Lists.{Among, among-start, among-not, among-on, among-end}

@@ -1,4 +1,4 @@
--- `few::Few::at` meets its contract. Assumes nothing.
+-- `few::Few::at` meets its contract.
 use Rattle.data.proofs.reading.Lists.{at-past, at-first, at-second, at-third, at-fourth, at-beyond}
 use native.Mathlib.Omega.{arith}
 use Rattle.data.proofs.reading.few.Few.at.Statement.{statement}

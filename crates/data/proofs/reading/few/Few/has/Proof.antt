@@ -1,4 +1,4 @@
--- `few::Few::has` meets its contract. Assumes nothing.
+-- `few::Few::has` meets its contract.
 use Prim.Native.Nat.{_-_}
 use Rattle.data.specs.Reading.Few.{numbersOf}
 use Rattle.data.proofs.reading.Lists.{Seeks, seeks-start, seeks-found, seeks-on, seeks-none}

@@ -1,4 +1,4 @@
--- `few::Few::length` meets its contract. Assumes nothing.
+-- `few::Few::length` meets its contract.
 use Rattle.data.proofs.reading.Lists.{length-count, length-four}
 use Rattle.data.proofs.reading.few.Few.length.Statement.{statement}
 use Rattle.data.proofs.reading.few.Few.length.Tie as tie

@@ -1,4 +1,4 @@
--- `few::Few::no_repeats` meets its contract. Assumes nothing.
+-- `few::Few::no_repeats` meets its contract.
 use Prim.Native.Nat.{_-_}
 use Rattle.data.specs.Reading.Few.{numbersOf}
 use Rattle.data.proofs.reading.Lists.{Single, single-start, single-not, single-on, single-end}

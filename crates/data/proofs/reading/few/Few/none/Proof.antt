@@ -1,4 +1,4 @@
--- `few::Few::none` meets its contract. Assumes nothing.
+-- `few::Few::none` meets its contract.
 use Rattle.data.proofs.reading.Lists.{keeps-none}
 use Rattle.data.proofs.reading.few.Few.none.Statement.{statement}
 use Rattle.data.proofs.reading.few.Few.none.Tie as tie

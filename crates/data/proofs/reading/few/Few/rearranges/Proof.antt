@@ -1,4 +1,4 @@
--- `few::Few::rearranges` meets its contract. Assumes nothing.
+-- `few::Few::rearranges` meets its contract.
 use Rattle.data.proofs.reading.Lists.{rearranges-count, rearranges-not, rearranges-last}
 use borrow.Author.Tests.{not-true, not-false}
 use borrow.Author.Needs.{needs}

@@ -1,4 +1,4 @@
--- `few::Few::with` meets its contract. Assumes nothing.
+-- `few::Few::with` meets its contract.
 use Rattle.data.proofs.reading.Lists.{with-first, with-second, with-third, with-fourth, with-more}
 use native.Mathlib.Omega.{arith}
 use Rattle.data.proofs.reading.few.Few.with.Statement.{statement}

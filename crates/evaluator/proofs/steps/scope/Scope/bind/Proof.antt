@@ -1,4 +1,4 @@
--- `Scope::bind` meets its contract. Assumes nothing.
+-- `Scope::bind` meets its contract.
 use Rattle.evaluator.proofs.steps.Scopes.{bind-first, bind-second, bind-third, bind-fourth, bind-none}
 use Rattle.evaluator.proofs.steps.scope.Scope.bind.Statement.{statement}
 use Rattle.evaluator.proofs.steps.scope.Scope.bind.Tie as tie

@@ -1,4 +1,4 @@
--- `Scope::bound_to` meets its contract. Assumes nothing.
+-- `Scope::bound_to` meets its contract.
 use Rattle.evaluator.proofs.steps.Scopes.{bound-fourth, bound-third, bound-second, bound-first, bound-nothing}
 use Rattle.evaluator.proofs.steps.scope.Scope.bound_to.Statement.{statement}
 use Rattle.evaluator.proofs.steps.scope.Scope.bound_to.Tie as tie

@@ -1,4 +1,4 @@
--- `Scope::none` meets its contract. Assumes nothing.
+-- `Scope::none` meets its contract.
 use Rattle.evaluator.proofs.steps.Scopes.{none-bound}
 use Rattle.evaluator.proofs.steps.scope.Scope.none.Statement.{statement}
 use Rattle.evaluator.proofs.steps.scope.Scope.none.Tie as tie

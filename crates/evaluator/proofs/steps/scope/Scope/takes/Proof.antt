@@ -1,4 +1,4 @@
--- `Scope::takes` meets its contract. Assumes nothing.
+-- `Scope::takes` meets its contract.
 use borrow.Author.Needs.{needs}
 use Rattle.evaluator.proofs.steps.Scopes.{takes-not, takes-room}
 use Rattle.evaluator.proofs.steps.scope.Scope.takes.Statement.{statement}
