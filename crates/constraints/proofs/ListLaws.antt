@@ -20,6 +20,7 @@ use Rattle.tokens.specs.declared.Move.the-variants.{At, Refused}
 use Rattle.tokens.specs.declared.Seen.{Seen}
 use Rattle.tokens.specs.declared.Seen.the-variants as seen
 use Rattle.tokens.specs.Stored.{token, from, Sees, Looks, Named, rowsOf, Put, Moves, Gives}
+use Rattle.tokens.proofs.Tables.{put-rows}
 use Rattle.tokens.proofs.Moved.{Got, got, stood, stuck, gives-at, gives-refused, follow-same, look-is}
 use Rattle.constraints.specs.declared.Row.{Row}
 use Rattle.constraints.specs.declared.Joint.{Joint}
@@ -153,7 +154,7 @@ module _ (s ns ts t : List ℕ) (at : ℕ) where
         grown names d =
             let e : n * 5 + 5 ≤ length t′ = omega (arith, o .size) in
             let x = o .reached names d in
-            subst (λ t. Rows s ts t names (x .before ++ (row-got names d .what ∷ []))) (sym (w .rows e))
+            subst (λ t. Rows s ts t names (x .before ++ (row-got names d .what ∷ []))) (sym (put-rows t′ n _ t″ w e))
             (rows-more s ts (rowsOf n t′) (row .title) (row .left) (row .relation) (row .right) (row .domain) names (x .before) (row-got names d .what) (x .are) (row-got names d .holds))
 
         rest-same : drop ((n + 1) * 5) t″ ≡ drop ((n + 1) * 5) t

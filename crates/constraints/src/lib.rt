@@ -63,7 +63,7 @@ pub fn title(text: &[u8], names: &[u64], tokens: &[u64], at: usize) -> Move
 }
 
 // One of `<= >= =`.
-pub fn relation(text: &[u8], names: &[u64], tokens: &[u64], at: usize) -> Compared
+fn relation(text: &[u8], names: &[u64], tokens: &[u64], at: usize) -> Compared
     ensures { λ r. ⌜ Gives relationIn (IsRelation (r .mark)) (now (text .entry)) (now (names .entry)) (now (tokens .entry)) at (r .end) ⌝ }
 {
     let token = tokens::token_at(tokens, at);
@@ -149,7 +149,7 @@ fn no_row(end: Move) -> Row
 }
 
 // String, linear form, relation, formula, optional domain.
-pub fn constraint(text: &[u8], names: &[u64], tokens: &[u64], at: usize) -> Row
+fn constraint(text: &[u8], names: &[u64], tokens: &[u64], at: usize) -> Row
     ensures { λ r. ⌜ Gives constraintIn (RowOf (now (text .entry)) (now (tokens .entry)) (wordsOf r)) (now (text .entry)) (now (names .entry)) (now (tokens .entry)) at (r .end) ⌝ }
 {
     let string = title(text, names, tokens, at);

@@ -27,7 +27,8 @@ use Rattle.store.specs.declared.Element.{Element}
 use Rattle.store.specs.Element.{listOf}
 use Rattle.store.proofs.Elements as Elements
 use Rattle.evaluator.specs.declared.steps.values.Limits.{Limits}
-use Rattle.evaluator.specs.Steps.Values.{NumberIs}
+use Rattle.evaluator.specs.Steps.Values.{numberIn}
+use Rattle.evaluator.proofs.steps.Runs.{number-small}
 use Rattle.evaluator.proofs.Turns.{nth-small}
 use Rattle.data.specs.declared.reading.entries.Entries.{Entries}
 use Rattle.data.specs.Reading.Few.{numbersOf}
@@ -150,14 +151,14 @@ module _ (ns ts ds : List ℕ) (given at : ℕ) (h : Worked) (k : ℕ) (e : Entr
               subst (λ r. TakenIs r s ts us (taken.At a count)) (sym (m .same ∙ ap (λ j. eachRead (turn x) (upFrom (l .lower +ℤ pos i) j) (m .store) (from s ts a)) d)) (refl, m .holds);
         }
 
-    module _ (q : i < n) (j : ℕ) (f : j ≡ getD (numbersOf (h .order)) k 0) (z : ℤ) (v : NumberIs l i z) (fits : mag z < 2 ^ 63) (e′ : Entries) (held : boundOf (entriesOf e′) ≡ setAt j (toZ w64 (ofZ w64 z)) (boundOf (entriesOf e))) (r : Taken) (us′ : List ℕ)
+    module _ (q : i < n) (j : ℕ) (f : j ≡ getD (numbersOf (h .order)) k 0) (z : ℤ) (v : z ≡ numberIn l i) (fits : mag z < 2 ^ 63) (e′ : Entries) (held : boundOf (entriesOf e′) ≡ setAt j (toZ w64 (ofZ w64 z)) (boundOf (entriesOf e))) (r : Taken) (us′ : List ℕ)
         (p : RunsTo ns ts us count a h (k + 1) e′ r us′) where
       w : boundOf (entriesOf e′) ≡ setAt j z (boundOf (entriesOf e))
       w = held ∙ ap (λ z. setAt j z (boundOf (entriesOf e))) (back {z = z} fits)
 
       number-is : Counts l n → z ≡ l .lower +ℤ pos i
       unfolding runLimit
-      number-is c = v .is (c .small .low) (omega (arith, c .short))
+      number-is c = v ∙ number-small l i (c .small .low) (omega (arith, c .short))
 
       -- the positions with one more bound
       inner : (s : List ℕ) (x : Portion) → Carries s ns ts h e x → Counts l n → Carries s ns ts h e′ x

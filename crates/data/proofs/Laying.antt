@@ -26,7 +26,8 @@ use Rattle.evaluator.specs.Steps.Passing.{Skips}
 use Rattle.evaluator.specs.Steps.Names.{indexNumber}
 use Rattle.evaluator.proofs.steps.Numbers.{index-of}
 use Rattle.data.specs.declared.reading.few.Few.{Few}
-use Rattle.data.specs.Reading.Few.{Keeps, Adds}
+use Rattle.data.specs.Reading.Few.{Holds, Keeps, Adds}
+use Rattle.data.proofs.reading.Lists.{holds-keeps, adds-keeps}
 use Rattle.data.specs.declared.layouts.Span.{Span}
 use Rattle.data.specs.declared.layouts.Span.the-variants as passed
 use Rattle.data.specs.declared.layouts.Layout.{Layout}
@@ -154,12 +155,12 @@ pub record LaidOn (s ns ts : List ℕ) (level at n : ℕ) (starts indices : Few)
       → LaidSo (take level names) s ts d starts indices a left
 
 module _ (s ns ts : List ℕ) (level at n : ℕ) where
-  pub laid-start : (starts indices : Few) → Keeps starts [] → Keeps indices [] → LaidOn s ns ts level at n starts indices at n
+  pub laid-start : (starts indices : Few) → Holds starts [] → Holds indices [] → LaidOn s ns ts level at n starts indices at n
   unfolding behind
   laid-start starts indices k l =
       record {
         on = λ names v d rest r e f.
-            record { before = point; after = d; rest = rest; all = refl; count = e; reads = r; places = []; numbers = []; laid = tt; places-kept = k; numbers-kept = l };
+            record { before = point; after = d; rest = rest; all = refl; count = e; reads = r; places = []; numbers = []; laid = tt; places-kept = holds-keeps starts [] k; numbers-kept = holds-keeps indices [] l };
       }
 
   module _ (starts indices : Few) (a left : ℕ) (o : LaidOn s ns ts level at n starts indices a left) where
@@ -211,8 +212,8 @@ module _ (s ns ts : List ℕ) (level at n : ℕ) where
                     numbers = x .numbers ++ (i ∷ []);
                     laid = laid-more (take level names) s ts (x .before) (span j f g z point) (x .places) (x .numbers) (a ∷ []) (i ∷ []) (x .laid)
                         (m, subst (λ i. ReadsEntry (take level names) i f g z (from s ts a) m) (sym same) y, sym same, tt);
-                    places-kept = k .adds (x .places) (x .places-kept);
-                    numbers-kept = l .adds (x .numbers) (x .numbers-kept);
+                    places-kept = adds-keeps starts a starts′ k (x .places) (x .places-kept);
+                    numbers-kept = adds-keeps indices i indices′ l (x .numbers) (x .numbers-kept);
                   }
 
 -- ---- with all names

@@ -26,7 +26,8 @@ use Rattle.language.proofs.Meant.{found}
 use Rattle.language.proofs.Taken.{after-read, expect-read, name-read}
 use Rattle.tokens.specs.declared.Known.{Known}
 use Rattle.tokens.specs.declared.Known.the-variants as known
-use Rattle.tokens.specs.Stored.{from, size, Shaped, Knowing, Knows}
+use Rattle.tokens.specs.Stored.{from, size, Shaped, Knowing, KnownAt, Knows}
+use Rattle.tokens.proofs.Moved.{knows-of}
 use Rattle.tokens.proofs.Tables.{false-true}
 use Rattle.evaluator.specs.Steps.Names.{rowWord}
 use Rattle.evaluator.proofs.steps.Numbers.{found-numbered}
@@ -37,7 +38,7 @@ use Rattle.data.specs.declared.reading.few.Few.{Few}
 use Rattle.data.specs.declared.reading.entries.Entries.{Entries}
 use Rattle.data.specs.declared.reading.heads.Plan.{Plan}
 use Rattle.data.specs.declared.reading.heads.Plan.the-variants as plan
-use Rattle.data.specs.Reading.Few.{Keeps}
+use Rattle.data.specs.Reading.Few.{Holds}
 use Rattle.data.specs.Reading.Entries.{entriesOf}
 use Rattle.data.specs.Reading.Lists.{listIn, Head, orderIn, restIn, headIn, planned, Heads}
 use Rattle.data.proofs.reading.Joined.{entries-joined, portion-joined}
@@ -55,9 +56,9 @@ use Rattle.data.proofs.Smalls.{Fitting, SmallEntry, fitting-from, made,
 -- ---- the head of a portion
 
 module _ (s ns ts : List ℕ) (at p n : ℕ) where
-  pub head-none : (f : Few) (e : Entries) → n ≡ 0 → Keeps f [] → entriesOf e ≡ [] → Heads (headFor p n) s ns ts at n (plan.Runs f e at)
+  pub head-none : (f : Few) (e : Entries) → n ≡ 0 → Holds f [] → entriesOf e ≡ [] → Heads (headFor p n) s ns ts at n (plan.Runs f e at)
   unfolding headFor
-  head-none f e z k h = record { is = λ names d few. rw (z, k .all (omega arith) .1, h) refl }
+  head-none f e z k h = record { is = λ names d few. rw (z, k .numbers, h) refl }
 
   pub head-some : (r : Plan) → (n ≡ 0 → ⊥) → Heads (headIn p n) s ns ts at n r → Heads (headFor p n) s ns ts at n r
   unfolding headFor
@@ -211,7 +212,10 @@ named-is s ns ts g l x i k c p e n w q =
       sorted = y .sorted;
     }
 
-module _ (s ns ts ds : List ℕ) (given at : ℕ) (r : Known) (h : Knows s ns ts at r) where
+module _ (s ns ts ds : List ℕ) (given at : ℕ) (r : Known) (told : KnownAt s ns ts at r) where
+  h : Knows s ns ts at r
+  h = knows-of s ns ts at r told
+
   pub portion-unknown : (n : Refusal) (p : ℕ) (ds′ : List ℕ) → r ≡ known.Refused n p → Fills portionOf s ns ts ds given at (taken.Refused n p) ds′
   unfolding portionOf usedIn
   portion-unknown n p ds′ e =

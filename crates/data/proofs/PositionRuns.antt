@@ -26,7 +26,8 @@ use Rattle.evaluator.specs.declared.steps.values.Bounds.{Bounds}
 use Rattle.evaluator.specs.declared.steps.values.Runs.{Runs}
 use Rattle.evaluator.specs.declared.steps.values.Runs.the-variants as runs
 use Rattle.evaluator.specs.Steps.Scopes.{scopeOf}
-use Rattle.evaluator.specs.Steps.Values.{limitsIn, SmallLimits, RunIs}
+use Rattle.evaluator.specs.Steps.Values.{limitsIn, SmallLimits, runAnswer, RunIs}
+use Rattle.evaluator.proofs.steps.Runs.{run-is}
 use Rattle.evaluator.specs.Steps.Values as Values
 use Rattle.evaluator.specs.Tables.{World}
 use Rattle.evaluator.specs.Cycle.{entryIn, boundsOutcome, SmallEntered, EntryIs}
@@ -53,7 +54,10 @@ world s ns ts ds given st g h = worldOn g (stores-given ds given st h)
 
 -- ---- the run of an entry
 
-module _ (sc : Held) (b : Bounds) (r : Runs) (h : RunIs (b .limits) (b .number) sc (b .place) r) where
+module _ (sc : Held) (b : Bounds) (r : Runs) (told : r ≡ runAnswer (b .limits) (b .number) sc (b .place)) where
+  h : RunIs (b .limits) (b .number) sc (b .place) r
+  h = run-is (b .limits) (b .number) sc (b .place) r told
+
   pub run-wrong : (n : Refusal) (p : ℕ) → r ≡ runs.Refused n p → RunsFrom sc b (run.Refused n p)
   run-wrong n p e = record { is = λ s known. h .is s known ∙ ap (λ r. Values.runOutcome (b .limits) r) e; short = λ s. tt }
 

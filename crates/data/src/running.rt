@@ -91,7 +91,7 @@ fn run_of(sc: Scope, b: Bounds) -> Run
 }
 
 // The run of position j: its own declared limits, which see the earlier positions that are bound by now.
-pub fn position_run(
+fn position_run(
     names: &[u64],
     tokens: &[u64],
     table: &[u64],

@@ -20,9 +20,9 @@ use Rattle.tokens.specs.declared.Move.{Move}
 use Rattle.tokens.specs.declared.Move.the-variants.{At, Refused}
 use Rattle.tokens.specs.declared.Known.{Known}
 use Rattle.tokens.specs.declared.Known.the-variants as known
-use Rattle.tokens.specs.Stored.{from, Named, Knowing, Knows, Matches, Moves}
+use Rattle.tokens.specs.Stored.{from, Named, Knowing, KnownAt, Knows, Matches, Moves}
 use Rattle.tokens.specs.Pieces.{expectIn}
-use Rattle.tokens.proofs.Moved.{stops, goes, given}
+use Rattle.tokens.proofs.Moved.{stops, goes, given, knows-of}
 use Rattle.domains.specs.Domains.{entryWith}
 use Rattle.declarations.specs.Readers.{shown, dueWith, dueIn}
 
@@ -57,7 +57,10 @@ shows-on l x y k j h i f g = record { shows = sym (shown-here l x j false i (ne-
 
 -- ---- the index that is due
 
-module _ (s ns ts : List ℕ) (at i : ℕ) (taken : Bool) (r : Known) (h : Knows s ns ts at r) where
+module _ (s ns ts : List ℕ) (at i : ℕ) (taken : Bool) (r : Known) (told : KnownAt s ns ts at r) where
+  h : Knows s ns ts at r
+  h = knows-of s ns ts at r told
+
   dueTest : Used → Reader Used
   dueTest u = require (eqb (u .number) i && not taken) Misplaced (u .place) >>= (λ _. give u)
 

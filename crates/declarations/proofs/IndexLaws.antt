@@ -24,27 +24,30 @@ use Rattle.tokens.specs.declared.Seen.{Seen}
 use Rattle.tokens.specs.declared.Seen.the-variants as seen
 use Rattle.tokens.specs.declared.Known.{Known}
 use Rattle.tokens.specs.declared.Known.the-variants as known
-use Rattle.tokens.specs.Stored.{from, Sees, Looks, Named, Knowing, Knows, Moves, Gives, Stands}
+use Rattle.tokens.specs.Stored.{from, Sees, Looks, Named, Knowing, KnownAt, Knows, Moves, Gives, Stands}
 use Rattle.tokens.specs.Pieces.{expectIn, indexIn}
 use Rattle.tokens.proofs.Tables.{index-sort}
-use Rattle.tokens.proofs.Moved.{stuck, Got, gives-at, gives-refused, gives-not, gives-same, gives-stands, gives-map, got, follow-same, next-is, look-is, is-mark, index-yes, index-other, index-wrong, prefixed, prefixed-none, prefixed-more}
+use Rattle.tokens.proofs.Moved.{stuck, Got, gives-at, gives-refused, gives-not, gives-same, gives-stands, gives-map, got, follow-same, next-is, look-is, is-mark, index-yes, index-other, index-wrong, prefixed, prefixed-none, prefixed-more, knows-of}
 use Rattle.declarations.specs.Readers.{jointIn, indicesIn}
 use Rattle.declarations.specs.Tables.{IsNumber, IsMore, Numbers, Indexed}
 
 -- ---- one index
 
-module _ (s ns ts : List ℕ) (at : ℕ) (r : Known) (h : Knows s ns ts at r) where
+module _ (s ns ts : List ℕ) (at : ℕ) (r : Known) (told : KnownAt s ns ts at r) where
+  h : Knows s ns ts at r
+  h = knows-of s ns ts at r told
+
   pub number-wrong : (n : Refusal) (p : ℕ) → r ≡ known.Refused n p → Gives indexIn (IsNumber 0) s ns ts at (Refused n p)
-  number-wrong n p e = gives-not indexIn (IsNumber 0) s ns ts at n p (Refused n p) refl (index-wrong s ns ts at r h n p e)
+  number-wrong n p e = gives-not indexIn (IsNumber 0) s ns ts at n p (Refused n p) refl (index-wrong s ns ts at r told n p e)
 
   pub number-other : (i sort count p a : ℕ) → r ≡ known.Name i sort count p a → (sort ≡ 0 → ⊥) → Gives indexIn (IsNumber 0) s ns ts at (Refused Misplaced p)
-  number-other i sort count p a e z = gives-not indexIn (IsNumber 0) s ns ts at Misplaced p (Refused Misplaced p) refl (index-other s ns ts at r h i sort count p a e z)
+  number-other i sort count p a e z = gives-not indexIn (IsNumber 0) s ns ts at Misplaced p (Refused Misplaced p) refl (index-other s ns ts at r told i sort count p a e z)
 
   pub number-yes : (i sort count p a : ℕ) → r ≡ known.Name i sort count p a → sort ≡ 0 → Gives indexIn (IsNumber i) s ns ts at (At a)
   unfolding indexIn readIndex require
   number-yes i sort count p a e z =
       record {
-        moves = record { matches = index-yes s ns ts at r h i sort count p a e z .matches };
+        moves = record { matches = index-yes s ns ts at r told i sort count p a e z .matches };
         tells = λ names d x f. record { number = go (readKnown names (from s ts at)) x (subst (Knowing (readKnown names (from s ts at)) s ts) e (h .knows names d)) f };
       }
     where

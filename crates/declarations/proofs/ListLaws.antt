@@ -21,6 +21,7 @@ use Rattle.tokens.specs.declared.Move.the-variants.{At, Refused}
 use Rattle.tokens.specs.declared.Seen.{Seen}
 use Rattle.tokens.specs.declared.Seen.the-variants as seen
 use Rattle.tokens.specs.Stored.{spelling, from, Sees, Looks, Shaped, Named, rowsOf, Put, Gives}
+use Rattle.tokens.proofs.Tables.{put-rows}
 use Rattle.tokens.proofs.Moved.{Got, got, stuck, follow-same, look-is, next-is, is-mark}
 use Rattle.declarations.specs.declared.Row.{Row}
 use Rattle.declarations.specs.declared.Listed.{Listed}
@@ -170,7 +171,7 @@ module _ (s ts ns : List ℕ) (k count at : ℕ) where
             omega (arith, r, e)
 
         rows-more : rowsOf (n + 1) ns″ ≡ rowsOf n ns′ ++ (row .place ∷ row .bytes ∷ k ∷ row .count ∷ row .position ∷ [])
-        rows-more = w .rows (omega (arith, o .size, below))
+        rows-more = put-rows ns′ n _ ns″ w (omega (arith, o .size, below))
 
         abbrev Is : List Name → One → Type 0
         Is = IsRow s ts k (row .place) (row .bytes) (row .count) (row .position) (row .more)

@@ -33,7 +33,7 @@ pub fn entry(text: &[u8], names: &[u64], tokens: &[u64], at: usize) -> Move
 }
 
 // Entries up to the `)`, at most `left` behind the first one.
-pub fn entries(text: &[u8], names: &[u64], tokens: &[u64], at: usize, left: usize) -> Move
+fn entries(text: &[u8], names: &[u64], tokens: &[u64], at: usize, left: usize) -> Move
     ensures { λ r. ⌜ Moves (entriesIn left) (now (text .entry)) (now (names .entry)) (now (tokens .entry)) at r ⌝ }
 {
     let first = entry(text, names, tokens, at);
@@ -57,7 +57,7 @@ pub fn entries(text: &[u8], names: &[u64], tokens: &[u64], at: usize, left: usiz
 }
 
 // One to four entries in brackets.
-pub fn domain(text: &[u8], names: &[u64], tokens: &[u64], at: usize) -> Move
+fn domain(text: &[u8], names: &[u64], tokens: &[u64], at: usize) -> Move
     ensures { λ r. ⌜ Moves domainIn (now (text .entry)) (now (names .entry)) (now (tokens .entry)) at r ⌝ }
 {
     let open = tokens::bracket(

@@ -19,7 +19,8 @@ use Rattle.evaluator.specs.declared.steps.values.Runs.{Runs}
 use Rattle.evaluator.specs.declared.steps.values.Runs.the-variants as runs
 use Rattle.evaluator.specs.Steps.Scopes.{bindingsOf}
 use Rattle.language.specs.Evaluation as Evaluation
-use Rattle.evaluator.specs.Steps.Values.{limitsIn, SmallLimits, runOutcome, RunIs}
+use Rattle.evaluator.specs.Steps.Values.{limitsIn, SmallLimits, runOutcome, runAnswer, RunIs}
+use Rattle.evaluator.proofs.steps.Runs.{run-is}
 use Rattle.evaluator.specs.declared.Entered.{Entered}
 use Rattle.evaluator.specs.declared.Entered.the-variants as entered
 use Rattle.evaluator.specs.Tables.{World}
@@ -106,7 +107,10 @@ module _ (ns ts ds : List ℕ) (given level count at : ℕ) (outer : HeldHere) w
     pub inside-limit : (n : Refusal) (q : ℕ) → x ≡ entered.Refused n q → InsideIs ns ts ds given level count at outer (Refused n q)
     inside-limit n q f = record { is = λ w m. entries-suc w _ _ ∙ first-limit _ _ _ _ (count - 1) n q (entry-at w m ∙ ap (boundsOutcome (w .text) ts) f); grown = tt }
 
-    module _ (b : HeldBounds) (a : ℕ) (f : x ≡ entered.Bounds b a) (y : Runs) (j : RunIs (b .limits) (b .number) sc (b .place) y) where
+    module _ (b : HeldBounds) (a : ℕ) (f : x ≡ entered.Bounds b a) (y : Runs) (told : y ≡ runAnswer (b .limits) (b .number) sc (b .place)) where
+      j : RunIs (b .limits) (b .number) sc (b .place) y
+      j = run-is (b .limits) (b .number) sc (b .place) y told
+
       small-limits : (w : World ns ts ds given) → SmallRuns (runsOf w outer) → SmallLimits (b .limits)
       small-limits w m = subst SmallEntered f (i .small w (held-small (tokensAt w) outer sc e m))
 

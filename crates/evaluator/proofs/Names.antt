@@ -39,7 +39,8 @@ use Rattle.evaluator.specs.declared.steps.names.Listed.the-variants as l
 use Rattle.evaluator.specs.declared.steps.values.Answer.{Answer}
 use Rattle.evaluator.specs.declared.steps.values.Answer.the-variants as answer
 use Rattle.evaluator.specs.Steps.Scopes.{bindingsOf, scopeOf, Small}
-use Rattle.evaluator.specs.Steps.Values.{boundBy, boundAnswer, wordAnswer, KnownIs}
+use Rattle.evaluator.specs.Steps.Values.{boundBy, boundAnswer, wordAnswer, knownAnswer}
+use Rattle.evaluator.proofs.steps.Answers.{known-word}
 use Rattle.evaluator.proofs.steps.Scopes.{small-to}
 use Rattle.evaluator.specs.declared.Numbers.{Numbers}
 use Rattle.evaluator.specs.declared.Numbers.the-variants as numbers
@@ -228,7 +229,7 @@ module _ (ns ts ds : List ℕ) (given level : ℕ) (sc : Held) (n i c q p at : �
           valid = λ w g b d x s. tt;
         }
 
-    module _ (j : t ≡ passed.Inside) (r : Answer) (l : KnownIs ds given i (listOf e) p a r) where
+    module _ (j : t ≡ passed.Inside) (r : Answer) (l : r ≡ knownAnswer ds given i (listOf e) p a) where
       -- what is stored, and what is known
       keyed : (w : World ns ts ds given) → i < length (w .names) → Subscripts (listOf e) → Keyed i (listOf e)
       unfolding nameBound nameLimit
@@ -237,7 +238,7 @@ module _ (ns ts ds : List ℕ) (given level : ℕ) (sc : Held) (n i c q p at : �
       known-is : (w : World ns ts ds given) → i < length (w .names) → Subscripts (listOf e)
           → (asRead (orRefuse Missing p (w .known i (listOf e))) (tokensAt w a) ≡ valueOutcome (w .text) ts r) × ValidAnswer r
       unfolding wordAnswer
-      known-is w b x = go (lookup ds given (keyOf i (listOf e))) (w .tables .stored .agrees i (listOf e) (keyed w b x)) (l .is (w .tables .stored .sorted))
+      known-is w b x = go (lookup ds given (keyOf i (listOf e))) (w .tables .stored .agrees i (listOf e) (keyed w b x)) (l ∙ known-word ds given i p a (listOf e) (w .tables .stored .sorted))
         where
           go : (u : Option ℕ) → w .known i (listOf e) ≡ valueIn u → r ≡ wordAnswer p a u
               → (asRead (orRefuse Missing p (w .known i (listOf e))) (tokensAt w a) ≡ valueOutcome (w .text) ts r) × ValidAnswer r

@@ -27,7 +27,8 @@ use Rattle.evaluator.specs.declared.steps.values.Answer.the-variants as 
 use Rattle.evaluator.specs.declared.steps.values.Limits as code
 use Rattle.evaluator.specs.Steps.Scopes.{bindingsOf, boundMore, Small}
 use Rattle.evaluator.specs.Steps.Passing.{Ends}
-use Rattle.evaluator.specs.Steps.Values.{fittedAt, signedValue, limitsIn, SmallLimits, BindsNth}
+use Rattle.evaluator.specs.Steps.Values.{fittedAt, signedValue, limitsIn, SmallLimits, numberIn}
+use Rattle.evaluator.proofs.steps.Runs.{number-small}
 use Rattle.evaluator.proofs.steps.Scopes.{scope-bind, small-bind}
 use Rattle.evaluator.specs.Tables.{World}
 use Rattle.evaluator.specs.Cycle.{insideIn, valueOutcome, ValidAnswer, seenBy, under, tokensAt, Values, Ready, BodyIs}
@@ -94,11 +95,11 @@ module _ (n i p : ℕ) (ns ts ds : List ℕ) (given level : ℕ) (sc : Held) (at
         last : (w : World ns ts ds given) → each (added w) (upFrom (l .lower +ℤ pos j) (k - j)) v ≡ done v
         last w = let d : k - j ≡ 0 = omega arith in rw d refl
 
-    module _ (m : j < k) (t : Held) (b : BindsNth sc i l j t) (r : Answer) (h : Values (insideIn n) ns ts ds given level t at r) where
+    module _ (m : j < k) (t : Held) (b : bindingsOf t ≡ boundMore i (numberIn l j) (bindingsOf sc)) (r : Answer) (h : Values (insideIn n) ns ts ds given level t at r) where
       -- the body under the index bound to the j-th number
       bound : Ready sc l k → bindingsOf t ≡ boundMore i (l .lower +ℤ pos j) (bindingsOf sc)
       unfolding runLimit
-      bound y = b .is (y .small .low) (omega (arith, y .short))
+      bound y = b ∙ ap (λ z. boundMore i z (bindingsOf sc)) (number-small l j (y .small .low) (omega (arith, y .short)))
 
       inner : Small sc → Ready sc l k → Small t
       inner g y = small-bind sc t i (l .lower +ℤ pos j) (bound y) (nth-small l j (y .small) (omega (arith, y .count))) g

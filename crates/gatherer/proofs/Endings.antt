@@ -37,7 +37,8 @@ use Rattle.evaluator.specs.Tables.{World}
 use Rattle.evaluator.specs.Cycle.{primaryIn, valueOutcome, ValidAnswer, seenBy, under, tokensAt, Values, Continues}
 use Rattle.evaluator.proofs.Laws.{stop, regroup, fitted-outcome, fitted-valid, refused-is, value-is, value-valid}
 use Rattle.gatherer.specs.declared.Ending.the-variants as ending
-use Rattle.gatherer.specs.Cycle.{factorIn, Heads, Begins, Carried, termWalk, EndingIs}
+use Rattle.gatherer.specs.Cycle.{factorIn, Heads, variableSeen, Carried, termWalk, EndingIs}
+use Rattle.gatherer.proofs.Numbers.{begins-of}
 
 -- ---- a primary and its `*`
 
@@ -150,9 +151,9 @@ module _ (n : ℕ) (sigmas : Bool) (ns ts ds : List ℕ) (given level : ℕ) (sc
               allowed = λ u p a e. and-left sigmas (eqb x 134) i;
             }
 
-        module _ (i : (sigmas && eqb x 134) ≡ false) (v : Listed) (j : Begins ns ts level a x v) where
+        module _ (i : (sigmas && eqb x 134) ≡ false) (v : Listed) (j : v ≡ variableSeen ns ts level a x) where
           head-at : (r : Listed) → v ≡ r → (w : World ns ts ds given) → Heads w (headBy (seenBy w level) sigmas (kindOf (w .text) x p y)) r
-          head-at r f w = subst (Heads w (headBy (seenBy w level) sigmas (kindOf (w .text) x p y))) f (j .heads p y b (subst (Looks ts a) e h) sigmas i ds given w)
+          head-at r f w = subst (Heads w (headBy (seenBy w level) sigmas (kindOf (w .text) x p y))) f (begins-of ns ts level a x v j .heads p y b (subst (Looks ts a) e h) sigmas i ds given w)
 
           pub ending-variable : (f l q z : ℕ) → v ≡ listed.Name f l q z → EndingIs n sigmas ns ts ds given level sc at c (ending.Variable u f q z p b)
           unfolding turn token

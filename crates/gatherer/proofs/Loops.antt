@@ -35,7 +35,8 @@ use Rattle.evaluator.specs.declared.steps.scope.Scope.{Scope}
 use Rattle.evaluator.specs.declared.steps.values.Limits as code
 use Rattle.evaluator.specs.Steps.Scopes.{bindingsOf, boundMore, Small}
 use Rattle.evaluator.specs.Steps.Passing.{Ends}
-use Rattle.evaluator.specs.Steps.Values.{BindsNth}
+use Rattle.evaluator.specs.Steps.Values.{numberIn}
+use Rattle.evaluator.proofs.steps.Runs.{number-small}
 use Rattle.evaluator.proofs.steps.Scopes.{scope-bind, small-bind}
 use Rattle.evaluator.proofs.steps.Passed.{is-mark, skips-seen}
 use Rattle.evaluator.specs.Cycle.{seenBy, under, tokensAt, Ready}
@@ -189,10 +190,10 @@ module _ (n i : ℕ) (ns ts ds : List ℕ) (given : ℕ) (xs : List ℕ) (total 
         last : (w : Model ns ts ds given xs total) (r : Row) → each (step w) (upFrom (b .lower +ℤ pos j) (k - j)) r ≡ done r
         last w r = let d : k - j ≡ 0 = omega arith in rw d refl
 
-    module _ (u : j < k) (t : Scope) (f : BindsNth sc i b j t) (z : Move) (l′ : List ℤ) (h : Gathers (bodyIn n) ns ts ds given xs total level t at c m l z l′) where
+    module _ (u : j < k) (t : Scope) (f : bindingsOf t ≡ boundMore i (numberIn b j) (bindingsOf sc)) (z : Move) (l′ : List ℤ) (h : Gathers (bodyIn n) ns ts ds given xs total level t at c m l z l′) where
       bound : Ready sc b k → bindingsOf t ≡ boundMore i (b .lower +ℤ pos j) (bindingsOf sc)
       unfolding runLimit
-      bound y = f .is (y .small .low) (omega (arith, y .short))
+      bound y = f ∙ ap (λ z. boundMore i z (bindingsOf sc)) (number-small b j (y .small .low) (omega (arith, y .short)))
 
       inner : Small sc → Ready sc b k → Small t
       inner g y = small-bind sc t i (b .lower +ℤ pos j) (bound y) (nth-small b j (y .small) (omega (arith, y .count))) g

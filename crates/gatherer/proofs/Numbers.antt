@@ -1,11 +1,12 @@
 -- Laws over plain variables for a variable's number, and for the variable that a token names.
 use mathlib.Core.Path.{_≡_, refl, sym, _∙_, ap, subst}
-use mathlib.Core.Bool.{Bool, true, false, _||_, _&&_}
+use mathlib.Core.Bool.{Bool, true, false, cond, _||_, _&&_}
 use mathlib.Core.Option.{Option, none, some}
 use mathlib.Core.List.{List, [], _∷_}
 use Prim.Native.Nat.{ℕ, zero, suc, _<_, _≤_}
 use native.Mathlib.Omega.{arith}
-use lib.Dec.{eqb}
+use borrow.Author.Tests.{eq-eqb, ne-eqb, eqb-true, eqb-false, lt-ltb, le-ltb, ltb-true, ltb-false}
+use lib.Dec.{eqb, ltb}
 use lib.ListN.{length, getD}
 use Rattle.rules.specs.declared.Refusal.{Refusal}
 use Rattle.rules.specs.declared.Refusal.the-variants.{Outside}
@@ -27,8 +28,9 @@ use Rattle.store.specs.declared.Found.{Found}
 use Rattle.store.specs.declared.Found.the-variants as found
 use Rattle.store.specs.Element.{listOf}
 use Rattle.store.specs.Key.{nameBound, keyOf}
-use Rattle.store.specs.Table.{Finds}
+use Rattle.store.specs.Table.{foundRow}
 use Rattle.store.specs.Entries.{Keyed}
+use Rattle.store.proofs.Halving.{finds-row}
 use Rattle.store.proofs.Held.{numbered-at, numbered-nothing}
 use Rattle.evaluator.specs.declared.steps.scope.Scope.{Scope}
 use Rattle.evaluator.specs.declared.steps.names.Listed.{Listed}
@@ -45,7 +47,7 @@ use Rattle.evaluator.specs.Cycle.{seenBy, under, tokensAt, SubscriptsAre, Withi
 use Rattle.evaluator.proofs.Laws.{stop}
 use Rattle.evaluator.proofs.Names.{below-length, numbers-at, within-at, small}
 use Rattle.gatherer.specs.declared.Numbered.the-variants as numbered
-use Rattle.gatherer.specs.Cycle.{Model, Declared, NumberIs, Heads, Begins}
+use Rattle.gatherer.specs.Cycle.{Model, Declared, NumberIs, Heads, variableListed, variableSeen, Begins}
 
 -- ---- a variable's number
 
@@ -69,7 +71,7 @@ module _ (ns ts ds : List ℕ) (given : ℕ) (xs : List ℕ) (total level : ℕ)
           below = λ w j a z. absurd (let z : _≡_ {A = ℕ} 0 1 = cc in omega arith);
         }
 
-    module _ (j : t ≡ passed.Inside) (key : ℕ) (b : key ≡ keyOf i (listOf e)) (r : Found) (z : Finds xs total key r) where
+    module _ (j : t ≡ passed.Inside) (key : ℕ) (b : key ≡ keyOf i (listOf e)) (r : Found) (z : r ≡ foundRow xs total key) where
       keyed : (w : Model ns ts ds given xs total) → Small sc → (d : Spans) → Declared (w .world) i d k q → Keyed i (listOf e)
       unfolding nameBound nameLimit
       keyed w g d x =
@@ -98,7 +100,7 @@ module _ (ns ts ds : List ℕ) (given : ℕ) (xs : List ℕ) (total level : ℕ)
       number-found o v =
           record {
             is = λ w g d x. looked w g d x (some o) (numbered-at xs total (w .variables) i (listOf e) key (w .held) (keyed w g d x) b r o z v);
-            below = λ w l a′ c. let s : o ≡ l = cc in subst (λ x. x < total) s (z .within o v);
+            below = λ w l a′ c. let s : o ≡ l = cc in subst (λ x. x < total) s (finds-row xs total key r z .within o v);
           }
 
 -- ---- the variable that a token names
@@ -116,7 +118,7 @@ head-place l (x ∷ names) i p p′ = go (sameBytes l (x .spelling)) (head-place
     go false e = e
 
 module _ (ns ts : List ℕ) (level at k : ℕ) where
-  pub begins-mark : (k ≡ 1 → ⊥) → Begins ns ts level at k listed.Nothing
+  begins-mark : (k ≡ 1 → ⊥) → Begins ns ts level at k listed.Nothing
   unfolding headBy kindOf
   begins-mark e = record { heads = λ p x b h g t ds given w. go p x g w k e t }
     where
@@ -141,13 +143,13 @@ module _ (ns ts : List ℕ) (level at k : ℕ) where
             → headByName (find (spelling (w .text) p (nameBytes x)) (seenBy w level) 0 p) ≡ headBy (seenBy w level) g (kindOf (w .text) k p x)
         place p x g w = head-place _ _ 0 p 0 ∙ rw one refl
 
-    pub begins-unknown : v ≡ listed.Nothing → Begins ns ts level at k listed.Nothing
+    begins-unknown : v ≡ listed.Nothing → Begins ns ts level at k listed.Nothing
     unfolding headByName
     begins-unknown f =
         by-name listed.Nothing (λ p x b h ds given w. ap headByName (unknown (w .text) ns ts (w .names) (w .tables .named) (w .tables .resolved) at k p x b (seen.Token k p x b) h refl one v e f level))
 
     module _ (i j c q : ℕ) (f : v ≡ listed.Name i j c q) where
-      pub begins-late : level ≤ i → Begins ns ts level at k listed.Nothing
+      begins-late : level ≤ i → Begins ns ts level at k listed.Nothing
       unfolding headByName
       begins-late l =
           by-name listed.Nothing
@@ -170,7 +172,7 @@ module _ (ns ts : List ℕ) (level at k : ℕ) where
                 (subst (λ k. Shaped (d .name .sort) k c) (sym y) (subst (Shaped (d .name .sort) (rowWord ns i 2)) (sym z) (row-shaped (w .text) ns (w .names) i (d .name) (w .tables .named) (d .stands))))
                 (subst (Stands (w .text) ts (seenBy w i) (d .name .sort)) (sym row) (w .tables .declared i (d .name) (d .stands))))
 
-        pub begins-variable : (eqb j 4 || eqb j 5) ≡ true → Begins ns ts level at k (listed.Name i j c q)
+        begins-variable : (eqb j 4 || eqb j 5) ≡ true → Begins ns ts level at k (listed.Name i j c q)
         unfolding headBySort
         begins-variable t = by-sort (listed.Name i j c q) go
           where
@@ -182,7 +184,7 @@ module _ (ns ts : List ℕ) (level at k : ℕ) where
             go ds given w b (Syntax.discrete d) s a = (d, (refl, record { below = b; stands = a; count = s .1 }))
             go ds given w b (Syntax.continuous d) s a = (d, (refl, record { below = b; stands = a; count = s .1 }))
 
-        pub begins-other : (eqb j 4 || eqb j 5) ≡ false → Begins ns ts level at k listed.Nothing
+        begins-other : (eqb j 4 || eqb j 5) ≡ false → Begins ns ts level at k listed.Nothing
         unfolding headBySort
         begins-other t = by-sort listed.Nothing go
           where
@@ -193,3 +195,48 @@ module _ (ns ts : List ℕ) (level at k : ℕ) where
             go ds given w b (Syntax.formula d) s a = refl
             go ds given w b (Syntax.discrete d) s a = absurd (false-true (sym (subst (λ k. (eqb k 4 || eqb k 5) ≡ false) (s .0) t)))
             go ds given w b (Syntax.continuous d) s a = absurd (false-true (sym (subst (λ k. (eqb k 4 || eqb k 5) ≡ false) (s .0) t)))
+
+  pub begins-of : (r : Listed) → r ≡ variableSeen ns ts level at k → Begins ns ts level at k r
+  unfolding variableSeen
+  begins-of r e = rw e (go (eqb k 1) refl)
+    where
+      by-sort : k ≡ 1 → (i j c q : ℕ) → listed.Name i j c q ≡ listedOf ns (numberPart (getD ts at 0)) → i < level → (b : Bool) → (eqb j 4 || eqb j 5) ≡ b
+          → Begins ns ts level at k (cond b (listed.Name i j c q) listed.Nothing)
+      by-sort one i j c q g l true t = begins-variable one _ g i j c q refl l t
+      by-sort one i j c q g l false t = begins-other one _ g i j c q refl l t
+
+      by-level : k ≡ 1 → (i j c q : ℕ) → listed.Name i j c q ≡ listedOf ns (numberPart (getD ts at 0)) → (b : Bool) → ltb i level ≡ b
+          → Begins ns ts level at k (cond b (cond (eqb j 4 || eqb j 5) (listed.Name i j c q) listed.Nothing) listed.Nothing)
+      by-level one i j c q g true l = by-sort one i j c q g (ltb-true i level l) (eqb j 4 || eqb j 5) refl
+      by-level one i j c q g false l = begins-late one _ g i j c q refl (ltb-false i level l)
+
+      by-name : k ≡ 1 → (v : Listed) → v ≡ listedOf ns (numberPart (getD ts at 0)) → Begins ns ts level at k (variableListed level v)
+      by-name one (listed.Name i j c q) g = by-level one i j c q g (ltb i level) refl
+      by-name one listed.Nothing g = begins-unknown one listed.Nothing g refl
+
+      go : (b : Bool) → eqb k 1 ≡ b → Begins ns ts level at k (cond b (variableListed level (listedOf ns (numberPart (getD ts at 0)))) listed.Nothing)
+      go true one = by-name (eqb-true k 1 one) (listedOf ns (numberPart (getD ts at 0))) refl
+      go false one = begins-mark (eqb-false k 1 one)
+
+  -- the answers of `variable_at`
+  pub at-mark : (k ≡ 1 → ⊥) → listed.Nothing ≡ variableSeen ns ts level at k
+  unfolding variableSeen
+  at-mark e = rw (ne-eqb k 1 e) refl
+
+  module _ (one : k ≡ 1) (v : Listed) (e : v ≡ listedOf ns (numberPart (getD ts at 0))) where
+    pub at-unknown : v ≡ listed.Nothing → listed.Nothing ≡ variableSeen ns ts level at k
+    unfolding variableSeen
+    at-unknown f = rw (eq-eqb k 1 one, ← e, f) refl
+
+    module _ (i j c q : ℕ) (f : v ≡ listed.Name i j c q) where
+      pub at-late : level ≤ i → listed.Nothing ≡ variableSeen ns ts level at k
+      unfolding variableSeen
+      at-late l = rw (eq-eqb k 1 one, ← e, f, le-ltb i level l) refl
+
+      pub at-variable : i < level → (eqb j 4 || eqb j 5) ≡ true → listed.Name i j c q ≡ variableSeen ns ts level at k
+      unfolding variableSeen
+      at-variable l t = rw (eq-eqb k 1 one, ← e, f, lt-ltb i level l, t) refl
+
+      pub at-other : i < level → (eqb j 4 || eqb j 5) ≡ false → listed.Nothing ≡ variableSeen ns ts level at k
+      unfolding variableSeen
+      at-other l t = rw (eq-eqb k 1 one, ← e, f, lt-ltb i level l, t) refl

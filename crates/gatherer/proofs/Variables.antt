@@ -26,8 +26,10 @@ use Rattle.evaluator.specs.declared.steps.values.Limits as code
 use Rattle.evaluator.specs.declared.steps.values.Runs.{Runs}
 use Rattle.evaluator.specs.declared.steps.values.Runs.the-variants as runs
 use Rattle.evaluator.specs.Steps.Scopes.{Small}
-use Rattle.evaluator.specs.Steps.Names.{headOutcome, Heads}
-use Rattle.evaluator.specs.Steps.Values.{signedValue, limitsIn, SmallLimits, runOutcome, RunIs}
+use Rattle.evaluator.specs.Steps.Names.{headOutcome, Opens}
+use Rattle.evaluator.specs.Steps.Values.{signedValue, limitsIn, SmallLimits, runOutcome, runAnswer, RunIs}
+use Rattle.evaluator.proofs.steps.Numbers.{heads-of}
+use Rattle.evaluator.proofs.steps.Runs.{run-is}
 use Rattle.evaluator.specs.declared.Limited.{Limited}
 use Rattle.evaluator.specs.declared.Limited.the-variants as limited
 use Rattle.evaluator.specs.Tables.{World}
@@ -90,9 +92,9 @@ module _ (n i k q p : ℕ) (ns ts ds : List ℕ) (given : ℕ) (xs : List ℕ) (
 
 -- ---- the run of a sigma
 
-module _ (ns ts ds : List ℕ) (given level : ℕ) (sc : Scope) (n p at : ℕ) (x : Headed) (hd : Heads ts level at x) where
+module _ (ns ts ds : List ℕ) (given level : ℕ) (sc : Scope) (n p at : ℕ) (x : Headed) (hd : Opens ts level at x) where
   head-is : (y : Headed) → x ≡ y → (w : World ns ts ds given) → walkHead (seenBy w level) (tokensAt w at) ≡ headOutcome (w .text) ts y
-  head-is y e w = hd .is (w .text) ns (w .names) (w .tables .named) (w .tables .resolved) ∙ ap (headOutcome (w .text) ts) e
+  head-is y e w = heads-of ts level at x hd .is (w .text) ns (w .names) (w .tables .named) (w .tables .resolved) ∙ ap (headOutcome (w .text) ts) e
 
   pub run-head : (m : Refusal) (q : ℕ) → x ≡ headed.Refused m q → RunningIs n p ns ts ds given level sc at (running.Refused m q)
   run-head m q e = record { is = λ w g K. stop _ _ m q (head-is _ e w); ready = λ w g. tt; after = λ i l k a e. absurd (let z : _≡_ {A = ℕ} 0 1 = cc in omega arith) }
@@ -104,7 +106,10 @@ module _ (ns ts ds : List ℕ) (given level : ℕ) (sc : Scope) (n p at : ℕ) (
     pub run-limits : (m : Refusal) (q : ℕ) → y ≡ limited.Refused m q → RunningIs n p ns ts ds given level sc at (running.Refused m q)
     run-limits m q f = record { is = λ w g K. on _ _ i (tokensAt w a) _ (head-is _ e w) (stop _ _ m q (limits-at _ f w g)); ready = λ w g. tt; after = λ i l k a e. absurd (let z : _≡_ {A = ℕ} 0 1 = cc in omega arith) }
 
-    module _ (l : code.Limits) (b : ℕ) (f : y ≡ limited.Limits l b) (z : Runs) (k : RunIs l i sc p z) where
+    module _ (l : code.Limits) (b : ℕ) (f : y ≡ limited.Limits l b) (z : Runs) (told : z ≡ runAnswer l i sc p) where
+      k : RunIs l i sc p z
+      k = run-is l i sc p z told
+
       small : World ns ts ds given → Small sc → SmallLimits l
       small w g = subst SmallLimited f (h .small w g)
 

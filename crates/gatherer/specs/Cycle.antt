@@ -1,11 +1,11 @@
 -- What each function answers: for every text, names, data and variables that the tables hold, what the walk of the tokens from a
 -- position on gathers. `level`: how many names are visible. `n`: how many brackets may still open.
 use mathlib.Core.Path.{_≡_}
-use mathlib.Core.Bool.{Bool, true, false, _&&_}
+use mathlib.Core.Bool.{Bool, true, false, cond, _&&_, _||_}
 use mathlib.Core.List.{List}
 use Prim.Native.Nat.{ℕ, _<_}
-use lib.Dec.{eqb}
-use lib.ListN.{length}
+use lib.Dec.{eqb, ltb}
+use lib.ListN.{length, getD}
 use lib.IntN.{ℤ}
 use Rattle.rules.specs.Limits.{tokenLimit}
 use Rattle.value.specs.declared.Value.{Value}
@@ -30,6 +30,7 @@ use Rattle.evaluator.specs.declared.steps.names.Listed.{Listed}
 use Rattle.evaluator.specs.declared.steps.names.Listed.the-variants as listed
 use Rattle.evaluator.specs.declared.steps.values.Limits as code
 use Rattle.evaluator.specs.Steps.Scopes.{Small}
+use Rattle.evaluator.specs.Steps.Names.{numberPart, listedOf}
 use Rattle.evaluator.specs.Tables.{DomainAt, World}
 use Rattle.evaluator.specs.Cycle.{limitsWalk, seenBy, under, tokensAt, Ready}
 use Rattle.gatherer.specs.declared.Numbered.{Numbered}
@@ -113,6 +114,16 @@ abbrev pub Heads : {ns ts ds : List ℕ} {given : ℕ} → World ns ts ds given 
 Heads w h listed.Nothing = h ≡ aPrimary
 Heads w h (listed.Name i j k q) = (d : Spans) × ((h ≡ aVariable i d) × Declared w i d k q)
 
+-- the variable that a name is, if it is one of the first `level` names
+abbrev pub variableListed : ℕ → Listed → Listed
+variableListed level (listed.Name i j c q) = cond (ltb i level) (cond (eqb j 4 || eqb j 5) (listed.Name i j c q) listed.Nothing) listed.Nothing
+variableListed level listed.Nothing = listed.Nothing
+
+-- the variable that a token of kind k names by its number, if it names one
+unfoldable pub variableSeen : List ℕ → List ℕ → ℕ → ℕ → ℕ → Listed
+variableSeen ns ts level at k = cond (eqb k 1) (variableListed level (listedOf ns (numberPart (getD ts at 0)))) listed.Nothing
+
+-- of the token there, in every world
 pub record Begins (ns ts : List ℕ) (level at k : ℕ) (r : Listed) : Type 0 where
   pub heads : (p x b : ℕ) → Looks ts at (seen.Token k p x b) → (sigmas : Bool) → (sigmas && eqb k sigmaWord) ≡ false
       → (ds : List ℕ) (given : ℕ) (w : World ns ts ds given) → Heads w (headBy (seenBy w level) sigmas (kindOf (w .text) k p x)) r

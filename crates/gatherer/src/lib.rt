@@ -24,7 +24,7 @@ ghost use Rattle.rules.specs.Limits.{tokenLimit, nestingLimit};
 ghost use Rattle.value.specs.Decimal.{oneValue};
 ghost use Rattle.language.specs.Numbering.{xor};
 ghost use Rattle.evaluator.specs.Cycle.{Continues};
-ghost use Rattle.gatherer.specs.Cycle.{factorIn, termIn, termsIn, formIn, sigmaIn, bodyIn, gatherIn, Begins, NumberIs, EndingIs, VariableIs, RunningIs, RunsAre, Gathers};
+ghost use Rattle.gatherer.specs.Cycle.{factorIn, termIn, termsIn, formIn, sigmaIn, bodyIn, gatherIn, variableSeen, NumberIs, EndingIs, VariableIs, RunningIs, RunsAre, Gathers};
 
 // A variable's number from 0 and the position behind its subscripts.
 pub enum Numbered {
@@ -85,7 +85,7 @@ pub fn number(
 
 // The variable at a position, whose token has kind k, if it names one.
 pub fn variable_at(names: &[u64], tokens: &[u64], level: usize, at: usize, k: u64) -> Listed
-    ensures { λ r. ⌜ Begins (now (names .entry)) (now (tokens .entry)) level at k r ⌝ }
+    ensures { λ r. ⌜ r ≡ variableSeen (now (names .entry)) (now (tokens .entry)) level at k ⌝ }
 {
     if k != kinds::NAME {
         return Listed::Nothing;

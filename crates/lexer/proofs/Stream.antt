@@ -93,7 +93,7 @@ module _ (s : List ℕ) (at : ℕ) (f : Found) (h : at < length s) (v : Gives s 
       let q : kindOf s (f .token) ≡ end → ⊥ = λ e. wrong-not-end _ (z .last) (sym kind-is ∙ e) in
       record {
         low = omega (arith, place-is, z .low);
-        high = λ _. omega (arith, place-is, z .high, length-drop (at + 1) s);
+        high = omega (arith, place-is, z .high, length-drop (at + 1) s);
         ends = λ e. absurd (q e);
         inside = λ _. omega (arith, place-is, z .high, length-drop (at + 1) s);
         moves = λ e.
@@ -117,8 +117,8 @@ module _ (s : List ℕ) (from n : ℕ) (w : RunLength s from Blank n) where
     within = tt;
     placed = record {
       low = omega arith;
-      high = λ g. omega (arith, w .bound);
-      ends = λ _ g. omega (arith, w .bound);
+      high = omega (arith, w .bound);
+      ends = λ _. omega (arith, w .bound);
       inside = λ f. absurd (f refl);
       moves = λ e. true-false e;
     };

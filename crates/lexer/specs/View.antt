@@ -2,7 +2,7 @@
 use mathlib.Core.Path.{_≡_}
 use mathlib.Core.Bool.{Bool, true, false, cond}
 use mathlib.Core.List.{List, [], _∷_}
-use Prim.Native.Nat.{ℕ, _+_, _<_, _≤_}
+use Prim.Native.Nat.{ℕ, _+_, _-_, _<_, _≤_}
 use lib.ListN.{length, take, drop}
 use Rattle.rules.specs.Limits.{nameLength, stringLength, tokenLimit}
 use Rattle.value.specs.Decimal.{Valid}
@@ -55,12 +55,12 @@ isLast (string l) = false
 isLast end = true
 isLast (wrong r) = true
 
--- where a token k from `at` on stands, and the cursor past it: places rise; the end stands at the text's length, any other
--- token in the text
+-- where a token k from `at` on stands, and the cursor past it: places rise; the end stands at the text's length, or at a cursor
+-- that is past it, any other token in the text
 pub record Placed (s : List ℕ) (at : ℕ) (k : Kind) (place next : ℕ) : Type 0 where
   pub low : at ≤ place
-  pub high : at ≤ length s → place ≤ length s
-  pub ends : k ≡ end → at ≤ length s → place ≡ length s
+  pub high : place ≤ at + (length s - at)
+  pub ends : k ≡ end → place ≡ at + (length s - at)
   pub inside : (k ≡ end → ⊥) → place < length s
   pub moves : isLast k ≡ false → (place < next) × (next ≤ length s)
 

@@ -147,7 +147,7 @@ pub fn part<'a>(s: &'a [u8], at: usize, n: usize) -> &'a [u8]
 }
 
 // The bytes between the braces of the string at `at`.
-pub fn between_braces<'a>(s: &'a [u8], at: usize) -> &'a [u8]
+fn between_braces<'a>(s: &'a [u8], at: usize) -> &'a [u8]
     ensures { λ r. ⌜ now r ≡ front noBrace (drop (at + 1) (now (s .entry))) ⌝ }
 {
     let length = s.len();
@@ -160,7 +160,7 @@ pub fn between_braces<'a>(s: &'a [u8], at: usize) -> &'a [u8]
     &s[from..end]
 }
 
-pub fn same_bytes(a: &[u8], b: &[u8]) -> bool
+fn same_bytes(a: &[u8], b: &[u8]) -> bool
     ensures { λ r. ⌜ r ≡ sameBytes (now (a .entry)) (now (b .entry)) ⌝ }
 {
     if a.len() != b.len() {

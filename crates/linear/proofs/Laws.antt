@@ -5,7 +5,7 @@ use mathlib.Core.List.{List}
 use Prim.Native.Nat.{ℕ, zero, suc, _-_, _<_, _≤_}
 use native.Mathlib.Omega.{arith}
 use lib.Dec.{T, eqb, eqb→eq}
-use borrow.Author.Tests.{eq-eqb, ne-eqb}
+use borrow.Author.Tests.{eq-eqb, ne-eqb, eqb-true, eqb-false}
 use Rattle.rules.specs.declared.Refusal.{Refusal}
 use Rattle.rules.specs.declared.Refusal.the-variants.{Full}
 use Rattle.rules.specs.Limits.{tokenLimit}
@@ -27,7 +27,7 @@ use Rattle.tokens.specs.Pieces.{expectIn, headIn, signIn}
 use Rattle.tokens.proofs.Tables.{false-true, mark-of, mark-same, declared, not-declared}
 use Rattle.tokens.proofs.Moved.{stops, goes, then-at, given, next-is, look-is, next-wrong, look-wrong, is-sum, next-read}
 use Rattle.formulas.specs.Cycle.{partIn, primaryIn, Subscripts}
-use Rattle.linear.specs.Linear.{Heads, Begins, sigmasIn, termIn, sigmaIn, termsIn, formIn, bodyIn, linearIn}
+use Rattle.linear.specs.Linear.{variableFound, variableOf, Heads, Begins, sigmasIn, termIn, sigmaIn, termsIn, formIn, bodyIn, linearIn}
 
 -- ---- what a token begins
 
@@ -54,7 +54,7 @@ module _ (s ns : List ℕ) (p x : ℕ) where
   unfolding headBy kindOf
   name-head k names b e = rw e refl
 
-  pub begins-variable : (k ι j c : ℕ) (f : Found) → k ≡ 1 → f ≡ lookUp s (spelling s p (nameBytes x)) ns 0 → f ≡ found.Name ι j c → (eqb j 4 || eqb j 5) ≡ true → Begins s ns k p x (found.Name ι j c)
+  begins-variable : (k ι j c : ℕ) (f : Found) → k ≡ 1 → f ≡ lookUp s (spelling s p (nameBytes x)) ns 0 → f ≡ found.Name ι j c → (eqb j 4 || eqb j 5) ≡ true → Begins s ns k p x (found.Name ι j c)
   unfolding headByName
   begins-variable k ι j c f e g h t =
       record {
@@ -63,7 +63,7 @@ module _ (s ns : List ℕ) (p x : ℕ) where
             subst (λ y. Heads y b k (found.Name ι j c)) (sym (name-head k names b e ∙ ap headByName (u .stands))) (sort-variable (u .used .sort) (u .used .number) k ι j c b (u .numbered) (u .shaped) t);
       }
 
-  pub begins-other : (k ι j c : ℕ) (f : Found) → k ≡ 1 → f ≡ lookUp s (spelling s p (nameBytes x)) ns 0 → f ≡ found.Name ι j c → (eqb j 4 || eqb j 5) ≡ false → Begins s ns k p x found.Nothing
+  begins-other : (k ι j c : ℕ) (f : Found) → k ≡ 1 → f ≡ lookUp s (spelling s p (nameBytes x)) ns 0 → f ≡ found.Name ι j c → (eqb j 4 || eqb j 5) ≡ false → Begins s ns k p x found.Nothing
   unfolding headByName
   begins-other k ι j c f e g h t =
       record {
@@ -72,7 +72,7 @@ module _ (s ns : List ℕ) (p x : ℕ) where
             subst (λ y. Heads y b k found.Nothing) (sym (name-head k names b e ∙ ap headByName (u .stands))) (sort-other (u .used .sort) (u .used .number) k j c b (u .shaped) t (λ z. omega arith));
       }
 
-  pub begins-unknown : (k : ℕ) (f : Found) → k ≡ 1 → f ≡ lookUp s (spelling s p (nameBytes x)) ns 0 → f ≡ found.Nothing → Begins s ns k p x found.Nothing
+  begins-unknown : (k : ℕ) (f : Found) → k ≡ 1 → f ≡ lookUp s (spelling s p (nameBytes x)) ns 0 → f ≡ found.Nothing → Begins s ns k p x found.Nothing
   unfolding headByName
   begins-unknown k f e g h =
       record {
@@ -88,7 +88,7 @@ module _ (s ns : List ℕ) (p x : ℕ) where
       go true e = (refl, eqb→eq k 134 (subst T (sym e) tt))
       go false e = λ _ z. false-true (sym e ∙ eq-eqb k 134 z)
 
-  pub begins-mark : (k : ℕ) → (k ≡ 1 → ⊥) → Begins s ns k p x found.Nothing
+  begins-mark : (k : ℕ) → (k ≡ 1 → ⊥) → Begins s ns k p x found.Nothing
   unfolding headBy kindOf
   begins-mark k e = record { heads = λ names d b. go names b k e }
     where
@@ -100,6 +100,41 @@ module _ (s ns : List ℕ) (p x : ℕ) where
       go names b (suc (suc (suc (suc zero)))) e = λ _ z. omega arith
       go names b (suc (suc (suc (suc (suc zero))))) e = λ _ z. omega arith
       go names b (suc (suc (suc (suc (suc (suc k)))))) e = mark-head (suc (suc (suc (suc (suc (suc k)))))) b
+
+  pub begins-of : (k : ℕ) (r : Found) → r ≡ variableOf s ns k p x → Begins s ns k p x r
+  unfolding variableOf
+  begins-of k r w = rw w (go (eqb k 1) refl)
+    where
+      by-sort : k ≡ 1 → (ι j c : ℕ) → found.Name ι j c ≡ lookUp s (spelling s p (nameBytes x)) ns 0 → (b : Bool) → (eqb j 4 || eqb j 5) ≡ b
+          → Begins s ns k p x (cond b (found.Name ι j c) found.Nothing)
+      by-sort e ι j c g true t = begins-variable k ι j c _ e g refl t
+      by-sort e ι j c g false t = begins-other k ι j c _ e g refl t
+
+      by-name : k ≡ 1 → (f : Found) → f ≡ lookUp s (spelling s p (nameBytes x)) ns 0 → Begins s ns k p x (variableFound f)
+      by-name e (found.Name ι j c) g = by-sort e ι j c g (eqb j 4 || eqb j 5) refl
+      by-name e found.Nothing g = begins-unknown k found.Nothing e g refl
+
+      go : (b : Bool) → eqb k 1 ≡ b → Begins s ns k p x (cond b (variableFound (lookUp s (spelling s p (nameBytes x)) ns 0)) found.Nothing)
+      go true e = by-name (eqb-true k 1 e) (lookUp s (spelling s p (nameBytes x)) ns 0) refl
+      go false e = begins-mark k (eqb-false k 1 e)
+
+  -- the answers of `variable`
+  module _ (k : ℕ) (f : Found) (e : k ≡ 1) (g : f ≡ lookUp s (spelling s p (nameBytes x)) ns 0) where
+    pub variable-name : (ι j c : ℕ) → f ≡ found.Name ι j c → (eqb j 4 || eqb j 5) ≡ true → found.Name ι j c ≡ variableOf s ns k p x
+    unfolding variableOf
+    variable-name ι j c h t = rw (eq-eqb k 1 e, ← g, h, t) refl
+
+    pub variable-other : (ι j c : ℕ) → f ≡ found.Name ι j c → (eqb j 4 || eqb j 5) ≡ false → found.Nothing ≡ variableOf s ns k p x
+    unfolding variableOf
+    variable-other ι j c h t = rw (eq-eqb k 1 e, ← g, h, t) refl
+
+    pub variable-unknown : f ≡ found.Nothing → found.Nothing ≡ variableOf s ns k p x
+    unfolding variableOf
+    variable-unknown h = rw (eq-eqb k 1 e, ← g, h) refl
+
+  pub variable-mark : (k : ℕ) → (k ≡ 1 → ⊥) → found.Nothing ≡ variableOf s ns k p x
+  unfolding variableOf
+  variable-mark k e = rw (ne-eqb k 1 e) refl
 
 -- ---- linear terms, with and without sigmas
 
@@ -215,10 +250,13 @@ module _ (g : Bool) (s ns ts : List ℕ) (n at : ℕ) where
         let w : g ≡ true = both g (eqb x 134) i in
         o .on r (term-sigma-at g s ns ts n a t l k m x p y b r e w (eqb→eq x 134 (subst T (sym (subst (λ v. (v && eqb x 134) ≡ true) w i)) tt)) u)
 
-    pub term-variable : (x p y b ι j c : ℕ) (v : Found) (r : Move) → t ≡ seen.Token x p y b → Begins s ns x p y v → v ≡ found.Name ι j c → Subscripts s ns ts n c b r → Moves (termIn g n) s ns ts at r
-    term-variable x p y b ι j c v r e h w u = o .on r (term-variable-at g s ns ts n a t l k m x p y b ι j c v r e h w u)
+    pub term-variable : (x p y b ι j c : ℕ) (v : Found) (r : Move) → t ≡ seen.Token x p y b → v ≡ variableOf s ns x p y → v ≡ found.Name ι j c → Subscripts s ns ts n c b r → Moves (termIn g n) s ns ts at r
+    term-variable x p y b ι j c v r e h w u = o .on r (term-variable-at g s ns ts n a t l k m x p y b ι j c v r e (begins-of s ns p y x v h) w u)
 
-    module _ (x p y b : ℕ) (v : Found) (e : t ≡ seen.Token x p y b) (no : (g && eqb x 134) ≡ false) (h : Begins s ns x p y v) (w : v ≡ found.Nothing) (q : Move) (f : Moves (primaryIn n) s ns ts a q) where
+    module _ (x p y b : ℕ) (v : Found) (e : t ≡ seen.Token x p y b) (no : (g && eqb x 134) ≡ false) (told : v ≡ variableOf s ns x p y) (w : v ≡ found.Nothing) (q : Move) (f : Moves (primaryIn n) s ns ts a q) where
+      h : Begins s ns x p y v
+      h = begins-of s ns p y x v told
+
       pub term-primary : (j : Refusal) (i : ℕ) → q ≡ Refused j i → Moves (termIn g n) s ns ts at q
       term-primary j i z =
           o .on q

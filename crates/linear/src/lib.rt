@@ -5,13 +5,14 @@ use tokens::Move;
 use tokens::Seen;
 use tokens::kinds;
 use tokens::sorts;
+ghost use mathlib.Core.Path.{_≡_};
 ghost use Rattle.rules.specs.Limits.{tokenLimit};
 ghost use Rattle.tokens.specs.Stored.{Moves};
-ghost use Rattle.linear.specs.Linear.{Begins, termIn, sigmaIn, termsIn, formIn, bodyIn, linearIn};
+ghost use Rattle.linear.specs.Linear.{variableOf, termIn, sigmaIn, termsIn, formIn, bodyIn, linearIn};
 
 // The variable that the token with kind k, place p and payload x names, if it names one.
 pub fn variable(text: &[u8], names: &[u64], k: u64, p: u64, x: u64) -> Found
-    ensures { λ r. ⌜ Begins (now (text .entry)) (now (names .entry)) k p x r ⌝ }
+    ensures { λ r. ⌜ r ≡ variableOf (now (text .entry)) (now (names .entry)) k p x ⌝ }
 {
     if k == kinds::NAME {
         let name = tokens::find(text, names, p, x % tokens::NAME_UNIT);

@@ -1,6 +1,6 @@
 -- Laws over plain variables that answer the code's needs.
 use mathlib.Core.Path.{_≡_, refl, sym, _∙_, ap, subst}
-use mathlib.Core.List.{List, _++_}
+use mathlib.Core.List.{List, _++_, map}
 use Prim.Native.Nat.{ℕ, _*_, _≤_}
 use native.Mathlib.Omega.{arith}
 use lib.ListN.{length, take, drop}
@@ -18,7 +18,8 @@ use Rattle.tokens.specs.declared.Move.the-variants.{At, Refused}
 use Rattle.tokens.specs.Stored.{from, rowsOf}
 use Rattle.tokens.specs.Scanner.Table.{Scanned}
 use Rattle.tokens.proofs.scanner.Calls.{table-holds, holds-from}
-use Rattle.evaluator.specs.Steps.Names.{Resolves}
+use Rattle.evaluator.specs.Steps.Names.{resolvedWord, Resolves}
+use Rattle.evaluator.proofs.steps.Numbers.{map-resolves}
 use Rattle.parser.specs.declared.Parsed.{Parsed}
 use Rattle.parser.specs.Parsed.{StructureAt, Parsing, ParsedAs}
 use Rattle.evaluator.specs.Ground.{Ground}
@@ -38,8 +39,10 @@ tokens-part t n h = sym (length-take-le n t h)
 pub rows-part : (t : List ℕ) (n : ℕ) → 320 ≤ length t → n ≤ 64 → n * 5 ≡ length (take (n * 5) t)
 rows-part t n h k = sym (length-take-le (n * 5) t (omega (arith, h, k)))
 
-pub resolved-part : (s ns t e : List ℕ) (n : ℕ) → n ≤ length t → Resolves s ns (take n t) e → Resolves s ns (take n t) (take n (e ++ drop n t))
-resolved-part s ns t e n h z = subst (Resolves s ns (take n t)) (sym (take-at e (drop n t) n (z .size ∙ length-take-le n t h))) z
+pub resolved-part : (s ns t e : List ℕ) (n : ℕ) → n ≤ length t → e ≡ map (resolvedWord s ns) (take n t) → Resolves s ns (take n t) (take n (e ++ drop n t))
+resolved-part s ns t e n h f =
+    let z : Resolves s ns (take n t) e = subst (Resolves s ns (take n t)) (sym f) (map-resolves s ns (take n t)) in
+    subst (Resolves s ns (take n t)) (sym (take-at e (drop n t) n (z .size ∙ length-take-le n t h))) z
 
 pub scan-holds : (s t t′ : List ℕ) (r : ℕ) → length t ≡ 16385 → Scanned s t r t′ → Scans s r t′
 scan-holds s t t′ r e w = record { few = omega (arith, e, w .within); holds = table-holds s t r t′ e w }

@@ -98,20 +98,36 @@ module _ (t : List ℕ) (s : ℕ) (k : Key) (w : ℕ) where
       go true = set-other p f d h
       go false = refl
 
-  has-room : s < length t / 4 → hasRoom t s ≡ true
-  unfolding hasRoom
-  has-room h = lt-ltb s (length t / 4) h
+  key-put : (b : Bool) → hasRoom t s ≡ b → keyAt (appended t s k w) s ≡ cond b (keyNumber k) (keyAt t s)
+  unfolding appended
+  key-put true e = grown-append t s k w e .key
+  key-put false e = rw e refl
+
+  word-put : (b : Bool) → hasRoom t s ≡ b → wordAt (appended t s k w) s ≡ cond b w (wordAt t s)
+  unfolding appended
+  word-put true e = grown-append t s k w e .word
+  word-put false e = rw e refl
 
   pub entered : Entered t s (keyNumber k) w (appended t s k w)
   unfolding keyAt wordAt
   entered =
       record {
         size = append-size t s k w;
-        key = λ h. grown-append t s k w (has-room h) .key;
-        word = λ h. grown-append t s k w (has-room h) .word;
+        key = key-put (hasRoom t s) refl;
+        word = word-put (hasRoom t s) refl;
         otherKey = λ p d. rw (part-other p 0 d (omega arith), part-other p 1 d (omega arith), part-other p 2 d (omega arith));
         otherWord = λ p d. part-other p 3 d (omega arith);
       }
+
+-- a row that lies in the table
+module _ (t : List ℕ) (s k w : ℕ) (t′ : List ℕ) (x : Entered t s k w t′) (h : s < length t / 4) where
+  entered-key : keyAt t′ s ≡ k
+  unfolding hasRoom
+  entered-key = x .key ∙ rw (lt-ltb s (length t / 4) h) refl
+
+  entered-word : wordAt t′ s ≡ w
+  unfolding hasRoom
+  entered-word = x .word ∙ rw (lt-ltb s (length t / 4) h) refl
 
 -- ---- slots
 
@@ -163,9 +179,9 @@ module _ (vs : List Variable) (t t′ : List ℕ) (m m′ : List ℤ) (s : ℕ) 
   slot-new e g u a v b r =
       record {
         keyed = u;
-        key = x .key g ∙ a;
+        key = entered-key t s k w t′ x g ∙ a;
         valid = v;
-        right = x .word g ∙ b;
+        right = entered-word t s k w t′ x g ∙ b;
         row = subst (λ l. RowOf vs l (coefficientsOf (e .fact))) (sym (y .here)) r;
       }
 

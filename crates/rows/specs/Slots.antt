@@ -5,7 +5,7 @@
 use mathlib.Core.Path.{_≡_}
 use mathlib.Core.Bool.{Bool, true, false, cond}
 use mathlib.Core.List.{List}
-use Prim.Native.Nat.{ℕ, suc, _+_, _-_, _*_, _/_, _<_, _≤_}
+use Prim.Native.Nat.{ℕ, suc, _+_, _-_, _*_, _≤_}
 use lib.Dec.{ltb}
 use lib.ListN.{length, take, drop}
 use lib.IntN.{ℤ}
@@ -16,7 +16,7 @@ use Rattle.language.specs.Numbering.{Variable, Row, Entry, keep, lessRow, equal
 use Rattle.language.specs.Listed.{At}
 use Rattle.language.specs.Listing.{rightOf, coefficientsOf}
 use Rattle.store.specs.Key.{keyOf}
-use Rattle.store.specs.Table.{keyAt, wordAt}
+use Rattle.store.specs.Table.{keyAt, wordAt, hasRoom}
 use Rattle.store.specs.Packed.{packed}
 use Rattle.store.specs.Entries.{Keyed}
 use Rattle.rows.specs.declared.Filled.{Filled}
@@ -83,8 +83,8 @@ countedAs f false = record { less = oneMore (f .less); equal = f .equal }
 -- row s of a table now has the key k and the word w, if it lies there, and every other row is as it was
 pub record Entered (t : List ℕ) (s k w : ℕ) (t′ : List ℕ) : Type 0 where
   pub size : length t′ ≡ length t
-  pub key : s < length t / 4 → keyAt t′ s ≡ k
-  pub word : s < length t / 4 → wordAt t′ s ≡ w
+  pub key : keyAt t′ s ≡ cond (hasRoom t s) k (keyAt t s)
+  pub word : wordAt t′ s ≡ cond (hasRoom t s) w (wordAt t s)
   pub otherKey : (p : ℕ) → (p ≡ s → ⊥) → keyAt t′ p ≡ keyAt t p
   pub otherWord : (p : ℕ) → (p ≡ s → ⊥) → wordAt t′ p ≡ wordAt t p
 

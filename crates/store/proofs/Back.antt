@@ -10,13 +10,12 @@ use Rattle.rules.specs.Limits.{mantissaLimit, indexLimit}
 use Rattle.store.specs.declared.Key.{Key}
 use Rattle.store.specs.declared.Element.{Element}
 use Rattle.store.specs.Element.{listOf, extended}
-use Rattle.store.specs.Key.{digitOf, digitAt, withDigit, nameDigit, paired, keyNumber, keyOf}
+use Rattle.store.specs.Key.{digitOf, digitAt, withDigit, nameDigit, paired, threeWords, keyNumber, keyOf, fourDigits, highOf, middleOf, lowOf, nameOf, elementOf}
 use Rattle.store.specs.Table.{partAt, keyAt}
-use Rattle.store.specs.Entries.{Keyed, NameRead, ElementRead}
+use Rattle.store.specs.Entries.{Keyed}
 use Rattle.store.proofs.Keys.{digit-below, digit-above, digit-parts, name-digit}
 use Rattle.store.proofs.Words.{moved-back}
 use Rattle.store.proofs.Elements.{extended-room}
-use Rattle.store.proofs.Halving.{same-high, same-middle, same-low}
 
 -- the three words of a row
 pub row-words : (t : List ℕ) (i h m l : ℕ) → h ≡ partAt t i 0 → m ≡ partAt t i 1 → l ≡ partAt t i 2 → keyNumber (record { high = h; middle = m; low = l }) ≡ keyAt t i
@@ -48,10 +47,6 @@ module _ (e : Element) (d : ℕ) where
   unfolding withDigit mantissaLimit
   digit-more r j h p q = rw (ne-eqb d 0 h) (rw p at q)
 
--- the numbers of four digits
-fourDigits : ℕ → ℕ → ℕ → ℕ → List ℤ
-fourDigits a b c d = withDigit (withDigit (withDigit (withDigit [] a) b) c) d
-
 some-digit : {x l : List ℤ} (k : ℤ) → x ≡ l → length l < 4 → natAbs k ≤ mantissaLimit → withDigit x (digitOf k) ≡ l ++ (k ∷ [])
 unfolding withDigit mantissaLimit
 some-digit {l = l} k e h b =
@@ -69,40 +64,80 @@ four-digits (a ∷ b ∷ c ∷ d ∷ e ∷ l) h s = absurd (omega arith)
 
 -- ---- words
 
--- the digits of the words that hold the key of n and l
-module _ (k : Key) (y : k .middle < 18446744073709551616) (z : k .low < 18446744073709551616) (n : ℕ) (l : List ℤ) (a : Keyed n l) (e : keyNumber k ≡ keyOf n l) where
-  high-word : k .high ≡ nameDigit n * 2147483648 + digitAt l 0
-  unfolding keyNumber keyOf paired
-  high-word = same-high (k .high) (k .middle) (k .low) _ _ _ y z (omega (arith, digit-at-below l 1, digit-at-below l 2)) (omega (arith, digit-at-below l 3)) e
+whole : (x l : ℕ) → l < 18446744073709551616 → (x * 18446744073709551616 + l) / 18446744073709551616 ≡ x
+whole x l h = omega arith
 
-  middle-word : k .middle ≡ digitAt l 1 * 2147483648 + digitAt l 2
-  unfolding keyNumber keyOf paired
-  middle-word = same-middle (k .high) (k .middle) (k .low) _ _ _ y z (omega (arith, digit-at-below l 1, digit-at-below l 2)) (omega (arith, digit-at-below l 3)) e
+rest : (x l : ℕ) → l < 18446744073709551616 → (x * 18446744073709551616 + l) % 18446744073709551616 ≡ l
+rest x l h = omega arith
 
-  low-word : k .low ≡ digitAt l 3
-  unfolding keyNumber keyOf paired
-  low-word = same-low (k .high) (k .middle) (k .low) _ _ _ y z (omega (arith, digit-at-below l 1, digit-at-below l 2)) (omega (arith, digit-at-below l 3)) e
+-- three words, read back from their number
+module _ (h m l : ℕ) (y : m < 18446744073709551616) (z : l < 18446744073709551616) where
+  three-high : highOf (threeWords h m l) ≡ h
+  unfolding highOf threeWords
+  three-high = rw (whole (h * 18446744073709551616 + m) l z) (whole h m y)
 
-  name-back : k .high / 2147483648 ≡ n
-  name-back = upper-digit (k .high) (nameDigit n) (digitAt l 0) high-word (digit-at-below l 0) ∙ name-digit n (a .named)
+  three-middle : middleOf (threeWords h m l) ≡ m
+  unfolding middleOf threeWords
+  three-middle = rw (whole (h * 18446744073709551616 + m) l z) (rest h m y)
 
-  element-back : fourDigits (k .high % 2147483648) (k .middle / 2147483648 % 2147483648) (k .middle % 2147483648) (k .low % 2147483648) ≡ l
-  unfolding indexLimit
+  three-low : lowOf (threeWords h m l) ≡ l
+  unfolding lowOf threeWords
+  three-low = rest (h * 18446744073709551616 + m) l z
+
+-- a number that is the key of n and l
+module _ (k n : ℕ) (l : List ℤ) (a : Keyed n l) (e : k ≡ keyOf n l) where
+  middle-below : digitAt l 1 * 2147483648 + digitAt l 2 < 18446744073709551616
+  middle-below = omega (arith, digit-at-below l 1, digit-at-below l 2)
+
+  low-below : digitAt l 3 < 18446744073709551616
+  low-below = omega (arith, digit-at-below l 3)
+
+  high-word : highOf k ≡ nameDigit n * 2147483648 + digitAt l 0
+  unfolding keyOf paired
+  high-word = rw e (three-high _ _ _ middle-below low-below)
+
+  middle-word : middleOf k ≡ digitAt l 1 * 2147483648 + digitAt l 2
+  unfolding keyOf paired
+  middle-word = rw e (three-middle _ _ _ middle-below low-below)
+
+  low-word : lowOf k ≡ digitAt l 3
+  unfolding keyOf paired
+  low-word = rw e (three-low _ _ _ middle-below low-below)
+
+  pub name-back : nameOf k ≡ n
+  unfolding nameOf
+  name-back = upper-digit (highOf k) (nameDigit n) (digitAt l 0) high-word (digit-at-below l 0) ∙ name-digit n (a .named)
+
+  pub element-back : elementOf k ≡ l
+  unfolding elementOf indexLimit
   element-back =
-      let f : k .high % 2147483648 ≡ digitAt l 0 = lower-digit (k .high) (nameDigit n) (digitAt l 0) high-word (digit-at-below l 0) in
-      let g : k .middle / 2147483648 % 2147483648 ≡ digitAt l 1 = omega (arith, middle-word, digit-at-below l 1, digit-at-below l 2) in
-      let h : k .middle % 2147483648 ≡ digitAt l 2 = lower-digit (k .middle) (digitAt l 1) (digitAt l 2) middle-word (digit-at-below l 2) in
-      let j : k .low % 2147483648 ≡ digitAt l 3 = omega (arith, low-word, digit-at-below l 3) in
+      let f : highOf k % 2147483648 ≡ digitAt l 0 = lower-digit (highOf k) (nameDigit n) (digitAt l 0) high-word (digit-at-below l 0) in
+      let g : middleOf k / 2147483648 % 2147483648 ≡ digitAt l 1 = omega (arith, middle-word, digit-at-below l 1, digit-at-below l 2) in
+      let h : middleOf k % 2147483648 ≡ digitAt l 2 = lower-digit (middleOf k) (digitAt l 1) (digitAt l 2) middle-word (digit-at-below l 2) in
+      let j : lowOf k % 2147483648 ≡ digitAt l 3 = omega (arith, low-word, digit-at-below l 3) in
       rw (f, g, h, j) (four-digits l (a .subscripts .few) (a .subscripts .small))
 
 -- ---- rows
 
 module _ (t : List ℕ) (i : ℕ) (k : Key) (w : keyNumber k ≡ keyAt t i) (y : k .middle < 18446744073709551616) (z : k .low < 18446744073709551616) where
-  pub name-read : NameRead t i (k .high / 2147483648)
-  name-read = record { is = λ n l a e. name-back k y z n l a (w ∙ e) }
+  key-high : highOf (keyAt t i) ≡ k .high
+  unfolding keyNumber
+  key-high = rw (← w) (three-high (k .high) (k .middle) (k .low) y z)
+
+  key-middle : middleOf (keyAt t i) ≡ k .middle
+  unfolding keyNumber
+  key-middle = rw (← w) (three-middle (k .high) (k .middle) (k .low) y z)
+
+  key-low : lowOf (keyAt t i) ≡ k .low
+  unfolding keyNumber
+  key-low = rw (← w) (three-low (k .high) (k .middle) (k .low) y z)
+
+  pub name-read : k .high / 2147483648 ≡ nameOf (keyAt t i)
+  unfolding nameOf
+  name-read = rw key-high refl
 
   pub element-read : (o p q r s : Element) → listOf o ≡ [] → listOf p ≡ withDigit (listOf o) (k .high % 2147483648)
       → listOf q ≡ withDigit (listOf p) (k .middle / 2147483648 % 2147483648) → listOf r ≡ withDigit (listOf q) (k .middle % 2147483648)
-      → listOf s ≡ withDigit (listOf r) (k .low % 2147483648) → ElementRead t i s
-  unfolding fourDigits
-  element-read o p q r s u f g h j = record { is = λ n l a e. j ∙ rw (h, g, f, u) (element-back k y z n l a (w ∙ e)) }
+      → listOf s ≡ withDigit (listOf r) (k .low % 2147483648) → listOf s ≡ elementOf (keyAt t i)
+  unfolding elementOf fourDigits
+  element-read o p q r s u f g h j = j ∙ rw (h, g, f, u, key-high, key-middle, key-low) refl

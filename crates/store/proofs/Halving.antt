@@ -1,21 +1,22 @@
 -- Laws of the search by halving: keys are compared word by word; a key bracketed in a sorted table; the row that a search from
--- the front finds.
-use mathlib.Core.Path.{_≡_, refl, sym, _∙_, ap, subst}
-use mathlib.Core.Bool.{Bool, true, false}
+-- the front finds; where halving ends, in any table.
+use mathlib.Core.Path.{_≡_, refl, sym, _∙_, ap}
+use mathlib.Core.Bool.{Bool, true, false, cond}
 use mathlib.Core.Option.{none, some}
 use mathlib.Core.List.{List}
 use mathlib.Core.Logic.{_⊎_, inl, inr, ⊎-elim}
-use Prim.Native.Nat.{ℕ, zero, suc, _+_, _*_, _<_, _≤_}
+use Prim.Native.Nat.{ℕ, zero, suc, _+_, _-_, _*_, _<_, _≤_}
 use native.Mathlib.Omega.{arith}
 use native.Mathlib.Nat.{eq-or-lt-of-le}
-use borrow.Author.Tests.{lt-ltb, le-ltb, ltb-true, ltb-false, eq-eqb, ne-eqb, eqb-true, eqb-false}
-use lib.Dec.{eqb, ltb}
+use borrow.Author.Tests.{lt-ltb, le-ltb, ltb-true, ltb-false, le-leb, lt-leb, leb-true, leb-false, eq-eqb, ne-eqb, eqb-true, eqb-false}
+use lib.Dec.{eqb, ltb, leb}
 use Rattle.store.specs.declared.Key.{Key}
+use Rattle.store.specs.declared.Found.{Found}
 use Rattle.store.specs.declared.Found.the-variants.{At, Nothing}
 use Rattle.store.specs.declared.Place.{Place}
 use Rattle.store.specs.declared.Place.the-variants.{Taken, Free}
 use Rattle.store.specs.Key.{threeWords, keyNumber}
-use Rattle.store.specs.Table.{partAt, keyAt, wordAt, Sorted, rowFrom, rowOf, wordIn, lookup, Finds, Between, PlaceIs}
+use Rattle.store.specs.Table.{partAt, keyAt, wordAt, Sorted, rowFrom, rowOf, wordIn, lookup, halfway, rankIn, rankOf, placeAt, placeOf, takenRow, foundRow, Finds, Between, PlaceIs}
 use Rattle.store.proofs.Keys.{higher, nearer, three}
 
 -- ---- three words as one number
@@ -204,13 +205,128 @@ module _ (t : List ℕ) (n k : ℕ) where
   unfolding lookup wordIn
   lookup-none f = rw (row-none f)
 
-  -- what `find` answers
-  pub finds-taken : (r : Place) (i : ℕ) → PlaceIs t n k r → r ≡ Taken i → Finds t n k (At i)
-  finds-taken r i h e =
-      let g : PlaceIs t n k (Taken i) = subst (λ p. PlaceIs t n k p) e h in
-      record { within = λ j f. let w : i ≡ j = cc in omega (arith, g .0); is-row = λ s. sym (row-at s i (g .0) (g .1)) }
+-- ---- halving
 
-  pub finds-free : (r : Place) (at : ℕ) → PlaceIs t n k r → r ≡ Free at → Finds t n k Nothing
-  finds-free r at h e =
-      let g : PlaceIs t n k (Free at) = subst (λ p. PlaceIs t n k p) e h in
-      record { within = λ j f. absurd (let w : _≡_ {A = ℕ} 0 1 = cc in omega arith); is-row = λ s. sym (row-none (free-none t n k at s (g .0) (g .1))) }
+module _ (t : List ℕ) (k : ℕ) where
+  -- more turns than rows make no difference
+  rank-turns : (f g a b : ℕ) → b ≤ a + f → b ≤ a + g → rankIn t k f a b ≡ rankIn t k g a b
+  unfolding rankIn
+  rank-turns zero zero a b h j = refl
+  rank-turns zero (suc g) a b h j = rw (le-ltb a b (omega arith))
+  rank-turns (suc f) zero a b h j = rw (le-ltb a b (omega arith))
+  rank-turns (suc f) (suc g) a b h j = go (λ c d u v. rank-turns f g c d u v) (ltb a b) refl (ltb (keyAt t (halfway a b)) k)
+    where
+      go : ((c d : ℕ) → d ≤ c + f → d ≤ c + g → rankIn t k f c d ≡ rankIn t k g c d) → (x : Bool) → ltb a b ≡ x → (y : Bool)
+          → cond x (cond y (rankIn t k f (halfway a b + 1) b) (rankIn t k f a (halfway a b))) a ≡ cond x (cond y (rankIn t k g (halfway a b + 1) b) (rankIn t k g a (halfway a b))) a
+      go r true e true = r (halfway a b + 1) b (omega arith) (omega arith)
+      go r true e false = let u = ltb-true a b e in r a (halfway a b) (omega arith) (omega arith)
+      go r false e y = refl
+
+  rank-done : (f a b : ℕ) → b ≤ a → rankIn t k f a b ≡ a
+  unfolding rankIn
+  rank-done zero a b h = refl
+  rank-done (suc f) a b h = rw (le-ltb a b h)
+
+  -- one turn, with as many behind it as there are rows
+  rank-turn : (f a b : ℕ) → a < b → b ≤ a + f
+      → rankIn t k f a b ≡ cond (ltb (keyAt t (halfway a b)) k) (rankIn t k (b - (halfway a b + 1)) (halfway a b + 1) b) (rankIn t k (halfway a b - a) a (halfway a b))
+  unfolding rankIn
+  rank-turn zero a b h j = absurd (omega arith)
+  rank-turn (suc f) a b h j = rw (lt-ltb a b h) (go (ltb (keyAt t (halfway a b)) k))
+    where
+      go : (y : Bool) → cond y (rankIn t k f (halfway a b + 1) b) (rankIn t k f a (halfway a b))
+          ≡ cond y (rankIn t k (b - (halfway a b + 1)) (halfway a b + 1) b) (rankIn t k (halfway a b - a) a (halfway a b))
+      go true = rank-turns f (b - (halfway a b + 1)) (halfway a b + 1) b (omega arith) (omega arith)
+      go false = rank-turns f (halfway a b - a) a (halfway a b) (omega arith) (omega arith)
+
+  -- the loop of `rank`
+  pub rank-start : (n : ℕ) → rankIn t k (n - 0) 0 n ≡ rankOf t n k
+  unfolding rankOf
+  rank-start n = rank-turns (n - 0) n 0 n (omega arith) (omega arith)
+
+  module _ (n a b : ℕ) (i : rankIn t k (b - a) a b ≡ rankOf t n k) where
+    pub rank-up : a < b → (r : Bool) → r ≡ ltb (keyAt t (halfway a b)) k → r ≡ true → rankIn t k (b - (halfway a b + 1)) (halfway a b + 1) b ≡ rankOf t n k
+    rank-up h r e f = sym (rank-turn (b - a) a b h (omega arith) ∙ rw (← e, f) refl) ∙ i
+
+    pub rank-down : a < b → (r : Bool) → r ≡ ltb (keyAt t (halfway a b)) k → r ≡ false → rankIn t k (halfway a b - a) a (halfway a b) ≡ rankOf t n k
+    rank-down h r e f = sym (rank-turn (b - a) a b h (omega arith) ∙ rw (← e, f) refl) ∙ i
+
+    pub rank-end : b ≤ a → a ≡ rankOf t n k
+    rank-end h = sym (rank-done (b - a) a b h) ∙ i
+
+module _ (t : List ℕ) (n k : ℕ) where
+  rank-in : (f a b : ℕ) → Between t n k a b → b ≤ a + f → Between t n k (rankIn t k f a b) (rankIn t k f a b)
+  unfolding rankIn
+  rank-in zero a b h j = between-end t n k a b h (omega arith)
+  rank-in (suc f) a b h j = go (λ c d u v. rank-in f c d u v) (ltb a b) refl (ltb (keyAt t (halfway a b)) k) refl
+    where
+      go : ((c d : ℕ) → Between t n k c d → d ≤ c + f → Between t n k (rankIn t k f c d) (rankIn t k f c d)) → (x : Bool) → ltb a b ≡ x → (y : Bool) → ltb (keyAt t (halfway a b)) k ≡ y
+          → Between t n k (cond x (cond y (rankIn t k f (halfway a b + 1) b) (rankIn t k f a (halfway a b))) a) (cond x (cond y (rankIn t k f (halfway a b + 1) b) (rankIn t k f a (halfway a b))) a)
+      go r true e true d =
+          let u = ltb-true a b e in
+          r (halfway a b + 1) b (between-up t n k a b (halfway a b) h (omega arith) (omega arith) true (sym d) refl) (omega arith)
+      go r true e false d =
+          let u = ltb-true a b e in
+          r a (halfway a b) (between-down t n k a b (halfway a b) h (omega arith) (omega arith) false (sym d) refl) (omega arith)
+      go r false e y d = between-end t n k a b h (ltb-false a b e)
+
+  -- in a sorted table the rank is the number of rows below k
+  pub rank-between : Between t n k (rankOf t n k) (rankOf t n k)
+  unfolding rankOf
+  rank-between = rank-in n 0 n (between-start t n k) (omega arith)
+
+  -- the answers of `locate`
+  module _ (at : ℕ) (h : at ≡ rankOf t n k) where
+    pub place-last : n ≤ at → Free at ≡ placeOf t n k
+    unfolding placeOf placeAt
+    place-last g = rw (← h, le-leb n at g) refl
+
+    pub place-taken : at < n → (r : Bool) → r ≡ eqb (keyAt t at) k → r ≡ true → Taken at ≡ placeOf t n k
+    unfolding placeOf placeAt
+    place-taken g r e f = rw (← h, lt-leb n at g, ← e, f) refl
+
+    pub place-free : at < n → (r : Bool) → r ≡ eqb (keyAt t at) k → r ≡ false → Free at ≡ placeOf t n k
+    unfolding placeOf placeAt
+    place-free g r e f = rw (← h, lt-leb n at g, ← e, f) refl
+
+  pub place-is : PlaceIs t n k (placeOf t n k)
+  unfolding placeOf placeAt
+  place-is = go (leb n (rankOf t n k)) refl (eqb (keyAt t (rankOf t n k)) k) refl
+    where
+      go : (x : Bool) → leb n (rankOf t n k) ≡ x → (y : Bool) → eqb (keyAt t (rankOf t n k)) k ≡ y
+          → PlaceIs t n k (cond x (Free (rankOf t n k)) (cond y (Taken (rankOf t n k)) (Free (rankOf t n k))))
+      go true e y d = (rank-between, λ h f. omega (arith, leb-true n (rankOf t n k) e))
+      go false e true d = (leb-false n (rankOf t n k) e, eqb-true (keyAt t (rankOf t n k)) k d)
+      go false e false d = (rank-between, λ h f. eqb-false (keyAt t (rankOf t n k)) k d f)
+
+  -- a free place is the rank
+  pub free-rank : (at : ℕ) → Free at ≡ placeOf t n k → at ≡ rankOf t n k
+  unfolding placeOf placeAt
+  free-rank at = go (leb n (rankOf t n k)) (eqb (keyAt t (rankOf t n k)) k)
+    where
+      go : (x y : Bool) → Free at ≡ cond x (Free (rankOf t n k)) (cond y (Taken (rankOf t n k)) (Free (rankOf t n k))) → at ≡ rankOf t n k
+      go true y e = cc
+      go false true e = absurd (let z : _≡_ {A = ℕ} 0 1 = cc in omega arith)
+      go false false e = cc
+
+  -- the answers of `find`
+  pub found-taken : (r : Place) (i : ℕ) → r ≡ placeOf t n k → r ≡ Taken i → At i ≡ foundRow t n k
+  unfolding foundRow
+  found-taken r i h e = rw (← h, e) refl
+
+  pub found-free : (r : Place) (at : ℕ) → r ≡ placeOf t n k → r ≡ Free at → Nothing ≡ foundRow t n k
+  unfolding foundRow
+  found-free r at h e = rw (← h, e) refl
+
+  pub finds-row : (f : Found) → f ≡ foundRow t n k → Finds t n k f
+  unfolding foundRow
+  finds-row f e = rw e (go (placeOf t n k) place-is)
+    where
+      go : (p : Place) → PlaceIs t n k p → Finds t n k (takenRow p)
+      go (Taken i) g = record { within = λ j f. let w : i ≡ j = cc in omega (arith, g .0); is-row = λ s. sym (row-at t n k s i (g .0) (g .1)) }
+      go (Free at) g = record { within = λ j f. absurd (let w : _≡_ {A = ℕ} 0 1 = cc in omega arith); is-row = λ s. sym (row-none t n k (free-none t n k at s (g .0) (g .1))) }
+
+  -- in a sorted table the word there is the one that the search from the front finds
+  pub found-word : Sorted t n → wordIn t (foundRow t n k) ≡ lookup t n k
+  unfolding lookup
+  found-word s = ap (wordIn t) (finds-row (foundRow t n k) refl .is-row s)

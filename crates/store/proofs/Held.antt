@@ -21,11 +21,12 @@ use Rattle.store.specs.declared.Insertion.the-variants.{Done}
 use Rattle.language.specs.Scope.{sameElement}
 use Rattle.language.specs.Numbering.{Variable, sameVariable, later, numberOf}
 use Rattle.store.specs.Key.{keyNumber, keyOf}
-use Rattle.store.specs.Table.{keyAt, wordAt, hasRoom, Sorted, rowOf, wordIn, lookup, Finds, appended, Says, entered, Inserted}
+use Rattle.store.specs.Table.{keyAt, wordAt, hasRoom, Sorted, rowOf, wordIn, lookup, foundRow, appended, Grown, Says, entered, Inserted}
 use Rattle.store.specs.Entries.{Keyed, Entry, wordOf, Holds, variableKey, atRow, Numbered}
 use Rattle.store.proofs.Keys.{key-same}
-use Rattle.store.proofs.Halving.{row-none, lookup-none}
-use Rattle.store.proofs.Rows.{Grown, grown-append, key-before, last-sorted, last-row, above-last}
+use Rattle.store.proofs.Halving.{row-none, lookup-none, finds-row}
+use Rattle.store.proofs.Inserting.{inserted-says, inserted-sorted, inserted-lookup}
+use Rattle.store.proofs.Rows.{grown-append, key-before, last-sorted, last-row, above-last}
 
 sorted-none : (t : List ℕ) → Sorted t 0
 sorted-none t = record { rising = λ p q h g. absurd (omega arith) }
@@ -52,26 +53,26 @@ module _ (t : List ℕ) (n : ℕ) (es : List Entry) (i : ℕ) (l : List ℤ) (k 
   held : lookup t n k ≡ wordOf es i l
   held = rw e (h .agrees i l a)
 
-  pub holds-at : (f : Found) (j w : ℕ) → Finds t n k f → f ≡ At j → w ≡ wordAt t j → wordOf es i l ≡ some w
+  pub holds-at : (f : Found) (j w : ℕ) → f ≡ foundRow t n k → f ≡ At j → w ≡ wordAt t j → wordOf es i l ≡ some w
   unfolding lookup wordIn
-  holds-at f j w g p q = sym held ∙ rw (← (g .is-row (h .sorted)), p, q)
+  holds-at f j w g p q = sym held ∙ rw (← (finds-row t n k f g .is-row (h .sorted)), p, q)
 
-  pub holds-nothing : (f : Found) → Finds t n k f → f ≡ Nothing → wordOf es i l ≡ none
+  pub holds-nothing : (f : Found) → f ≡ foundRow t n k → f ≡ Nothing → wordOf es i l ≡ none
   unfolding lookup wordIn
-  holds-nothing f g p = sym held ∙ rw (← (g .is-row (h .sorted)), p)
+  holds-nothing f g p = sym held ∙ rw (← (finds-row t n k f g .is-row (h .sorted)), p)
 
   -- present exactly where the list has it
   pub holds-answer : (w : ℕ) (r : Insertion) (t′ : List ℕ) → Inserted t n k w r t′ → Says r (wordOf es i l) (hasRoom t n)
-  holds-answer w r t′ f = rw (← held) (f .answer (h .sorted))
+  holds-answer w r t′ f = rw (← held) (inserted-says t n k w r t′ f (h .sorted))
 
   pub holds-insert : (w : ℕ) (r : Insertion) (t′ : List ℕ) → Inserted t n k w r t′ → r ≡ Done
       → Holds t′ (n + 1) (record { name = i; element = l; word = w } ∷ es)
   unfolding entered
   holds-insert w r t′ f d = record {
     count = let q = h .count in omega arith;
-    sorted = f .rises (h .sorted) d;
+    sorted = inserted-sorted t n k w r t′ f (h .sorted) d;
     agrees = λ j m b.
-        f .finds (h .sorted) d (keyOf j m)
+        inserted-lookup t n k w r t′ f (h .sorted) d (keyOf j m)
         ∙ rw (h .agrees j m b, e) (sym (entry-first (record { name = i; element = l; word = w }) es j m a b));
   }
 
@@ -132,11 +133,11 @@ module _ (t : List ℕ) (n : ℕ) (vs : List Variable) (i : ℕ) (l : List ℤ) 
   numbered : rowOf t n k ≡ atRow (numberOf i l vs)
   numbered = rw e (h .agrees i l a)
 
-  pub numbered-at : (f : Found) (j : ℕ) → Finds t n k f → f ≡ At j → numberOf i l vs ≡ some j
-  numbered-at f j g p = row-number (numberOf i l vs) j (sym p ∙ g .is-row (h .sorted) ∙ numbered)
+  pub numbered-at : (f : Found) (j : ℕ) → f ≡ foundRow t n k → f ≡ At j → numberOf i l vs ≡ some j
+  numbered-at f j g p = row-number (numberOf i l vs) j (sym p ∙ finds-row t n k f g .is-row (h .sorted) ∙ numbered)
 
-  pub numbered-nothing : (f : Found) → Finds t n k f → f ≡ Nothing → numberOf i l vs ≡ none
-  numbered-nothing f g p = no-number (numberOf i l vs) (sym p ∙ g .is-row (h .sorted) ∙ numbered)
+  pub numbered-nothing : (f : Found) → f ≡ foundRow t n k → f ≡ Nothing → numberOf i l vs ≡ none
+  numbered-nothing f g p = no-number (numberOf i l vs) (sym p ∙ finds-row t n k f g .is-row (h .sorted) ∙ numbered)
 
 -- the last variable's key
 pub numbered-last : (t : List ℕ) (vs : List Variable) (v : Variable) → Numbered t (length vs + 1) (vs ++ (v ∷ [])) → keyAt t (length vs) ≡ variableKey v

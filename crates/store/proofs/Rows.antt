@@ -15,7 +15,7 @@ use lib.Seq.{getD-set-same, getD-set-other}
 use Rattle.store.specs.declared.Key.{Key}
 use Rattle.store.specs.declared.Found.the-variants.{At}
 use Rattle.store.specs.Key.{keyNumber}
-use Rattle.store.specs.Table.{partAt, keyAt, wordAt, hasRoom, Sorted, rowOf, lookup, rowSet, appended, Moved, entered}
+use Rattle.store.specs.Table.{partAt, keyAt, wordAt, hasRoom, Sorted, rowOf, lookup, rowSet, appended, Moved, Grown, entered}
 use Rattle.store.proofs.Keys.{as-less, three}
 use Rattle.store.proofs.Halving.{row-or-none, row-at, row-none, lookup-at, lookup-none}
 
@@ -43,6 +43,14 @@ module _ (t : List ℕ) (i : ℕ) (k : Key) (w : ℕ) where
       ∙ getD-set-other two (i * 4 + 2) (p * 4 + f) (k .low) 0 (λ e. d (omega arith))
       ∙ getD-set-other one (i * 4 + 1) (p * 4 + f) (k .middle) 0 (λ e. d (omega arith))
       ∙ getD-set-other t (i * 4) (p * 4 + f) (k .high) 0 (λ e. d (omega arith))
+
+  row-behind : (j : ℕ) → i * 4 + 4 ≤ j → getD (rowSet t i k w) j 0 ≡ getD t j 0
+  unfolding rowSet
+  row-behind j h =
+      getD-set-other third (i * 4 + 3) j w 0 (λ e. omega arith)
+      ∙ getD-set-other two (i * 4 + 2) j (k .low) 0 (λ e. omega arith)
+      ∙ getD-set-other one (i * 4 + 1) j (k .middle) 0 (λ e. omega arith)
+      ∙ getD-set-other t (i * 4) j (k .high) 0 (λ e. omega arith)
 
   module _ (g : i * 4 + 3 < length t) where
     row-high : partAt (rowSet t i k w) i 0 ≡ k .high
@@ -96,7 +104,7 @@ module _ (t : List ℕ) (i : ℕ) (k : Key) (w : ℕ) where
 -- ---- words moved up
 
 pub moved-none : (t : List ℕ) (e : ℕ) → Moved t e e t
-moved-none t e = record { size = refl; before = λ j h. refl; moved = λ j h g. absurd (omega arith) }
+moved-none t e = record { size = refl; before = λ j h. refl; moved = λ j h g. absurd (omega arith); behind = λ j h. refl }
 
 module _ (t u : List ℕ) (j e : ℕ) (m : Moved t j e u) (a : 0 < j) (b : j ≤ e) (g : e + 4 ≤ length t) where
   pub moved-more : Moved t (j - 1) e (set u (j - 1 + 4) (getD u (j - 1) 0))
@@ -107,17 +115,10 @@ module _ (t u : List ℕ) (j e : ℕ) (m : Moved t j e u) (a : 0 < j) (b : j ≤
         (λ q. rw (← q) (getD-set-same u (j - 1 + 4) _ 0 (omega (arith, m .size)) ∙ m .before (j - 1) (omega arith)))
         (λ q. getD-set-other u (j - 1 + 4) (p + 4) _ 0 (λ r. omega arith) ∙ m .moved p (omega arith) f)
         (eq-or-lt-of-le {n = j - 1} {m = p} h);
+    behind = λ p h. getD-set-other u (j - 1 + 4) p _ 0 (λ f. omega arith) ∙ m .behind p h;
   }
 
 -- ---- a table that has grown
-
--- k and w in row `at`, the rows from there on moved up by one
-pub record Grown (t : List ℕ) (n at k w : ℕ) (t′ : List ℕ) : Type 0 where
-  pub within : at ≤ n
-  pub before : (p f : ℕ) → p < at → f < 4 → partAt t′ p f ≡ partAt t p f
-  pub key : keyAt t′ at ≡ k
-  pub word : wordAt t′ at ≡ w
-  pub after : (p f : ℕ) → at ≤ p → p < n → f < 4 → partAt t′ (p + 1) f ≡ partAt t p f
 
 pub room-within : (t : List ℕ) (n : ℕ) → n < length t / 4 → n * 4 + 4 ≤ length t
 room-within t n h = omega arith
@@ -132,6 +133,7 @@ grown-append t n k w e =
       key = row-key t n k w (omega arith);
       word = row-word t n k w (omega arith);
       after = λ p f a b c. absurd (omega arith);
+      behind = λ j f. row-behind t n k w j f;
     }
 
 pub grown-insert : (t u : List ℕ) (n at : ℕ) (k : Key) (w : ℕ) → Moved t (at * 4) (n * 4) u → at ≤ n → n * 4 + 4 ≤ length t
@@ -142,6 +144,7 @@ grown-insert t u n at k w m a g = record {
   before = λ p f b c. row-other u at k w p f (λ r. omega arith) c ∙ m .before (p * 4 + f) (omega arith);
   key = row-key u at k w (omega (arith, m .size));
   word = row-word u at k w (omega (arith, m .size));
+  behind = λ j f. row-behind u at k w j (omega arith) ∙ m .behind j f;
   after = λ p f b c d. row-other u at k w (p + 1) f (λ r. omega arith) d ∙ ap (λ (j : ℕ). getD u j 0) (omega arith) ∙ m .moved (p * 4 + f) (omega arith) (omega arith);
 }
 

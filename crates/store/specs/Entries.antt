@@ -8,12 +8,11 @@ use Prim.Native.Nat.{ℕ, _<_}
 use lib.Dec.{eqb}
 use lib.ListN.{length, getD}
 use lib.IntN.{ℤ}
-use Rattle.store.specs.declared.Element.{Element}
 use Rattle.store.specs.declared.Found.{Found}
 use Rattle.store.specs.declared.Found.the-variants.{At, Nothing}
 use Rattle.language.specs.Scope.{sameElement}
 use Rattle.language.specs.Numbering.{Variable, numberOf}
-use Rattle.store.specs.Element.{listOf, Subscripts}
+use Rattle.store.specs.Element.{Subscripts}
 use Rattle.store.specs.Key.{nameBound, keyOf}
 use Rattle.store.specs.Table.{keyAt, Sorted, rowOf, lookup}
 
@@ -21,13 +20,6 @@ use Rattle.store.specs.Table.{keyAt, Sorted, rowOf, lookup}
 pub record Keyed (i : ℕ) (l : List ℤ) : Type 0 where
   pub named : i < nameBound
   pub subscripts : Subscripts l
-
--- the name and the element whose key row i has
-pub record NameRead (t : List ℕ) (i r : ℕ) : Type 0 where
-  pub is : (n : ℕ) (l : List ℤ) → Keyed n l → keyAt t i ≡ keyOf n l → r ≡ n
-
-pub record ElementRead (t : List ℕ) (i : ℕ) (r : Element) : Type 0 where
-  pub is : (n : ℕ) (l : List ℤ) → Keyed n l → keyAt t i ≡ keyOf n l → listOf r ≡ l
 
 -- ---- data
 

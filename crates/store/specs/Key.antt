@@ -2,7 +2,7 @@
 -- digit for each of four subscripts.
 use mathlib.Core.Bool.{cond}
 use mathlib.Core.List.{List, [], _∷_}
-use Prim.Native.Nat.{ℕ, zero, suc, _+_, _*_}
+use Prim.Native.Nat.{ℕ, zero, suc, _+_, _*_, _/_, _%_}
 use lib.Dec.{leb, ltb, eqb}
 use lib.IntN.{ℤ, pos, natAbs, _+ℤ_, _-ℤ_}
 use Rattle.rules.specs.Limits.{mantissaLimit}
@@ -43,3 +43,26 @@ keyNumber k = threeWords (k .high) (k .middle) (k .low)
 
 unfoldable pub keyOf : ℕ → List ℤ → ℕ
 keyOf i l = threeWords (paired (nameDigit i) (digitAt l 0)) (paired (digitAt l 1) (digitAt l 2)) (digitAt l 3)
+
+-- ---- a key read back
+
+-- the numbers of four digits
+unfoldable pub fourDigits : ℕ → ℕ → ℕ → ℕ → List ℤ
+fourDigits a b c d = withDigit (withDigit (withDigit (withDigit [] a) b) c) d
+
+-- the words of a key's number
+unfoldable pub highOf : ℕ → ℕ
+highOf k = k / 18446744073709551616 / 18446744073709551616
+
+unfoldable pub middleOf : ℕ → ℕ
+middleOf k = k / 18446744073709551616 % 18446744073709551616
+
+unfoldable pub lowOf : ℕ → ℕ
+lowOf k = k % 18446744073709551616
+
+-- the name and the element by the digits of a key's number
+unfoldable pub nameOf : ℕ → ℕ
+nameOf k = highOf k / 2147483648
+
+unfoldable pub elementOf : ℕ → List ℤ
+elementOf k = fourDigits (highOf k % 2147483648) (middleOf k / 2147483648 % 2147483648) (middleOf k % 2147483648) (lowOf k % 2147483648)

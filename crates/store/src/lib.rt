@@ -8,9 +8,8 @@ ghost use lib.ListN.{length, getD};
 ghost use lib.Dec.{ltb, eqb};
 ghost use lib.IntN.{pos};
 ghost use Rattle.store.specs.Element.{listOf, extended};
-ghost use Rattle.store.specs.Key.{digitOf, digitAt, nameDigit, paired, keyNumber, keyOf, withDigit};
-ghost use Rattle.store.specs.Table.{keyAt, wordAt, partAt, Finds, Between, PlaceIs, rowSet, appended, Moved, Inserted};
-ghost use Rattle.store.specs.Entries.{NameRead, ElementRead};
+ghost use Rattle.store.specs.Key.{digitOf, digitAt, nameDigit, paired, keyNumber, keyOf, withDigit, nameOf, elementOf};
+ghost use Rattle.store.specs.Table.{keyAt, wordAt, partAt, rankOf, placeOf, foundRow, rowSet, appended, Moved, Inserted};
 ghost use Rattle.store.specs.Packed.{packed, unpacked};
 
 // At most four whole numbers: the first `count` of a, b, c, d.
@@ -243,9 +242,9 @@ fn is_at(table: &[u64], i: usize, key: Key) -> bool
     low == key.low
 }
 
-// How many of the first n rows are below the key, by halving.
+// How many of the first n rows are below the key, by halving; in a table that isn't sorted, where halving ends.
 fn rank(table: &[u64], n: usize, key: Key) -> usize
-    ensures { λ r. ⌜ Between (now (table .entry)) n (keyNumber key) r r ⌝ }
+    ensures { λ r. ⌜ r ≡ rankOf (now (table .entry)) n (keyNumber key) ⌝ }
 {
     let mut from = 0;
     let mut to = n;
@@ -261,7 +260,7 @@ fn rank(table: &[u64], n: usize, key: Key) -> usize
 }
 
 fn locate(table: &[u64], n: usize, key: Key) -> Place
-    ensures { λ r. ⌜ PlaceIs (now (table .entry)) n (keyNumber key) r ⌝ }
+    ensures { λ r. ⌜ r ≡ placeOf (now (table .entry)) n (keyNumber key) ⌝ }
 {
     let at = rank(table, n, key);
     if n <= at {
@@ -275,7 +274,7 @@ fn locate(table: &[u64], n: usize, key: Key) -> Place
 
 // The row among the first n that has the key.
 pub fn find(table: &[u64], n: usize, key: Key) -> Found
-    ensures { λ r. ⌜ Finds (now (table .entry)) n (keyNumber key) r ⌝ }
+    ensures { λ r. ⌜ r ≡ foundRow (now (table .entry)) n (keyNumber key) ⌝ }
 {
     match locate(table, n, key) {
         Place::Taken(i) => Found::At(i),
@@ -343,7 +342,7 @@ fn key_at(table: &[u64], i: usize) -> Key
 
 // The number of the name whose key row i has.
 pub fn name_at(table: &[u64], i: usize) -> usize
-    ensures { λ r. ⌜ NameRead (now (table .entry)) i r ⌝ }
+    ensures { λ r. ⌜ r ≡ nameOf (keyAt (now (table .entry)) i) ⌝ }
 {
     let key = key_at(table, i);
     (key.high / 2147483648) as usize
@@ -362,7 +361,7 @@ fn with_digit(e: Element, d: u64) -> Element
 
 // The element whose key row i has.
 pub fn element_at(table: &[u64], i: usize) -> Element
-    ensures { λ r. ⌜ ElementRead (now (table .entry)) i r ⌝ }
+    ensures { λ r. ⌜ listOf r ≡ elementOf (keyAt (now (table .entry)) i) ⌝ }
 {
     let key = key_at(table, i);
     let first = with_digit(Element::none(), key.high % 2147483648);

@@ -1,11 +1,11 @@
 -- Laws of moves: a reader and the next one, and the readers of one token.
 use mathlib.Core.Path.{_≡_, refl, sym, _∙_, subst, ap}
-use mathlib.Core.Bool.{Bool, true, false, _||_}
+use mathlib.Core.Bool.{Bool, true, false, cond, _||_}
 use mathlib.Core.List.{List, _∷_, append-assoc, [], _++_}
 use Prim.Native.Nat.{ℕ, zero, suc, _<_}
 use native.Mathlib.Omega.{arith}
 use lib.Dec.{eqb}
-use borrow.Author.Tests.{eq-eqb, ne-eqb}
+use borrow.Author.Tests.{eq-eqb, ne-eqb, eqb-true, eqb-false}
 use Rattle.rules.specs.declared.Refusal.{Refusal}
 use Rattle.rules.specs.declared.Refusal.the-variants.{Misplaced, BadName, Full}
 use Rattle.lexer.specs.Text.{Token}
@@ -24,7 +24,7 @@ use Rattle.tokens.specs.declared.Found.{Found}
 use Rattle.tokens.specs.declared.Found.the-variants as found
 use Rattle.tokens.specs.declared.Known.{Known}
 use Rattle.tokens.specs.declared.Known.the-variants as Known
-use Rattle.tokens.specs.Stored.{spelling, nameBytes, kindOf, token, from, markNumber, Unread, Sees, Looks, lookUp, Named, Matches, Moves, Knowing, Knows, Shaped, Gives, Stands}
+use Rattle.tokens.specs.Stored.{spelling, nameBytes, kindOf, token, from, markNumber, Unread, Sees, Looks, lookUp, Named, Matches, Moves, knownFound, knownBy, KnownAt, Knowing, Knows, Shaped, Gives, Stands}
 use Rattle.tokens.specs.Pieces.{expectIn, bracketIn, indexIn, headIn, signIn}
 use Rattle.tokens.proofs.Tables.{mark-of, mark-same, no-name, passes, Declared, declared, not-declared, index-sort, other-sort}
 
@@ -284,11 +284,11 @@ module _ (s ns ts : List ℕ) (at : ℕ) (t : Seen) (h : Looks ts at t) where
   sees′ : (w : Seen) → t ≡ w → Sees s ts at w
   sees′ w e = subst (Sees s ts at) e (h .sees s)
 
-  pub known-wrong : (n : Refusal) (p : ℕ) → t ≡ seen.Refused n p → Knows s ns ts at (Known.Refused n p)
+  known-wrong : (n : Refusal) (p : ℕ) → t ≡ seen.Refused n p → Knows s ns ts at (Known.Refused n p)
   unfolding readKnown
   known-wrong n p e = let u = sees′ (seen.Refused n p) e in record { knows = λ names d. rw (u .nexts) (refl, refl) }
 
-  pub known-no-name : (k p x a : ℕ) → t ≡ seen.Token k p x a → (k ≡ 1 → ⊥) → Knows s ns ts at (Known.Refused Misplaced p)
+  known-no-name : (k p x a : ℕ) → t ≡ seen.Token k p x a → (k ≡ 1 → ⊥) → Knows s ns ts at (Known.Refused Misplaced p)
   unfolding readKnown token demand
   known-no-name k p x a e i = record { knows = λ names d. rw (next-is s ts at k p x a (sees′ _ e), no-name s k p x i) (refl, refl) }
 
@@ -296,11 +296,11 @@ module _ (s ns ts : List ℕ) (at : ℕ) (t : Seen) (h : Looks ts at t) where
   unfolding token kindOf
   name-next k p x a e i = next-is s ts at k p x a (sees′ _ e) ∙ rw i refl
 
-  pub known-unknown : (k p x a : ℕ) (f : Found) → t ≡ seen.Token k p x a → k ≡ 1 → f ≡ lookUp s (spelling s p (nameBytes x)) ns 0 → f ≡ found.Nothing → Knows s ns ts at (Known.Refused BadName p)
+  known-unknown : (k p x a : ℕ) (f : Found) → t ≡ seen.Token k p x a → k ≡ 1 → f ≡ lookUp s (spelling s p (nameBytes x)) ns 0 → f ≡ found.Nothing → Knows s ns ts at (Known.Refused BadName p)
   unfolding readKnown demand nameOf
   known-unknown k p x a f e i j g = record { knows = λ names d. rw (name-next k p x a e i, known-not s ns names p (nameBytes x) (from s ts a) d (sym j ∙ g)) (refl, refl) }
 
-  pub known-name : (k p x a number sort count : ℕ) (f : Found) → t ≡ seen.Token k p x a → k ≡ 1 → f ≡ lookUp s (spelling s p (nameBytes x)) ns 0 → f ≡ found.Name number sort count
+  known-name : (k p x a number sort count : ℕ) (f : Found) → t ≡ seen.Token k p x a → k ≡ 1 → f ≡ lookUp s (spelling s p (nameBytes x)) ns 0 → f ≡ found.Name number sort count
       → Knows s ns ts at (Known.Name number sort count p a)
   unfolding readKnown demand nameOf
   known-name k p x a number sort count f e i j g =
@@ -309,6 +309,25 @@ module _ (s ns ts : List ℕ) (at : ℕ) (t : Seen) (h : Looks ts at t) where
             let u = declared s (spelling s p (nameBytes x)) ns names 0 p number sort count d (sym j ∙ g) in
             rw (name-next k p x a e i, known-is s names p (nameBytes x) number sort count (from s ts a) u) (refl, u .numbered, u .shaped, u .placed);
       }
+
+  -- the answers of `known_name`
+  pub at-wrong : (n : Refusal) (p : ℕ) → t ≡ seen.Refused n p → KnownAt s ns ts at (Known.Refused n p)
+  unfolding knownBy
+  at-wrong n p e = record { token = t; looks = h; answer = rw e refl }
+
+  module _ (k p x a : ℕ) (e : t ≡ seen.Token k p x a) where
+    pub at-no-name : (k ≡ 1 → ⊥) → KnownAt s ns ts at (Known.Refused Misplaced p)
+    unfolding knownBy
+    at-no-name i = record { token = t; looks = h; answer = rw (e, ne-eqb k 1 i) refl }
+
+    module _ (f : Found) (i : k ≡ 1) (j : f ≡ lookUp s (spelling s p (nameBytes x)) ns 0) where
+      pub at-unknown : f ≡ found.Nothing → KnownAt s ns ts at (Known.Refused BadName p)
+      unfolding knownBy
+      at-unknown g = record { token = t; looks = h; answer = rw (e, eq-eqb k 1 i, ← j, g) refl }
+
+      pub at-name : (number sort count : ℕ) → f ≡ found.Name number sort count → KnownAt s ns ts at (Known.Name number sort count p a)
+      unfolding knownBy
+      at-name number sort count g = record { token = t; looks = h; answer = rw (e, eq-eqb k 1 i, ← j, g) refl }
 
   -- whether a sign stands there
   pub is-sum : (k p x : ℕ) → isSum (token s k p x) ≡ (eqb k 43 || eqb k 45)
@@ -342,9 +361,30 @@ module _ (s ns ts : List ℕ) (at : ℕ) (t : Seen) (h : Looks ts at t) where
   unfolding signed
   sign-no k p x a e i = sign-by k p x a false (At at) e i refl
 
+-- what is known there, for all names that the table tells of
+pub knows-of : (s ns ts : List ℕ) (at : ℕ) (r : Known) → KnownAt s ns ts at r → Knows s ns ts at r
+unfolding knownBy
+knows-of s ns ts at r o = rw (o .answer) (go (o .token) (o .looks))
+  where
+    by-name : (k p x a : ℕ) → Looks ts at (seen.Token k p x a) → k ≡ 1 → (f : Found) → f ≡ lookUp s (spelling s p (nameBytes x)) ns 0 → Knows s ns ts at (knownFound p a f)
+    by-name k p x a l i (found.Name number sort count) j = known-name s ns ts at _ l k p x a number sort count _ refl i j refl
+    by-name k p x a l i found.Nothing j = known-unknown s ns ts at _ l k p x a _ refl i j refl
+
+    by-kind : (k p x a : ℕ) → Looks ts at (seen.Token k p x a) → (b : Bool) → eqb k 1 ≡ b
+        → Knows s ns ts at (cond b (knownFound p a (lookUp s (spelling s p (nameBytes x)) ns 0)) (Known.Refused Misplaced p))
+    by-kind k p x a l true e = by-name k p x a l (eqb-true k 1 e) (lookUp s (spelling s p (nameBytes x)) ns 0) refl
+    by-kind k p x a l false e = known-no-name s ns ts at _ l k p x a refl (eqb-false k 1 e)
+
+    go : (t : Seen) → Looks ts at t → Knows s ns ts at (knownBy s ns t)
+    go (seen.Token k p x a) l = by-kind k p x a l (eqb k 1) refl
+    go (seen.Refused n p) l = known-wrong s ns ts at _ l n p refl
+
 -- ---- a declared index
 
-module _ (s ns ts : List ℕ) (at : ℕ) (r : Known) (h : Knows s ns ts at r) where
+module _ (s ns ts : List ℕ) (at : ℕ) (r : Known) (told : KnownAt s ns ts at r) where
+  h : Knows s ns ts at r
+  h = knows-of s ns ts at r told
+
   indexTest : Used → Reader Used
   indexTest u = require (isIndex (u .sort)) Misplaced (u .place) >>= (λ _. give u)
 

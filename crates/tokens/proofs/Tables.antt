@@ -8,7 +8,7 @@ use native.Mathlib.Omega.{arith}
 use lib.Dec.{eqb}
 use lib.ListN.{length, drop, getD, List·getD-eq-default, take, set, length-set}
 use lib.Seq.{drop-set-lt}
-use borrow.Author.Tests.{eq-eqb, ne-eqb}
+use borrow.Author.Tests.{eq-eqb, ne-eqb, lt-ltb, le-ltb}
 use Rattle.rules.specs.declared.Refusal.{Refusal}
 use Rattle.rules.specs.declared.Refusal.the-variants.{Misplaced}
 use Rattle.lexer.specs.Text.{Token, sameBytes}
@@ -19,7 +19,7 @@ use Rattle.language.specs.Reader.{Used, passed, next, look, markOf, nameOf, fin
 use Rattle.tokens.specs.declared.Seen.the-variants as seen
 use Rattle.tokens.specs.declared.Found.{Found}
 use Rattle.tokens.specs.declared.Found.the-variants as found
-use Rattle.tokens.specs.Stored.{wordOf, kindPart, placePart, payloadPart, bytesFrom, spelling, refusalOf, kindOf, token, view, from, markNumber, Looks, lookUp, Shaped, Named, Put}
+use Rattle.tokens.specs.Stored.{wordOf, kindPart, placePart, payloadPart, bytesFrom, spelling, refusalOf, kindOf, token, view, from, markNumber, Looks, lookUp, Shaped, Named, rowsOf, Put}
 
 -- ---- what cannot be
 
@@ -397,9 +397,17 @@ words-behind t i j a b c d e h =
     drop-set-lt j _ (i + 4) e (omega arith) ∙ drop-set-lt j _ (i + 3) d (omega arith) ∙ drop-set-lt j _ (i + 2) c (omega arith) ∙ drop-set-lt j _ (i + 1) b (omega arith) ∙ drop-set-lt j t i a (omega arith)
 
 pub put-none : (t row : List ℕ) (n : ℕ) → length t / 5 ≤ n → Put t n row t
-put-none t row n h = record { size = refl; rows = λ i. absurd (omega arith); rest = refl }
+put-none t row n h = record { size = refl; rows = rw (le-ltb n (length t / 5) h) refl; rest = refl }
 
 pub put-five : (t : List ℕ) (n a b c d e : ℕ) → n < length t / 5 → Put t n (a ∷ b ∷ c ∷ d ∷ e ∷ []) (words t (n * 5) a b c d e)
 put-five t n a b c d e h =
     let i : (n + 1) * 5 ≡ n * 5 + 5 = omega arith in
-    record { size = simp length-set; rows = λ l. rw i (words-put t (n * 5) a b c d e l); rest = words-behind t (n * 5) ((n + 1) * 5) a b c d e (omega arith) }
+    record {
+      size = simp length-set;
+      rows = rw (lt-ltb n (length t / 5) h, i) (words-put t (n * 5) a b c d e (omega arith));
+      rest = words-behind t (n * 5) ((n + 1) * 5) a b c d e (omega arith);
+    }
+
+-- a row for which there is room
+pub put-rows : (t : List ℕ) (n : ℕ) (row t′ : List ℕ) → Put t n row t′ → n * 5 + 5 ≤ length t → rowsOf (n + 1) t′ ≡ rowsOf n t ++ row
+put-rows t n row t′ p h = rw (lt-ltb n (length t / 5) (omega arith)) at (p .rows)

@@ -1,9 +1,10 @@
 -- The token table and the name table as the definition's tokens and names, and what it means that code moves a position as a
 -- reader of the definition does.
 use mathlib.Core.Path.{_≡_}
-use mathlib.Core.Bool.{true, false}
+use mathlib.Core.Bool.{true, false, cond}
 use mathlib.Core.List.{List, [], _∷_, _++_}
-use Prim.Native.Nat.{ℕ, zero, suc, _+_, _*_, _/_, _%_, _≤_}
+use Prim.Native.Nat.{ℕ, zero, suc, _+_, _*_, _/_, _%_}
+use lib.Dec.{eqb, ltb}
 use lib.IntN.{pos}
 use lib.ListN.{length, take, drop, getD}
 use Rattle.rules.specs.declared.Refusal.{Refusal}
@@ -151,7 +152,7 @@ rowsOf n t = take (n * 5) t
 -- row n is written, where the table has room for it, and what stands behind it stays
 pub record Put (t : List ℕ) (n : ℕ) (row t′ : List ℕ) : Type 0 where
   pub size : length t′ ≡ length t
-  pub rows : n * 5 + 5 ≤ length t → rowsOf (n + 1) t′ ≡ rowsOf n t ++ row
+  pub rows : rowsOf (n + 1) t′ ≡ cond (ltb n (length t / 5)) (rowsOf n t ++ row) (rowsOf (n + 1) t)
   pub rest : drop ((n + 1) * 5) t′ ≡ drop ((n + 1) * 5) t
 
 -- ---- what stands at a position
@@ -166,6 +167,20 @@ Knowing (done x) s ts (known.Name i k c p a) = (x .rest ≡ from s ts a) × (x .
 Knowing (done x) s ts (known.Refused r p) = ⊥
 Knowing (refused r q) s ts (known.Name i k c p a) = ⊥
 Knowing (refused r q) s ts (known.Refused r′ p) = (r ≡ r′) × (q ≡ p)
+
+abbrev pub knownFound : ℕ → ℕ → Found → Known
+knownFound p a (found.Name i k c) = known.Name i k c p a
+knownFound p a found.Nothing = known.Refused BadName p
+
+-- what the table says of a token: 3 where it is no name, 4 where the name is unknown
+unfoldable pub knownBy : List ℕ → List ℕ → Seen → Known
+knownBy s ns (seen.Token k p x a) = cond (eqb k 1) (knownFound p a (lookUp s (spelling s p (nameBytes x)) ns 0)) (known.Refused Misplaced p)
+knownBy s ns (seen.Refused r p) = known.Refused r p
+
+pub record KnownAt (s ns ts : List ℕ) (at : ℕ) (r : Known) : Type 0 where
+  pub token : Seen
+  pub looks : Looks ts at token
+  pub answer : r ≡ knownBy s ns token
 
 -- a declared name stands there, for all names that the table tells of
 pub record Knows (s ns ts : List ℕ) (at : ℕ) (r : Known) : Type 0 where

@@ -11,7 +11,7 @@ ghost use mathlib.Core.List.{[], _∷_};
 ghost use Prim.Native.Nat.{_+_};
 ghost use lib.ListN.{getD};
 ghost use Rattle.lexer.specs.Text.{sameBytes};
-ghost use Rattle.tokens.specs.Stored.{spelling, refusalOf, markNumber, Looks, lookUp, Knows, Put, Moves};
+ghost use Rattle.tokens.specs.Stored.{spelling, refusalOf, markNumber, Looks, lookUp, KnownAt, Put, Moves};
 ghost use Rattle.tokens.specs.Pieces.{expectIn, bracketIn, indexIn, headIn, signIn};
 
 // The position after what was read, or a refusal and its place.
@@ -49,7 +49,7 @@ pub const PLACES: u64 = 32768;
 pub const NAME_UNIT: u64 = 16;
 
 // A token's own refusal, by its number.
-pub fn refusal(x: u64) -> rules::Refusal
+fn refusal(x: u64) -> rules::Refusal
     ensures { λ r. ⌜ r ≡ refusalOf x ⌝ }
 {
     match x {
@@ -63,7 +63,7 @@ pub fn refusal(x: u64) -> rules::Refusal
 }
 
 // The number of a sign or word, 0 for other kinds.
-pub fn mark(k: u64) -> u64
+fn mark(k: u64) -> u64
     ensures { λ r. ⌜ r ≡ markNumber k ⌝ }
 {
     if k <= kinds::WRONG { 0 } else { k }
@@ -88,7 +88,7 @@ pub fn token_at(tokens: &[u64], at: usize) -> Seen
 }
 
 // The i-th byte behind p, 0 past the text's end.
-pub fn byte_at(text: &[u8], p: u64, i: u64) -> u8
+fn byte_at(text: &[u8], p: u64, i: u64) -> u8
     ensures { λ r. ⌜ r ≡ getD (now (text .entry)) (p + i) 0 ⌝ }
 {
     let n = text.len() as u64;
@@ -103,7 +103,7 @@ pub fn byte_at(text: &[u8], p: u64, i: u64) -> u8
 }
 
 // Whether two names have the same bytes.
-pub fn same_name(text: &[u8], p: u64, n: u64, q: u64, m: u64) -> bool
+fn same_name(text: &[u8], p: u64, n: u64, q: u64, m: u64) -> bool
     ensures { λ r. ⌜ r ≡ sameBytes (spelling (now (text .entry)) p n) (spelling (now (text .entry)) q m) ⌝ }
 {
     if n != m {
@@ -195,7 +195,7 @@ pub fn bracket(text: &[u8], names: &[u64], tokens: &[u64], at: usize, nest: usiz
 
 // A declared name.
 pub fn known_name(text: &[u8], names: &[u64], tokens: &[u64], at: usize) -> Known
-    ensures { λ r. ⌜ Knows (now (text .entry)) (now (names .entry)) (now (tokens .entry)) at r ⌝ }
+    ensures { λ r. ⌜ KnownAt (now (text .entry)) (now (names .entry)) (now (tokens .entry)) at r ⌝ }
 {
     let token = token_at(tokens, at);
     match token {

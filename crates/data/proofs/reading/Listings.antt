@@ -15,7 +15,7 @@ use Rattle.lexer.specs.Text.{Token}
 use Rattle.language.specs.Outcome.{Outcome, done, refused}
 use Rattle.language.specs.Syntax.{Name}
 use Rattle.language.specs.Reader.{Reader, Read, follow, give, next, look, isMark, require, expect, bracket, Used, readIndex}
-use Rattle.language.specs.Data.{Entry, fixed, marked, readEntry, marksOf, noRepeats, allIn, rearranges, positionsOf, orderFrom, readOrder}
+use Rattle.language.specs.Data.{readEntry, marksOf, noRepeats, allIn, rearranges, positionsOf, orderFrom, readOrder}
 use Rattle.tokens.specs.declared.Move.{Move}
 use Rattle.tokens.specs.declared.Move.the-variants as move
 use Rattle.tokens.specs.declared.Seen.{Seen}
@@ -39,12 +39,12 @@ use Rattle.data.specs.declared.reading.heads.Order.{Order}
 use Rattle.data.specs.declared.reading.heads.Order.the-variants as order
 use Rattle.data.specs.declared.reading.heads.Plan.{Plan}
 use Rattle.data.specs.declared.reading.heads.Plan.the-variants as plan
-use Rattle.data.specs.Reading.Few.{numbersOf, Keeps, Adds, Rearranges}
-use Rattle.data.specs.Reading.Entries.{entryOf, entriesOf, Grows}
+use Rattle.data.specs.Reading.Few.{numbersOf, Holds, Keeps, Adds, rearrangesKept}
+use Rattle.data.specs.Reading.Entries.{entryOf, entriesOf, oneMore}
 use Rattle.data.specs.Reading.Readers.{Answers, Says, leaves, indexed, indexIn, entered}
 use Rattle.data.specs.Reading.Lists.{itemIn, separatorOf, listIn, Lists, OrderItem, behindBy, behindIn, turnIn, turned, OrderIs, Ordered, ordered, bracketedIn, optionalIn, Orders, orderIn, restIn, headIn, planned, Heads}
-use Rattle.data.proofs.reading.Lists.{length-few}
-use Rattle.data.proofs.reading.Marks.{entries-few}
+use Rattle.data.proofs.reading.Lists.{holds-keeps, adds-keeps, rearranges-is}
+use Rattle.data.proofs.reading.Marks.{entries-few, one-more, marks-length}
 
 -- ---- an entry and the sign behind it
 
@@ -102,13 +102,13 @@ module _ (s ns ts : List ℕ) (at n : ℕ) where
         go zero h f names d = absurd (omega arith)
         go (suc k) h f names d = rw (f names d, j) refl
 
-    pub listing-on : (x : Held) (b : ℕ) (e′ : Entries) → q ≡ entry.Of x b → Grows e x e′ → Listing s ns ts at n e′ b (left - 1)
+    pub listing-on : (x : Held) (b : ℕ) (e′ : Entries) → q ≡ entry.Of x b → entriesOf e′ ≡ oneMore (entriesOf e) (entryOf x) → Listing s ns ts at n e′ b (left - 1)
     unfolding listIn
     listing-on x b e′ j w =
         record {
           is = λ names d f.
               let (count, same) = l .is names d f in
-              let grown : entriesOf e′ ≡ entriesOf e ++ (entryOf x ∷ []) = w .grows (omega arith) in
+              let grown : entriesOf e′ ≡ entriesOf e ++ (entryOf x ∷ []) = w ∙ one-more (entriesOf e) (entryOf x) (omega arith) in
               let longer : length (entriesOf e ++ (entryOf x ∷ [])) ≡ length (entriesOf e) + 1 = length-append (entriesOf e) (entryOf x ∷ []) in
               (rw grown (omega arith), same ∙ go left h (λ names d. item-is names d) names d ∙ ap (λ m. prefixed m (listIn (left - 1) names (from s ts b))) (sym grown));
         }
@@ -210,9 +210,9 @@ pub record OrderOn (s ns ts : List ℕ) (at : ℕ) (f : Few) (a left : ℕ) : Ty
   pub on : (names : List Name) → Named s ns names → OrderSo names s ts at f a left
 
 module _ (s ns ts : List ℕ) (at : ℕ) where
-  pub order-start : (f : Few) → Keeps f [] → OrderOn s ns ts at f at 16384
+  pub order-start : (f : Few) → Holds f [] → OrderOn s ns ts at f at 16384
   unfolding byteLimit
-  order-start f k = record { on = λ names d. record { shown = []; keeps = k; same = prefixed-none (orderFrom names 16384 (from s ts at)) } }
+  order-start f k = record { on = λ names d. record { shown = []; keeps = holds-keeps f [] k; same = prefixed-none (orderFrom names 16384 (from s ts at)) } }
 
   pub order-out : (f : Few) (a left : ℕ) → OrderOn s ns ts at f a left → left ≤ 0 → Ordered s ns ts at (order.Refused Full 0)
   unfolding orderFrom prefixed
@@ -247,7 +247,7 @@ module _ (s ns ts : List ℕ) (at : ℕ) where
     order-last i b f′ e w =
         record {
           is = λ names d. let x = o .on names d in
-              subst (λ r. OrderIs r s ts (order.Of f′ b)) (sym (x .same ∙ ap (prefixed (x .shown)) (step names d (turn.Last i b) e))) (refl, w .adds (x .shown) (x .keeps));
+              subst (λ r. OrderIs r s ts (order.Of f′ b)) (sym (x .same ∙ ap (prefixed (x .shown)) (step names d (turn.Last i b) e))) (refl, adds-keeps f i f′ w (x .shown) (x .keeps));
         }
 
     pub order-more : (i b : ℕ) (f′ : Few) → q ≡ turn.More i b → Adds f i f′ → OrderOn s ns ts at f′ b (left - 1)
@@ -257,7 +257,7 @@ module _ (s ns ts : List ℕ) (at : ℕ) where
           on = λ names d. let x = o .on names d in
               record {
                 shown = x .shown ++ (i ∷ []);
-                keeps = w .adds (x .shown) (x .keeps);
+                keeps = adds-keeps f i f′ w (x .shown) (x .keeps);
                 same = x .same ∙ ap (prefixed (x .shown)) (step names d (turn.More i b) e) ∙ prefixed-more (x .shown) i (orderFrom names (left - 1) (from s ts b));
               };
         }
@@ -286,7 +286,7 @@ module _ (s ns ts : List ℕ) (at p : ℕ) (marks : Few) (r : Order) (h : Ordere
       go m (done x) i = absurd i
       go m (refused l z) i = rw (i .0, i .1) refl
 
-  bracketed-by : (f : Few) (a : ℕ) (b : Bool) (z : Order) → r ≡ order.Of f a → Rearranges f marks b
+  bracketed-by : (f : Few) (a : ℕ) (b : Bool) (z : Order) → r ≡ order.Of f a → b ≡ rearrangesKept f marks
       → ((l m : List ℕ) → Keeps f l → length m ≤ 4 → b ≡ rearranges l m → follow (require b BadIndex p (from s ts a)) (λ _. give l) ≡ ordered s ts z)
       → Orders (bracketedIn p) s ns ts at marks z
   unfolding bracketedIn rest
@@ -297,16 +297,16 @@ module _ (s ns ts : List ℕ) (at p : ℕ) (marks : Few) (r : Order) (h : Ordere
     where
       go : (m : List ℕ) → Keeps marks m → length m ≤ 4 → (o : Outcome (Read (List ℕ))) → OrderIs o s ts (order.Of f a) → follow o (rest m) ≡ ordered s ts z
       go m k j (done x) i =
-          let t : b ≡ rearranges (x .what) m = w .is (x .what) m (i .1) k j in
+          let t : b ≡ rearranges (x .what) m = rearranges-is f marks b w .is (x .what) m (i .1) k j in
           rw (i .0, ← t) (g (x .what) m (i .1) j t)
       go m k j (refused l q) i = absurd i
 
-  pub bracketed-yes : (f : Few) (a : ℕ) (b : Bool) → r ≡ order.Of f a → Rearranges f marks b → b ≡ true → Orders (bracketedIn p) s ns ts at marks (order.Of f a)
+  pub bracketed-yes : (f : Few) (a : ℕ) (b : Bool) → r ≡ order.Of f a → b ≡ rearrangesKept f marks → b ≡ true → Orders (bracketedIn p) s ns ts at marks (order.Of f a)
   unfolding require
   bracketed-yes f a b e w i =
       bracketed-by f a b (order.Of f a) e w (λ l m k j t. rw i (ap (λ l. leaves l s ts a) (sym (k .all (omega (arith, same-length l m (sym t ∙ i))) .1))))
 
-  pub bracketed-no : (f : Few) (a : ℕ) (b : Bool) → r ≡ order.Of f a → Rearranges f marks b → b ≡ false → Orders (bracketedIn p) s ns ts at marks (order.Refused BadIndex p)
+  pub bracketed-no : (f : Few) (a : ℕ) (b : Bool) → r ≡ order.Of f a → b ≡ rearrangesKept f marks → b ≡ false → Orders (bracketedIn p) s ns ts at marks (order.Refused BadIndex p)
   unfolding require
   bracketed-no f a b e w i = bracketed-by f a b (order.Refused BadIndex p) e w (λ l m k j t. rw i refl)
 
@@ -347,23 +347,12 @@ module _ (s ns ts : List ℕ) (at place : ℕ) (marks : Few) (t : Seen) (h : Loo
 
 -- ---- the head
 
-marks-length : (es : List Entry) → length (marksOf es) ≤ length es
-unfolding marksOf
-marks-length [] = omega arith
-marks-length (fixed k ∷ es) = omega (arith, marks-length es)
-marks-length (marked i ∷ es) = omega (arith, marks-length es)
-
-positions-length : (l : List ℕ) (es : List Entry) → length (positionsOf l es) ≡ length l
-unfolding positionsOf
-positions-length [] es = refl
-positions-length (i ∷ l) es = ap suc (positions-length l es)
-
-module _ (s ns ts : List ℕ) (at p : ℕ) (e : Entries) (f : Few) (b : Bool) (k : Keeps f (marksOf (entriesOf e))) (g : b ≡ noRepeats (numbersOf f)) where
+module _ (s ns ts : List ℕ) (at p : ℕ) (e : Entries) (f : Few) (b : Bool) (k : Holds f (marksOf (entriesOf e))) (g : b ≡ noRepeats (numbersOf f)) where
   few-marks : length (marksOf (entriesOf e)) ≤ 4
   few-marks = omega (arith, marks-length (entriesOf e), entries-few e)
 
   tested : b ≡ noRepeats (marksOf (entriesOf e))
-  tested = g ∙ ap noRepeats (k .all few-marks .1)
+  tested = g ∙ ap noRepeats (k .numbers)
 
   pub head-repeats : b ≡ false → Answers planned (orderIn p (entriesOf e)) s ns ts at (plan.Refused BadIndex p)
   unfolding orderIn require
@@ -372,14 +361,14 @@ module _ (s ns ts : List ℕ) (at p : ℕ) (e : Entries) (f : Few) (b : Bool) (k
   module _ (q : Order) (i : b ≡ true) (o : Orders (optionalIn p) s ns ts at f q) where
     pub head-order : (n : Refusal) (z : ℕ) → q ≡ order.Refused n z → Answers planned (orderIn p (entriesOf e)) s ns ts at (plan.Refused n z)
     unfolding orderIn optionalIn require
-    head-order n z j = record { is = λ names d. rw (← tested, i, o .is names d (marksOf (entriesOf e)) k few-marks, j) refl }
+    head-order n z j = record { is = λ names d. rw (← tested, i, o .is names d (marksOf (entriesOf e)) (holds-keeps f _ k) few-marks, j) refl }
 
-    pub head-runs : (l w : Few) (a : ℕ) → q ≡ order.Of l a → Keeps w (positionsOf (numbersOf l) (entriesOf e)) → Answers planned (orderIn p (entriesOf e)) s ns ts at (plan.Runs w e a)
+    pub head-runs : (l w : Few) (a : ℕ) → q ≡ order.Of l a → Holds w (positionsOf (numbersOf l) (entriesOf e)) → Answers planned (orderIn p (entriesOf e)) s ns ts at (plan.Runs w e a)
     unfolding orderIn optionalIn require
     head-runs l w a j v =
         record {
-          is = λ names d. rw (← tested, i, o .is names d (marksOf (entriesOf e)) k few-marks, j)
-              (ap (λ m. leaves (record { positions = m; entries = entriesOf e }) s ts a) (sym (v .all (omega (arith, positions-length (numbersOf l) (entriesOf e), length-few l)) .1)));
+          is = λ names d. rw (← tested, i, o .is names d (marksOf (entriesOf e)) (holds-keeps f _ k) few-marks, j)
+              (ap (λ m. leaves (record { positions = m; entries = entriesOf e }) s ts a) (sym (v .numbers)));
         }
 
 module _ (s ns ts : List ℕ) (at p n : ℕ) (r : Listed) (h : Lists s ns ts at n r) where

@@ -1,24 +1,30 @@
 -- Laws of at most four numbers over plain variables.
 use mathlib.Core.Path.{_≡_, refl, sym, _∙_, ap}
-use mathlib.Core.Bool.{Bool, true, false}
+use mathlib.Core.Bool.{Bool, true, false, cond, _&&_}
 use mathlib.Core.List.{List, [], _∷_, _++_}
 use mathlib.Core.Logic.{_⊎_, inl, inr}
 use Prim.Native.Nat.{ℕ, zero, suc, _+_, _<_, _≤_}
 use native.Mathlib.Omega.{arith}
-use borrow.Author.Tests.{eq-eqb, ne-eqb}
+use borrow.Author.Tests.{eq-eqb, ne-eqb, lt-ltb, le-ltb}
 use lib.Dec.{eqb}
-use lib.ListN.{length, getD, drop, length-take, length-append, List·getD-eq-default, drop-of-length-le}
-use lib.Seq.{getD-take, drop-cons}
+use lib.ListN.{length, getD, take, drop, length-take, length-append, List·getD-eq-default, drop-of-length-le}
+use lib.Seq.{take-all, getD-take, drop-cons}
 use Rattle.language.specs.Declarations.{isIn}
 use Rattle.language.specs.Data.{noRepeats, allIn, rearranges}
 use Rattle.data.specs.declared.reading.few.Few.{Few}
-use Rattle.data.specs.Reading.Few.{numbersOf, Keeps, Adds, Rearranges}
+use Rattle.data.specs.Reading.Few.{numbersOf, Holds, Keeps, Adds, rearrangesKept, Rearranges}
 
 -- ---- the numbers that are kept
 
-pub keeps-none : (a b c d : ℕ) → Keeps (record { count = 0; a = a; b = b; c = c; d = d }) []
+pub holds-none : (a b c d : ℕ) → Holds (record { count = 0; a = a; b = b; c = c; d = d }) []
 unfolding numbersOf
-keeps-none a b c d = record { all = λ h. (refl, refl); more = λ h. absurd (omega arith) }
+holds-none a b c d = record { count = refl; numbers = refl }
+
+pub holds-keeps : (f : Few) (l : List ℕ) → Holds f l → Keeps f l
+holds-keeps f l h = record { all = λ g. (h .count, h .numbers); more = λ g. omega (arith, h .count) }
+
+pub keeps-holds : (f : Few) (l : List ℕ) → length l ≤ 4 → Keeps f l → Holds f l
+keeps-holds f l g k = record { count = k .all g .0; numbers = k .all g .1 }
 
 few-or-more : (n : ℕ) → (n ≤ 4) ⊎ (4 < n)
 few-or-more zero = inl (omega arith)
@@ -69,16 +75,8 @@ module _ (f : Few) where
 
   -- one number more, by the count before
   module _ (i : ℕ) where
-    -- l is what the count says
     adds-by : (r : Few) → f .count < 4 → r .count ≡ f .count + 1 → numbersOf r ≡ numbersOf f ++ (i ∷ []) → Adds f i r
-    adds-by r h c e = record { adds = λ l k. go l k (few-or-more (length l)) }
-      where
-        go : (l : List ℕ) → Keeps f l → (length l ≤ 4) ⊎ (4 < length l) → Keeps r (l ++ (i ∷ []))
-        go l k (inr m) = absurd (omega (arith, k .more m))
-        go l k (inl m) =
-            let n : length (l ++ (i ∷ [])) ≡ length l + 1 = length-append l (i ∷ []) in
-            let k₀ : f .count ≡ length l = k .all m .0 in
-            record { all = λ g. (omega arith, e ∙ ap (λ l. l ++ (i ∷ [])) (k .all m .1)); more = λ g. absurd (omega arith) }
+    adds-by r h c e = record { count = rw (lt-ltb (f .count) 4 h) c; numbers = rw (lt-ltb (f .count) 4 h) e }
 
     pub with-first : f .count ≡ 0 → Adds f i (record { count = 1; a = i; b = f .b; c = f .c; d = f .d })
     unfolding numbersOf
@@ -97,16 +95,34 @@ module _ (f : Few) where
     with-fourth h = adds-by _ (omega arith) (omega arith) (rw h)
 
     pub with-more : 4 ≤ f .count → Adds f i (record { count = 5; a = f .a; b = f .b; c = f .c; d = f .d })
-    with-more h = record { adds = λ l k. go l k (few-or-more (length l)) }
+    unfolding numbersOf
+    with-more h = record { count = rw (le-ltb (f .count) 4 h) refl; numbers = rw (le-ltb (f .count) 4 h) (more (f .count) h) }
       where
-        go : (l : List ℕ) → Keeps f l → (length l ≤ 4) ⊎ (4 < length l) → Keeps (record { count = 5; a = f .a; b = f .b; c = f .c; d = f .d }) (l ++ (i ∷ []))
-        go l k m =
-            let n : length (l ++ (i ∷ [])) ≡ length l + 1 = length-append l (i ∷ []) in
-            record { all = λ g. absurd (long l k m g n); more = λ g. omega arith }
-          where
-            long : (l : List ℕ) → Keeps f l → (length l ≤ 4) ⊎ (4 < length l) → length (l ++ (i ∷ [])) ≤ 4 → length (l ++ (i ∷ [])) ≡ length l + 1 → ⊥
-            long l k (inl m) g n = omega (arith, k .all m .0)
-            long l k (inr m) g n = omega arith
+        more : (n : ℕ) → 4 ≤ n → take 5 (f .a ∷ f .b ∷ f .c ∷ f .d ∷ []) ≡ take n (f .a ∷ f .b ∷ f .c ∷ f .d ∷ [])
+        more n h = sym (take-all n (f .a ∷ f .b ∷ f .c ∷ f .d ∷ []) (omega arith))
+
+    -- of a list that is kept
+    module _ (r : Few) (w : Adds f i r) (l : List ℕ) (k : Keeps f l) where
+      longer : length (l ++ (i ∷ [])) ≡ length l + 1
+      longer = length-append l (i ∷ [])
+
+      pub adds-keeps : Keeps r (l ++ (i ∷ []))
+      adds-keeps = go (few-or-more (f .count + 1)) (few-or-more (length l))
+        where
+          go : (f .count + 1 ≤ 4) ⊎ (4 < f .count + 1) → (length l ≤ 4) ⊎ (4 < length l) → Keeps r (l ++ (i ∷ []))
+          go (inl a) (inl b) =
+              let c : r .count ≡ f .count + 1 = w .count ∙ rw (lt-ltb (f .count) 4 (omega arith)) refl in
+              let n : numbersOf r ≡ numbersOf f ++ (i ∷ []) = w .numbers ∙ rw (lt-ltb (f .count) 4 (omega arith)) refl in
+              let e = k .all b .0 in
+              record { all = λ g. (omega (arith, longer, e), n ∙ ap (λ l. l ++ (i ∷ [])) (k .all b .1)); more = λ g. omega (arith, longer, e) }
+          go (inl a) (inr b) = absurd (omega (arith, k .more b))
+          go (inr a) (inl b) =
+              let c : r .count ≡ 5 = w .count ∙ rw (le-ltb (f .count) 4 (omega arith)) refl in
+              let e = k .all b .0 in
+              record { all = λ g. absurd (omega (arith, longer, e)); more = λ g. omega arith }
+          go (inr a) (inr b) =
+              let c : r .count ≡ 5 = w .count ∙ rw (le-ltb (f .count) 4 (omega arith)) refl in
+              record { all = λ g. absurd (omega (arith, longer)); more = λ g. omega arith }
 
 -- ---- tests
 
@@ -186,35 +202,31 @@ module _ (l m : List ℕ) where
 -- ---- an order
 
 module _ (order marks : Few) where
-  pub rearranges-count : (order .count ≡ marks .count → ⊥) → Rearranges order marks false
-  unfolding rearranges
-  rearranges-count h = record { is = λ l m k i j. rw (ne-eqb (length l) (length m) (go l m k i j (few-or-more (length l)))) refl }
-    where
-      go : (l m : List ℕ) → Keeps order l → Keeps marks m → length m ≤ 4 → (length l ≤ 4) ⊎ (4 < length l) → length l ≡ length m → ⊥
-      go l m k i j (inl g) e = h (k .all g .0 ∙ e ∙ sym (i .all j .0))
-      go l m k i j (inr g) e = omega arith
-
-  -- an order as long as the marks is kept
-  kept : (l m : List ℕ) → order .count ≡ marks .count → Keeps order l → Keeps marks m → length m ≤ 4 → (length l ≡ length m) × (numbersOf order ≡ l) × (numbersOf marks ≡ m)
-  kept l m h k i j = go (few-or-more (length l))
-    where
-      go : (length l ≤ 4) ⊎ (4 < length l) → (length l ≡ length m) × (numbersOf order ≡ l) × (numbersOf marks ≡ m)
-      go (inl g) = (sym (k .all g .0) ∙ h ∙ i .all j .0, k .all g .1, i .all j .1)
-      go (inr g) = absurd (omega (arith, k .more g, i .all j .0))
+  pub rearranges-count : (order .count ≡ marks .count → ⊥) → false ≡ rearrangesKept order marks
+  unfolding rearrangesKept
+  rearranges-count h = rw (ne-eqb (order .count) (marks .count) h) refl
 
   module _ (h : order .count ≡ marks .count) (b : Bool) (f : b ≡ noRepeats (numbersOf order)) where
-    pub rearranges-not : b ≡ false → Rearranges order marks false
-    unfolding rearranges
-    rearranges-not e =
-        record {
-          is = λ l m k i j. let (a, x, y) = kept l m h k i j in
-              rw (eq-eqb (length l) (length m) a, ← ap noRepeats x, ← f, e) refl;
-        }
+    pub rearranges-not : b ≡ false → false ≡ rearrangesKept order marks
+    unfolding rearrangesKept
+    rearranges-not e = rw (eq-eqb (order .count) (marks .count) h, ← f, e) refl
 
-    pub rearranges-last : (r : Bool) → b ≡ true → r ≡ allIn (numbersOf order) (numbersOf marks) → Rearranges order marks r
-    unfolding rearranges
-    rearranges-last r e g =
-        record {
-          is = λ l m k i j. let (a, x, y) = kept l m h k i j in
-              rw (eq-eqb (length l) (length m) a, ← ap noRepeats x, ← f, e, ← ap allIn x, ← y) g;
-        }
+    pub rearranges-last : (r : Bool) → b ≡ true → r ≡ allIn (numbersOf order) (numbersOf marks) → r ≡ rearrangesKept order marks
+    unfolding rearrangesKept
+    rearranges-last r e g = g ∙ rw (eq-eqb (order .count) (marks .count) h, ← f, e) refl
+
+  -- of an order and marks that are kept
+  pub rearranges-is : (r : Bool) → r ≡ rearrangesKept order marks → Rearranges order marks r
+  unfolding rearrangesKept rearranges
+  rearranges-is r w = record { is = λ l m k i j. w ∙ go l m k i j (few-or-more (length l)) }
+    where
+      three : (a b c : Bool) → cond a (cond b c false) false ≡ (a && b && c)
+      three true true c = refl
+      three true false c = refl
+      three false b c = refl
+
+      go : (l m : List ℕ) → Keeps order l → Keeps marks m → length m ≤ 4 → (length l ≤ 4) ⊎ (4 < length l)
+          → cond (eqb (order .count) (marks .count)) (cond (noRepeats (numbersOf order)) (allIn (numbersOf order) (numbersOf marks)) false) false
+          ≡ (eqb (length l) (length m) && noRepeats l && allIn l m)
+      go l m k i j (inl g) = rw (k .all g .1, i .all j .1, k .all g .0, i .all j .0) (three (eqb (length l) (length m)) (noRepeats l) (allIn l m))
+      go l m k i j (inr g) = rw (ne-eqb (order .count) (marks .count) (λ e. omega (arith, k .more g, i .all j .0)), ne-eqb (length l) (length m) (λ e. omega arith)) refl

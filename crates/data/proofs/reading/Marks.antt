@@ -5,6 +5,7 @@ use mathlib.Core.Option.{none, some}
 use mathlib.Core.List.{List, [], _∷_, _++_, append-assoc, append-nil}
 use Prim.Native.Nat.{ℕ, zero, suc, _+_, _<_, _≤_}
 use native.Mathlib.Omega.{arith}
+use borrow.Author.Tests.{lt-ltb, le-ltb}
 use lib.Dec.{eqb}
 use lib.ListN.{length, getD, drop, take, set, length-take, List·getD-eq-default, drop-of-length-le}
 use lib.Seq.{getD-take, drop-cons, take-suc-set, take-set-lt, set-out}
@@ -18,8 +19,9 @@ use Rattle.data.specs.declared.reading.few.Few.{Few}
 use Rattle.data.specs.declared.reading.entries.Entry.{Entry as Held}
 use Rattle.data.specs.declared.reading.entries.Entry.the-variants.{Fixed, Marked}
 use Rattle.data.specs.declared.reading.entries.Entries.{Entries}
-use Rattle.data.specs.Reading.Few.{Keeps, Adds}
-use Rattle.data.specs.Reading.Entries.{entryOf, entriesOf, marksIndex, Grows}
+use Rattle.data.specs.Reading.Few.{Holds, Keeps, Adds}
+use Rattle.data.specs.Reading.Entries.{entryOf, entriesOf, marksIndex, oneMore}
+use Rattle.data.proofs.reading.Lists.{holds-keeps, keeps-holds, adds-keeps}
 
 pub none-held : (a b c d : Held) → entriesOf (record { count = 0; a = a; b = b; c = c; d = d }) ≡ []
 unfolding entriesOf
@@ -109,18 +111,26 @@ module _ (e : Entries) where
   put-none i x d = sym (set-out (entriesOf e) i x (omega (arith, entries-few)))
 
   module _ (x : Held) where
-    pub grows-none : 4 ≤ e .count → Grows e x e
-    grows-none h = record { grows = λ g. absurd (omega (arith, entries-four h)) }
+    pub grows-none : 4 ≤ e .count → entriesOf e ≡ oneMore (entriesOf e) (entryOf x)
+    unfolding oneMore
+    grows-none h = rw (le-ltb (length (entriesOf e)) 4 (omega (arith, entries-four h))) refl
 
     pub grows-put : (r : Entries) → e .count < 4
-        → entriesOf r ≡ set (entriesOf (record { count = e .count + 1; a = e .a; b = e .b; c = e .c; d = e .d })) (e .count) (entryOf x) → Grows e x r
-    unfolding entriesOf
+        → entriesOf r ≡ set (entriesOf (record { count = e .count + 1; a = e .a; b = e .b; c = e .c; d = e .d })) (e .count) (entryOf x)
+        → entriesOf r ≡ oneMore (entriesOf e) (entryOf x)
+    unfolding entriesOf oneMore
     grows-put r h d =
-        record {
-          grows = λ g.
-              let n : e .count + 1 ≡ suc (e .count) = omega arith in
-              d ∙ rw n (sym (take-set-lt (suc (e .count)) all (e .count) (entryOf x) (omega arith))) ∙ take-suc-set all (e .count) (entryOf x) (omega arith);
-        }
+        let n : e .count + 1 ≡ suc (e .count) = omega arith in
+        let g = entries-count h in
+        d
+        ∙ rw n (sym (take-set-lt (suc (e .count)) all (e .count) (entryOf x) (omega arith)))
+        ∙ take-suc-set all (e .count) (entryOf x) (omega arith)
+        ∙ rw (lt-ltb (length (take (e .count) all)) 4 (omega arith)) refl
+
+-- where there is room
+pub one-more : (l : List Entry) (x : Entry) → length l < 4 → oneMore l x ≡ l ++ (x ∷ [])
+unfolding oneMore
+one-more l x h = rw (lt-ltb (length l) 4 h) refl
 
 -- ---- what positions are bound to
 
@@ -141,6 +151,12 @@ fix-bound e r j k f d = ap boundOf (d ∙ ap (λ z. set (entriesOf e) j (fixed z
 pub entry-here : (l : List Entry) (k : ℕ) → k < length l → drop k l ≡ getD l k (marked 0) ∷ drop (k + 1) l
 entry-here l k h = let e : k + 1 ≡ suc k = omega arith in rw e (drop-cons l k (marked 0) h)
 
+pub marks-length : (es : List Entry) → length (marksOf es) ≤ length es
+unfolding marksOf
+marks-length [] = omega arith
+marks-length (fixed k ∷ es) = omega (arith, marks-length es)
+marks-length (marked i ∷ es) = omega (arith, marks-length es)
+
 -- the marks before position k are kept
 pub record Marking (l : List Entry) (k : ℕ) (f : Few) : Type 0 where
   pub shown : List ℕ
@@ -148,13 +164,13 @@ pub record Marking (l : List Entry) (k : ℕ) (f : Few) : Type 0 where
   pub all : shown ++ marksOf (drop k l) ≡ marksOf l
 
 module _ (l : List Entry) where
-  pub marking-start : (f : Few) → Keeps f [] → Marking l 0 f
-  marking-start f h = record { shown = []; keeps = h; all = refl }
+  pub marking-start : (f : Few) → Holds f [] → Marking l 0 f
+  marking-start f h = record { shown = []; keeps = holds-keeps f [] h; all = refl }
 
-  pub marking-end : (n k : ℕ) (f : Few) → n ≡ length l → Marking l k f → n ≤ k → Keeps f (marksOf l)
+  pub marking-end : (n k : ℕ) (f : Few) → n ≡ length l → Marking l k f → n ≤ k → length l ≤ 4 → Holds f (marksOf l)
   unfolding marksOf
-  marking-end n k f e m h =
-      rw (← m .all, drop-of-length-le l {i = k} (omega arith), append-nil) (m .keeps)
+  marking-end n k f e m h g =
+      keeps-holds f (marksOf l) (omega (arith, marks-length l)) (rw (← m .all, drop-of-length-le l {i = k} (omega arith), append-nil) (m .keeps))
 
   module _ (n k : ℕ) (f : Few) (x : Held) (e : n ≡ length l) (m : Marking l k f) (h : k < n) (g : entryOf x ≡ getD l k (marked 0)) where
     pub marking-fixed : (z : ℤ) → x ≡ Fixed z → Marking l (k + 1) f
@@ -169,7 +185,7 @@ module _ (l : List Entry) where
         let j : getD l k (marked 0) ≡ marked i = sym g ∙ ap entryOf d in
         record {
           shown = m .shown ++ (i ∷ []);
-          keeps = a .adds (m .shown) (m .keeps);
+          keeps = adds-keeps f i r a (m .shown) (m .keeps);
           all = append-assoc (m .shown) (i ∷ []) (marksOf (drop (k + 1) l)) ∙ ap (λ t. m .shown ++ marksOf t) (sym (entry-here l k (omega arith) ∙ ap (λ y. y ∷ drop (k + 1) l) j)) ∙ m .all;
         }
 
@@ -204,19 +220,24 @@ module _ (l : List Entry) (i : ℕ) where
 
 -- ---- the positions of an order
 
+pub positions-length : (l : List ℕ) (es : List Entry) → length (positionsOf l es) ≡ length l
+unfolding positionsOf
+positions-length [] es = refl
+positions-length (i ∷ l) es = ap suc (positions-length l es)
+
 pub record Ordering (l : List Entry) (o : List ℕ) (k : ℕ) (f : Few) : Type 0 where
   pub shown : List ℕ
   pub keeps : Keeps f shown
   pub all : shown ++ positionsOf (drop k o) l ≡ positionsOf o l
 
 module _ (l : List Entry) (o : List ℕ) where
-  pub ordering-start : (f : Few) → Keeps f [] → Ordering l o 0 f
-  ordering-start f h = record { shown = []; keeps = h; all = refl }
+  pub ordering-start : (f : Few) → Holds f [] → Ordering l o 0 f
+  ordering-start f h = record { shown = []; keeps = holds-keeps f [] h; all = refl }
 
-  pub ordering-end : (n k : ℕ) (f : Few) → n ≡ length o → Ordering l o k f → n ≤ k → Keeps f (positionsOf o l)
+  pub ordering-end : (n k : ℕ) (f : Few) → n ≡ length o → Ordering l o k f → n ≤ k → length o ≤ 4 → Holds f (positionsOf o l)
   unfolding positionsOf
-  ordering-end n k f e m h =
-      rw (← m .all, drop-of-length-le o {i = k} (omega arith), append-nil) (m .keeps)
+  ordering-end n k f e m h g =
+      keeps-holds f (positionsOf o l) (omega (arith, positions-length o l)) (rw (← m .all, drop-of-length-le o {i = k} (omega arith), append-nil) (m .keeps))
 
   pub ordering-on : (n k i p : ℕ) (f r : Few) → n ≡ length o → Ordering l o k f → k < n → i ≡ getD o k 0 → p ≡ positionOf i l 0 → Adds f p r → Ordering l o (k + 1) r
   unfolding positionsOf
@@ -225,6 +246,6 @@ module _ (l : List Entry) (o : List ℕ) where
       let d : drop k o ≡ i ∷ drop (k + 1) o = rw s (drop-cons o k 0 (omega arith) ∙ ap (λ y. y ∷ drop (suc k) o) (sym g)) in
       record {
         shown = m .shown ++ (p ∷ []);
-        keeps = a .adds (m .shown) (m .keeps);
+        keeps = adds-keeps f p r a (m .shown) (m .keeps);
         all = append-assoc (m .shown) (p ∷ []) (positionsOf (drop (k + 1) o) l) ∙ ap (λ y. m .shown ++ (y ∷ positionsOf (drop (k + 1) o) l)) j ∙ ap (λ t. m .shown ++ positionsOf t l) (sym d) ∙ m .all;
       }

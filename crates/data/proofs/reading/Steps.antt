@@ -27,9 +27,9 @@ use Rattle.tokens.specs.declared.Seen.{Seen}
 use Rattle.tokens.specs.declared.Seen.the-variants as seen
 use Rattle.tokens.specs.declared.Known.{Known}
 use Rattle.tokens.specs.declared.Known.the-variants as Known
-use Rattle.tokens.specs.Stored.{nameBytes, spelling, kindOf, token, from, Sees, Looks, Shaped, Named, Knowing, Knows}
+use Rattle.tokens.specs.Stored.{nameBytes, spelling, kindOf, token, from, Sees, Looks, Shaped, Named, Knowing, KnownAt, Knows}
 use Rattle.tokens.proofs.Tables.{false-true, mark-of, mark-same, index-sort, other-sort, no-string}
-use Rattle.tokens.proofs.Moved.{next-is}
+use Rattle.tokens.proofs.Moved.{next-is, knows-of}
 use Rattle.data.specs.declared.reading.heads.Indexed.{Indexed}
 use Rattle.data.specs.declared.reading.heads.Indexed.the-variants as index
 use Rattle.data.specs.declared.reading.heads.Entered.{Entered}
@@ -208,7 +208,10 @@ module _ (ts : List ℕ) (at : ℕ) (t : Seen) (h : Looks ts at t) where
 
 -- ---- a declared index
 
-module _ (s ns ts : List ℕ) (at : ℕ) (r : Known) (h : Knows s ns ts at r) where
+module _ (s ns ts : List ℕ) (at : ℕ) (r : Known) (told : KnownAt s ns ts at r) where
+  h : Knows s ns ts at r
+  h = knows-of s ns ts at r told
+
   knowing : (names : List Name) → Named s ns names → (w : Known) → r ≡ w → Knowing (readKnown names (from s ts at)) s ts w
   knowing names d w e = subst (Knowing (readKnown names (from s ts at)) s ts) e (h .knows names d)
 

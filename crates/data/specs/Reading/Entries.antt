@@ -1,9 +1,8 @@
 -- A portion's entries as a list.
-use mathlib.Core.Path.{_≡_}
-use mathlib.Core.Bool.{Bool, false}
+use mathlib.Core.Bool.{Bool, false, cond}
 use mathlib.Core.List.{List, [], _∷_, _++_}
-use Prim.Native.Nat.{ℕ, _<_}
-use lib.Dec.{eqb}
+use Prim.Native.Nat.{ℕ}
+use lib.Dec.{eqb, ltb}
 use lib.ListN.{length, take}
 use Rattle.language.specs.Data.{Entry, fixed, marked}
 use Rattle.data.specs.declared.reading.entries.Entry.{Entry as Held}
@@ -22,5 +21,5 @@ marksIndex i (fixed k) = false
 marksIndex i (marked j) = eqb i j
 
 -- one entry more, where there is room for it
-pub record Grows (e : Entries) (x : Held) (r : Entries) : Type 0 where
-  pub grows : length (entriesOf e) < 4 → entriesOf r ≡ entriesOf e ++ (entryOf x ∷ [])
+unfoldable pub oneMore : List Entry → Entry → List Entry
+oneMore l x = cond (ltb (length l) 4) (l ++ (x ∷ [])) l

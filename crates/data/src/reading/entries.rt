@@ -5,8 +5,8 @@ ghost use mathlib.Core.List.{[]};
 ghost use lib.ListN.{length, getD, set};
 ghost use Rattle.language.specs.Data.{marked, marksOf, positionOf, positionsOf, boundOf};
 ghost use Rattle.language.specs.Store.{setAt};
-ghost use Rattle.data.specs.Reading.Few.{numbersOf, Keeps};
-ghost use Rattle.data.specs.Reading.Entries.{entryOf, entriesOf, marksIndex, Grows};
+ghost use Rattle.data.specs.Reading.Few.{numbersOf, Holds};
+ghost use Rattle.data.specs.Reading.Entries.{entryOf, entriesOf, marksIndex, oneMore};
 
 // A fixed whole number, or the number of the index name that marks the position.
 pub enum Entry {
@@ -117,7 +117,7 @@ impl Entries {
 
     // One entry more; the same where there are four.
     pub fn with(mut self, e: Entry) -> Self
-        ensures { λ r. ⌜ Grows self e r ⌝ }
+        ensures { λ r. ⌜ entriesOf r ≡ oneMore (entriesOf self) (entryOf e) ⌝ }
     {
         let n = self.count;
         if 4 <= n {
@@ -136,7 +136,7 @@ impl Entries {
 
     // The index names of the marked positions, left to right.
     pub fn marks(self) -> Few
-        ensures { λ r. ⌜ Keeps r (marksOf (entriesOf self)) ⌝ }
+        ensures { λ r. ⌜ Holds r (marksOf (entriesOf self)) ⌝ }
     {
         let n = self.length();
         let mut marks = Few::none();
@@ -170,7 +170,7 @@ impl Entries {
 
     // The positions that the indices of an order mark.
     pub fn positions(self, order: Few) -> Few
-        ensures { λ r. ⌜ Keeps r (positionsOf (numbersOf order) (entriesOf self)) ⌝ }
+        ensures { λ r. ⌜ Holds r (positionsOf (numbersOf order) (entriesOf self)) ⌝ }
     {
         let n = order.length();
         let mut positions = Few::none();

@@ -4,7 +4,7 @@ ghost use mathlib.Core.List.{[]};
 ghost use lib.ListN.{length, getD, drop};
 ghost use Rattle.language.specs.Declarations.{isIn};
 ghost use Rattle.language.specs.Data.{noRepeats, allIn};
-ghost use Rattle.data.specs.Reading.Few.{numbersOf, Keeps, Adds, Rearranges};
+ghost use Rattle.data.specs.Reading.Few.{numbersOf, Holds, Adds, rearrangesKept};
 
 // The first `count` of a, b, c, d. A count above four says that there are more, which are not kept.
 pub struct Few {
@@ -17,7 +17,7 @@ pub struct Few {
 
 impl Few {
     pub fn none() -> Self
-        ensures { λ r. ⌜ Keeps r [] ⌝ }
+        ensures { λ r. ⌜ Holds r [] ⌝ }
     {
         Few {
             count: 0,
@@ -139,7 +139,7 @@ impl Few {
 
     // Is this a rearrangement of the marks?
     pub fn rearranges(self, marks: Few) -> bool
-        ensures { λ r. ⌜ Rearranges self marks r ⌝ }
+        ensures { λ r. ⌜ r ≡ rearrangesKept self marks ⌝ }
     {
         if self.count != marks.count {
             return false;

@@ -23,8 +23,9 @@ use Rattle.store.specs.declared.Found.the-variants as found
 use Rattle.store.specs.declared.Key.{Key}
 use Rattle.store.specs.Element.{listOf, extended}
 use Rattle.store.specs.Key.{keyNumber, keyOf}
-use Rattle.store.specs.Table.{Finds, Sorted, wordAt, wordIn, lookup}
+use Rattle.store.specs.Table.{Sorted, wordAt, wordIn, lookup, foundRow}
 use Rattle.store.specs.Packed.{unpacked}
+use Rattle.store.proofs.Halving.{found-word}
 use Rattle.language.specs.Scope.{boundTo}
 use Rattle.evaluator.specs.declared.steps.scope.Scope.{Scope as Held}
 use Rattle.evaluator.specs.declared.steps.scope.Bound.{Bound}
@@ -34,7 +35,7 @@ use Rattle.evaluator.specs.declared.steps.values.Answer.the-variants as 
 use Rattle.evaluator.specs.declared.steps.values.Limits.{Limits}
 use Rattle.evaluator.specs.declared.steps.values.Bounds.{Bounds}
 use Rattle.evaluator.specs.Steps.Scopes.{bindingsOf, boundOption}
-use Rattle.evaluator.specs.Steps.Values.{fittedAt, signedValue, wholeBy, wholeAnswer, boundBy, boundAnswer, wordAnswer, KnownIs}
+use Rattle.evaluator.specs.Steps.Values.{fittedAt, signedValue, wholeBy, wholeAnswer, boundBy, boundAnswer, wordAnswer, knownAnswer}
 
 -- ---- values
 
@@ -94,15 +95,16 @@ bounds-are i q v w l e = rw e refl
 
 -- ---- data
 
-module _ (ds : List ℕ) (rows i p a : ℕ) (ks : List ℤ) (k : Key) (f : Found) (h : keyNumber k ≡ keyOf i ks) (g : Finds ds rows (keyNumber k) f) where
-  row-is : Sorted ds rows → wordIn ds f ≡ lookup ds rows (keyOf i ks)
-  unfolding lookup
-  row-is s = rw (g .is-row s, h) refl
+module _ (ds : List ℕ) (rows i p a : ℕ) (ks : List ℤ) (k : Key) (f : Found) (h : keyNumber k ≡ keyOf i ks) (g : f ≡ foundRow ds rows (keyNumber k)) where
+  pub known-no : f ≡ found.Nothing → answer.Refused Missing p ≡ knownAnswer ds rows i ks p a
+  unfolding knownAnswer wordAnswer wordIn
+  known-no e = rw (← h, ← g, e) refl
 
-  pub known-no : f ≡ found.Nothing → KnownIs ds rows i ks p a (answer.Refused Missing p)
-  unfolding wordAnswer wordIn
-  known-no e = record { is = λ s. rw (← row-is s, e) refl }
+  pub known-yes : (j w : ℕ) (v : Value) → f ≡ found.At j → w ≡ wordAt ds j → v ≡ unpacked w → answer.Value v a ≡ knownAnswer ds rows i ks p a
+  unfolding knownAnswer wordAnswer wordIn
+  known-yes j w v e x y = rw (← h, ← g, e, y, x) refl
 
-  pub known-yes : (j w : ℕ) (v : Value) → f ≡ found.At j → w ≡ wordAt ds j → v ≡ unpacked w → KnownIs ds rows i ks p a (answer.Value v a)
-  unfolding wordAnswer wordIn
-  known-yes j w v e x y = record { is = λ s. rw (← row-is s, e, y, x) refl }
+-- in a sorted table, the word that the search from the front finds
+pub known-word : (ds : List ℕ) (rows i p a : ℕ) (ks : List ℤ) → Sorted ds rows → knownAnswer ds rows i ks p a ≡ wordAnswer p a (lookup ds rows (keyOf i ks))
+unfolding knownAnswer
+known-word ds rows i p a ks s = ap (wordAnswer p a) (found-word ds rows (keyOf i ks) s)

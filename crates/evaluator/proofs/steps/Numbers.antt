@@ -24,9 +24,10 @@ use Rattle.tokens.proofs.Moved.{next-is}
 use Rattle.onepass.specs.Walk.{usedNumber, nameNumber, walkHead}
 use Rattle.evaluator.specs.declared.steps.names.Listed.{Listed}
 use Rattle.evaluator.specs.declared.steps.names.Listed.the-variants as listed
+use Rattle.evaluator.specs.declared.steps.names.Headed.{Headed}
 use Rattle.evaluator.specs.declared.steps.names.Headed.the-variants.{Index, Refused}
 use Rattle.evaluator.specs.Steps.Passing.{Skips}
-use Rattle.evaluator.specs.Steps.Names.{numberPart, numberFound, wordSpelling, Resolved, numberKept, resolvedWord, Resolves, rowWord, listedOf, numberBelow, indexNumber, Heads}
+use Rattle.evaluator.specs.Steps.Names.{numberPart, numberFound, wordSpelling, Resolved, numberKept, resolvedWord, Resolves, rowWord, listedOf, numberBelow, indexNumber, HeadAt, Opens, Heads}
 
 -- ---- a number in a word
 
@@ -193,8 +194,8 @@ resolving-more s ns ts us i w r h e =
     let n : i + 1 ≡ suc i = omega arith in
     record { left = rw (n, e) (sym (mapFrom-step (resolvedWord s ns) i us h) ∙ r .left); size = simp length-set (r .size) }
 
-pub resolving-end : (s ns ts us : List ℕ) (i : ℕ) → Resolving s ns ts i us → length us ≤ i → Resolves s ns ts us
-resolving-end s ns ts us i r h = subst (Resolves s ns ts) (sym (sym (mapFrom-end (resolvedWord s ns) i us h) ∙ r .left)) (map-resolves s ns ts)
+pub resolving-end : (s ns ts us : List ℕ) (i : ℕ) → Resolving s ns ts i us → length us ≤ i → us ≡ map (resolvedWord s ns) ts
+resolving-end s ns ts us i r h = sym (mapFrom-end (resolvedWord s ns) i us h) ∙ r .left
 
 -- ---- rows
 
@@ -472,15 +473,20 @@ module _ (s ns ts : List ℕ) (names : List Name) (d : Named s ns names) (r : Re
 -- ---- `(`, an index and a comma
 
 module _ (ts : List ℕ) (level at a : ℕ) (t : Seen) (f : Skips ts at a) (h : Looks ts a t) where
-  pub heads-wrong : (n : Refusal) (p : ℕ) → t ≡ seen.Refused n p → Heads ts level at (Refused n p)
-  unfolding walkHead
-  heads-wrong n p e = record { is = λ s ns names d r. let u = subst (Sees s ts a) e (h .sees s) in rw (f .is s, u .nexts) refl }
+  pub heads-wrong : (n : Refusal) (p : ℕ) → t ≡ seen.Refused n p → Opens ts level at (Refused n p)
+  heads-wrong n p e = record { behind = a; skips = f; token = t; looks = h; answer = rw e (refl, refl) }
 
-  pub heads-index : (k p x b c i : ℕ) → t ≡ seen.Token k p x b → i ≡ indexNumber level (getD ts a 0) → Skips ts b c → Heads ts level at (Index i c)
-  unfolding walkHead
-  heads-index k p x b c i e j g =
-      record {
-        is = λ s ns names d r.
-            let v = subst (Sees s ts a) e (h .sees s) in
-            rw (f .is s, next-is s ts a k p x b v, g .is s, index-of s ns ts names d r level a k p x b v, j) refl;
-      }
+  pub heads-index : (k p x b c i : ℕ) → t ≡ seen.Token k p x b → i ≡ indexNumber level (getD ts a 0) → Skips ts b c → Opens ts level at (Index i c)
+  heads-index k p x b c i e j g = record { behind = a; skips = f; token = t; looks = h; answer = rw e (j, g) }
+
+-- of resolved tokens
+pub heads-of : (ts : List ℕ) (level at : ℕ) (r : Headed) → Opens ts level at r → Heads ts level at r
+unfolding walkHead
+heads-of ts level at r o = go (o .behind) (o .token) r (o .skips) (o .looks) (o .answer)
+  where
+    go : (a : ℕ) (t : Seen) (r : Headed) → Skips ts at a → Looks ts a t → HeadAt ts level a t r → Heads ts level at r
+    go a (seen.Token k p x b) (Index i c) f h g =
+        record { is = λ s ns names d r. rw (f .is s, next-is s ts a k p x b (h .sees s), g .1 .is s, index-of s ns ts names d r level a k p x b (h .sees s), g .0) refl }
+    go a (seen.Token k p x b) (Refused m q) f h g = absurd g
+    go a (seen.Refused m p) (Index i c) f h g = absurd g
+    go a (seen.Refused m p) (Refused n q) f h g = record { is = λ s ns names d r. rw (f .is s, h .sees s .nexts, g .0, g .1) refl }

@@ -1,11 +1,10 @@
 -- Laws of runs: bounds, lengths, the numbers of a run, and the domain test of one number.
 use mathlib.Core.Path.{_≡_, refl, sym, _∙_, ap, subst}
-use mathlib.Core.Bool.{Bool, true, false, _&&_, not}
-use mathlib.Core.Option.{Option}
+use mathlib.Core.Bool.{Bool, true, false, cond, _&&_, not}
 use mathlib.Core.List.{List}
 use Prim.Native.Nat.{ℕ, suc, _+_, _^_, _<_, _≤_}
 use native.Mathlib.Omega.{arith}
-use borrow.Author.Tests.{le-leb, lt-leb, leb-true, leb-false, ltb-true, ltb-false, not-true, not-false}
+use borrow.Author.Tests.{le-leb, lt-leb, leb-true, ltb-true, ltb-false, not-true, not-false}
 use lib.Dec.{T, leb, ltb}
 use lib.ListN.{length, getD}
 use lib.IntN.{ℤ, pos, negsuc, natAbs, _+ℤ_, _-ℤ_, negℤ}
@@ -15,22 +14,20 @@ use mir.Val.{SFits, Fits, toZ, ofZ}
 use mir.Facts.{toZ-ofZ, toZ-pos}
 use Rattle.rules.specs.declared.Refusal.the-variants.{BadIndex, NotWhole, Outside}
 use Rattle.rules.specs.Limits.{mantissaLimit, runLimit, indexLimit}
-use Rattle.value.specs.declared.Value.{Value}
 use Rattle.rational.specs.Integer.{up, down}
 use Rattle.rational.proofs.Integer.{add-parts, neg-up, neg-down, le-parts, leZ-true}
 use Rattle.value.proofs.Integers.{mag-le, natAbs-add, natAbs-sub, back}
 use Rattle.value.proofs.Ranges.{and-right}
-use Rattle.language.specs.Ranges.{upFrom}
-use Rattle.language.specs.Outcome.{done, check, _>>=_}
 use Rattle.language.specs.Scope.{boundTo}
 use Rattle.language.specs.Evaluation.{isNone, lengthOf, fresh, runOf}
 use Rattle.evaluator.specs.declared.steps.scope.Scope.{Scope as Held}
 use Rattle.evaluator.specs.declared.steps.values.Limits.{Limits}
 use Rattle.evaluator.specs.declared.steps.values.Bounds.{Bounds}
+use Rattle.evaluator.specs.declared.steps.values.Runs.{Runs}
 use Rattle.evaluator.specs.declared.steps.values.Runs.the-variants as runs
 use Rattle.evaluator.specs.declared.steps.values.Tested.the-variants as tested
 use Rattle.evaluator.specs.Steps.Scopes.{bindingsOf, boundMore, scopeOf}
-use Rattle.evaluator.specs.Steps.Values.{limitsIn, SmallLimits, SmallSpan, LengthIs, RunIs, NumberIs, BindsNth, Tests}
+use Rattle.evaluator.specs.Steps.Values.{limitsIn, SmallLimits, SmallSpan, countOf, runAnswer, RunIs, numberIn, Tests}
 
 -- a number as it is read back
 abbrev pub seen : ℤ → ℤ
@@ -127,14 +124,29 @@ span-small a b x y e f g h i =
       rises = not-lt-le b a i;
     }
 
-wide : (k : ℤ) (x : Bool) → mag k < 2 ^ 63 → x ≡ leb (natAbs (seen k)) mantissaLimit → not x ≡ true → natAbs k ≤ mantissaLimit → ⊥
-wide k x m e f h = omega (arith, leb-false (natAbs k) mantissaLimit (sym (ap (λ z. leb (natAbs z) mantissaLimit) (back {z = k} m)) ∙ sym e ∙ not-true x f))
+module _ (k : ℤ) (x : Bool) (m : mag k < 2 ^ 63) (e : x ≡ leb (natAbs (seen k)) mantissaLimit) where
+  -- the test of a number that was read back
+  test-is : x ≡ leb (natAbs k) mantissaLimit
+  test-is = e ∙ ap (λ z. leb (natAbs z) mantissaLimit) (back {z = k} m)
+
+  wide : not x ≡ true → leb (natAbs k) mantissaLimit ≡ false
+  wide f = sym test-is ∙ not-true x f
+
+  small : not x ≡ false → leb (natAbs k) mantissaLimit ≡ true
+  small f = sym test-is ∙ not-false x f
 
 module _ (l : Limits) where
-  pub length-none : mag (l .lower) < 2 ^ 63 → mag (l .upper) < 2 ^ 63 → ltZ (seen (l .upper)) (seen (l .lower)) ≡ true → LengthIs l 0
-  unfolding lengthOf
-  length-none f g e = record { is = λ h. sym (go (l .lower) (l .upper) (subst (λ z. ltZ (l .upper) z ≡ true) (back {z = l .lower} f) (subst (λ z. ltZ z (seen (l .lower)) ≡ true) (back {z = l .upper} g) e))) }
+  pub length-none : mag (l .lower) < 2 ^ 63 → mag (l .upper) < 2 ^ 63 → ltZ (seen (l .upper)) (seen (l .lower)) ≡ true → 0 ≡ countOf l
+  unfolding countOf lengthOf
+  length-none f g e =
+      none (leb (natAbs (l .lower)) mantissaLimit) (leb (natAbs (l .upper)) mantissaLimit) _
+      (go (l .lower) (l .upper) (subst (λ z. ltZ (l .upper) z ≡ true) (back {z = l .lower} f) (subst (λ z. ltZ z (seen (l .lower)) ≡ true) (back {z = l .upper} g) e)))
     where
+      none : (x y : Bool) (n : ℕ) → n ≡ 0 → 0 ≡ cond x (cond y n 0) 0
+      none true true n e = sym e
+      none true false n e = refl
+      none false y n e = refl
+
       up-none : (z : ℤ) → up z ≤ down z → up z ≡ 0
       up-none (pos n) e = omega arith
       up-none (negsuc n) e = refl
@@ -148,52 +160,68 @@ module _ (l : Limits) where
       go : (a b : ℤ) → ltZ b a ≡ true → up (b +ℤ pos 1 -ℤ a) ≡ 0
       go a b e = up-none (b +ℤ pos 1 -ℤ a) (omega (arith, below a b e, add-parts (b +ℤ pos 1) (negℤ a), add-parts b (pos 1), neg-up a, neg-down a))
 
-  pub length-low : (x : Bool) → mag (l .lower) < 2 ^ 63 → x ≡ leb (natAbs (seen (l .lower))) mantissaLimit → not x ≡ true → LengthIs l 0
-  length-low x m e f = record { is = λ h. absurd (wide (l .lower) x m e f (h .low)) }
+  pub length-low : (x : Bool) → mag (l .lower) < 2 ^ 63 → x ≡ leb (natAbs (seen (l .lower))) mantissaLimit → not x ≡ true → 0 ≡ countOf l
+  unfolding countOf
+  length-low x m e f = rw (wide (l .lower) x m e f) refl
 
-  pub length-high : (x : Bool) → mag (l .upper) < 2 ^ 63 → x ≡ leb (natAbs (seen (l .upper))) mantissaLimit → not x ≡ true → LengthIs l 0
-  length-high x m e f = record { is = λ h. absurd (wide (l .upper) x m e f (h .high)) }
+  pub length-high : (x : Bool) → mag (l .upper) < 2 ^ 63 → x ≡ leb (natAbs (seen (l .upper))) mantissaLimit → not x ≡ true → 0 ≡ countOf l
+  unfolding countOf
+  length-high x m e f = rw (wide (l .upper) x m e f) (none (leb (natAbs (l .lower)) mantissaLimit))
+    where
+      none : (y : Bool) → _≡_ {A = ℕ} 0 (cond y 0 0)
+      none true = refl
+      none false = refl
 
-  pub length-span : (n : ℕ) → mag (l .lower) < 2 ^ 63 → mag (l .upper) < 2 ^ 63 → n ≡ up (seen (l .upper) +ℤ pos 1 -ℤ seen (l .lower)) → LengthIs l n
-  unfolding lengthOf
-  length-span n f g e = record { is = λ h. e ∙ rw (back {z = l .lower} f, back {z = l .upper} g) refl }
+  pub length-span : (x y : Bool) (n : ℕ) → mag (l .lower) < 2 ^ 63 → mag (l .upper) < 2 ^ 63 → x ≡ leb (natAbs (seen (l .lower))) mantissaLimit → not x ≡ false
+      → y ≡ leb (natAbs (seen (l .upper))) mantissaLimit → not y ≡ false → n ≡ up (seen (l .upper) +ℤ pos 1 -ℤ seen (l .lower)) → n ≡ countOf l
+  unfolding countOf lengthOf
+  length-span x y n f g a b c d e = e ∙ rw (back {z = l .lower} f, back {z = l .upper} g, small (l .lower) x f a b, small (l .upper) y g c d) refl
+
+  count-small : SmallLimits l → countOf l ≡ lengthOf (limitsIn l)
+  unfolding countOf
+  count-small h = rw (le-leb (natAbs (l .lower)) mantissaLimit (h .low), le-leb (natAbs (l .upper)) mantissaLimit (h .high)) refl
 
 -- ---- the run of an index
 
-module _ (l : Limits) (i p n : ℕ) (s : Held) (h : LengthIs l n) where
-  pub run-long : 256 < n → RunIs l i s p (runs.Refused NotWhole p)
-  unfolding runOf runLimit
-  run-long e =
-      record {
-        is = λ m known. rw (← h .is m, lt-leb n 256 e) refl;
-        count = λ m k f. absurd (let z : _≡_ {A = ℕ} 0 1 = cc in omega arith);
-        short = λ k f. absurd (let z : _≡_ {A = ℕ} 0 1 = cc in omega arith);
-        room = λ k f. absurd (let z : _≡_ {A = ℕ} 0 1 = cc in omega arith);
-      }
+module _ (l : Limits) (i p n : ℕ) (s : Held) (h : n ≡ countOf l) where
+  pub run-long : 256 < n → runs.Refused NotWhole p ≡ runAnswer l i s p
+  unfolding runAnswer runLimit
+  run-long e = rw (← h, lt-leb n 256 e) refl
 
   module _ (e : n ≤ 256) (b : Bool) (g : b ≡ (isNone (boundTo i (bindingsOf s)) && ltb (length (bindingsOf s)) indexLimit)) where
-    run-is : (known : ℕ → List ℤ → Option Value) → SmallLimits l → runOf (limitsIn l) i (scopeOf known s) p ≡ (check BadIndex p b >>= λ _. done (upFrom (l .lower) n))
-    unfolding runOf runLimit fresh scopeOf
-    run-is known m = rw (← h .is m, le-leb n 256 e, ← g) refl
+    pub run-bound : not b ≡ true → runs.Refused BadIndex p ≡ runAnswer l i s p
+    unfolding runAnswer runLimit
+    run-bound f = rw (← h, le-leb n 256 e, ← g, not-true b f) refl
 
-    pub run-bound : not b ≡ true → RunIs l i s p (runs.Refused BadIndex p)
-    run-bound f =
-        record {
-          is = λ m known. run-is known m ∙ rw (not-true b f) refl;
-          count = λ m k f. absurd (let z : _≡_ {A = ℕ} 0 1 = cc in omega arith);
-          short = λ k f. absurd (let z : _≡_ {A = ℕ} 0 1 = cc in omega arith);
-          room = λ k f. absurd (let z : _≡_ {A = ℕ} 0 1 = cc in omega arith);
-        }
+    pub run-count : not b ≡ false → runs.Count n ≡ runAnswer l i s p
+    unfolding runAnswer runLimit
+    run-count f = rw (← h, le-leb n 256 e, ← g, not-false b f) refl
 
-    pub run-count : not b ≡ false → RunIs l i s p (runs.Count n)
-    unfolding runLimit
-    run-count f =
-        record {
-          is = λ m known. run-is known m ∙ rw (not-false b f) refl;
-          count = λ m k q. let d : n ≡ k = cc in sym d ∙ h .is m;
-          short = λ k q. let d : n ≡ k = cc in omega arith;
-          room = λ k q. and-right (isNone (boundTo i (bindingsOf s))) _ (sym g ∙ not-false b f);
-        }
+-- what the answer says
+pub run-is : (l : Limits) (i : ℕ) (s : Held) (p : ℕ) (r : Runs) → r ≡ runAnswer l i s p → RunIs l i s p r
+unfolding runAnswer runOf fresh scopeOf
+run-is l i s p r h = rw h (go (leb (countOf l) runLimit) refl (isNone (boundTo i (bindingsOf s)) && ltb (length (bindingsOf s)) indexLimit) refl)
+  where
+    go : (x : Bool) → leb (countOf l) runLimit ≡ x → (y : Bool) → (isNone (boundTo i (bindingsOf s)) && ltb (length (bindingsOf s)) indexLimit) ≡ y
+        → RunIs l i s p (cond x (cond y (runs.Count (countOf l)) (runs.Refused BadIndex p)) (runs.Refused NotWhole p))
+    go false e y d = record {
+      is = λ m known. rw (← (count-small l m), e) refl;
+      count = λ m k f. absurd (let z : _≡_ {A = ℕ} 0 1 = cc in omega arith);
+      short = λ k f. absurd (let z : _≡_ {A = ℕ} 0 1 = cc in omega arith);
+      room = λ k f. absurd (let z : _≡_ {A = ℕ} 0 1 = cc in omega arith);
+    }
+    go true e false d = record {
+      is = λ m known. rw (← (count-small l m), e, d) refl;
+      count = λ m k f. absurd (let z : _≡_ {A = ℕ} 0 1 = cc in omega arith);
+      short = λ k f. absurd (let z : _≡_ {A = ℕ} 0 1 = cc in omega arith);
+      room = λ k f. absurd (let z : _≡_ {A = ℕ} 0 1 = cc in omega arith);
+    }
+    go true e true d = record {
+      is = λ m known. rw (← (count-small l m), e, d) refl;
+      count = λ m k f. let q : countOf l ≡ k = cc in sym q ∙ count-small l m;
+      short = λ k f. let q : countOf l ≡ k = cc in rw q at (leb-true (countOf l) runLimit e);
+      room = λ k f. and-right (isNone (boundTo i (bindingsOf s))) _ d;
+    }
 
 -- ---- the numbers of a run
 
@@ -218,18 +246,30 @@ unfolding runLimit
 nth-may a j x e f g = (leb-true (natAbs a) mantissaLimit (sym e ∙ not-false x f), g)
 
 module _ (l : Limits) (j : ℕ) where
-  pub nth-wide : (x : Bool) → mag (l .lower) < 2 ^ 63 → x ≡ leb (natAbs (seen (l .lower))) mantissaLimit → not x ≡ true → NumberIs l j (pos 0)
-  nth-wide x m e f = record { is = λ h g. absurd (wide (l .lower) x m e f h) }
+  pub nth-wide : (x : Bool) → mag (l .lower) < 2 ^ 63 → x ≡ leb (natAbs (seen (l .lower))) mantissaLimit → not x ≡ true → pos 0 ≡ numberIn l j
+  unfolding numberIn
+  nth-wide x m e f = rw (wide (l .lower) x m e f) refl
 
-  pub nth-beyond : 256 < j → NumberIs l j (pos 0)
-  unfolding runLimit
-  nth-beyond e = record { is = λ h g. absurd (omega arith) }
+  pub nth-beyond : 256 < j → pos 0 ≡ numberIn l j
+  unfolding numberIn runLimit
+  nth-beyond e = rw (lt-leb j 256 e) (none (leb (natAbs (l .lower)) mantissaLimit))
+    where
+      none : (x : Bool) → pos 0 ≡ cond x (pos 0) (pos 0)
+      none true = refl
+      none false = refl
 
-  pub nth-number : (k : ℤ) → mag (l .lower) < 2 ^ 63 → mag k < 2 ^ 63 → k ≡ seen (l .lower) +ℤ pos j → NumberIs l j (seen k)
-  nth-number k m n e = record { is = λ h b. back {z = k} n ∙ e ∙ ap (λ z. z +ℤ pos j) (back {z = l .lower} m) }
+  pub number-small : natAbs (l .lower) ≤ mantissaLimit → j ≤ runLimit → numberIn l j ≡ l .lower +ℤ pos j
+  unfolding numberIn
+  number-small h g = rw (le-leb (natAbs (l .lower)) mantissaLimit h, le-leb j runLimit g) refl
 
-  pub nth-bound : (s : Held) (i : ℕ) (k : ℤ) (t : Held) → mag k < 2 ^ 63 → NumberIs l j k → bindingsOf t ≡ boundMore i (seen k) (bindingsOf s) → BindsNth s i l j t
-  nth-bound s i k t n e g = record { is = λ h b. g ∙ ap (λ z. boundMore i z (bindingsOf s)) (back {z = k} n ∙ e .is h b) }
+  pub nth-number : (x : Bool) (k : ℤ) → mag (l .lower) < 2 ^ 63 → x ≡ leb (natAbs (seen (l .lower))) mantissaLimit → not x ≡ false → j ≤ 256 → mag k < 2 ^ 63
+      → k ≡ seen (l .lower) +ℤ pos j → seen k ≡ numberIn l j
+  unfolding numberIn runLimit
+  nth-number x k m a b c n e = back {z = k} n ∙ e ∙ ap (λ z. z +ℤ pos j) (back {z = l .lower} m) ∙ rw (small (l .lower) x m a b, le-leb j 256 c) refl
+
+  pub nth-bound : (s : Held) (i : ℕ) (k : ℤ) (t : Held) → mag k < 2 ^ 63 → k ≡ numberIn l j → bindingsOf t ≡ boundMore i (seen k) (bindingsOf s)
+      → bindingsOf t ≡ boundMore i (numberIn l j) (bindingsOf s)
+  nth-bound s i k t n e g = g ∙ ap (λ z. boundMore i z (bindingsOf s)) (back {z = k} n ∙ e)
 
 -- ---- the domain test of one number
 

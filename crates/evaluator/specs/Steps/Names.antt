@@ -11,8 +11,11 @@ use Rattle.language.specs.Syntax.{Name}
 use Rattle.language.specs.Reader.{Read}
 use Rattle.tokens.specs.declared.Found.{Found}
 use Rattle.tokens.specs.declared.Found.the-variants as found
-use Rattle.tokens.specs.Stored.{kindPart, placePart, payloadPart, nameBytes, spelling, from, lookUp, Named}
+use Rattle.tokens.specs.declared.Seen.{Seen}
+use Rattle.tokens.specs.declared.Seen.the-variants as seen
+use Rattle.tokens.specs.Stored.{kindPart, placePart, payloadPart, nameBytes, spelling, from, Looks, lookUp, Named}
 use Rattle.onepass.specs.Walk.{walkHead}
+use Rattle.evaluator.specs.Steps.Passing.{Skips}
 use Rattle.evaluator.specs.declared.steps.names.Listed.{Listed}
 use Rattle.evaluator.specs.declared.steps.names.Listed.the-variants as listed
 use Rattle.evaluator.specs.declared.steps.names.Headed.{Headed}
@@ -44,7 +47,7 @@ numberKept found.Nothing = 0
 unfoldable pub resolvedWord : List ℕ → List ℕ → ℕ → ℕ
 resolvedWord s ns w = cond (eqb (kindPart w) 1) (w - payloadPart w + nameBytes (payloadPart w) + numberKept (lookUp s (wordSpelling s w) ns 0) * 16) w
 
--- every token stays what it is, and of a table of at most 64 names each name token holds its number
+-- the words resolved: every token stays what it is, and of a table of at most 64 names each name token holds its number
 pub record Resolves (s ns ts ts′ : List ℕ) : Type 0 where
   pub size : length ts′ ≡ length ts
   pub same : (t : List ℕ) (at : ℕ) → from t ts′ at ≡ from t ts at
@@ -72,9 +75,25 @@ indexNumber level w = cond (eqb (kindPart w) 1) (numberBelow level (numberPart w
 
 -- ---- `(`, an index and a comma
 
+-- what the token t at the position a says
+abbrev pub HeadAt : List ℕ → ℕ → ℕ → Seen → Headed → Type 0
+HeadAt ts level a (seen.Token k p x b) (Index i c) = (i ≡ indexNumber level (getD ts a 0)) × Skips ts b c
+HeadAt ts level a (seen.Token k p x b) (Refused r q) = ⊥
+HeadAt ts level a (seen.Refused r p) (Index i c) = ⊥
+HeadAt ts level a (seen.Refused r p) (Refused r′ q) = (r ≡ r′) × (p ≡ q)
+
+-- the token behind the bracket, and its number
+pub record Opens (ts : List ℕ) (level at : ℕ) (r : Headed) : Type 0 where
+  pub behind : ℕ
+  pub skips : Skips ts at behind
+  pub token : Seen
+  pub looks : Looks ts behind token
+  pub answer : HeadAt ts level behind token r
+
 abbrev pub headOutcome : List ℕ → List ℕ → Headed → Outcome (Read ℕ)
 headOutcome s ts (Index i a) = done (record { what = i; rest = from s ts a })
 headOutcome s ts (Refused r p) = refused r p
 
+-- of resolved tokens, the definition's head
 pub record Heads (ts : List ℕ) (level at : ℕ) (r : Headed) : Type 0 where
   pub is : (s ns : List ℕ) (names : List Name) → Named s ns names → Resolved s ns ts → walkHead (take level names) (from s ts at) ≡ headOutcome s ts r

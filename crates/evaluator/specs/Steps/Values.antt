@@ -4,7 +4,7 @@ use mathlib.Core.Bool.{Bool, true, false, cond, _&&_}
 use mathlib.Core.Option.{Option, none, some}
 use mathlib.Core.List.{List}
 use Prim.Native.Nat.{ℕ, _≤_}
-use lib.Dec.{ltb}
+use lib.Dec.{ltb, leb}
 use lib.ListN.{length, getD}
 use lib.IntN.{ℤ, pos, natAbs, _+ℤ_}
 use lib.Signed.{leZ}
@@ -17,12 +17,12 @@ use Rattle.value.specs.declared.Whole.{Whole}
 use Rattle.value.specs.declared.Whole.the-variants.{Number, NotWhole as noNumber}
 use Rattle.value.specs.Decimal.{inRange, negate, wholeOf, ofWhole}
 use Rattle.store.specs.Key.{keyOf}
-use Rattle.store.specs.Table.{Sorted, lookup}
+use Rattle.store.specs.Table.{wordIn, foundRow}
 use Rattle.store.specs.Packed.{unpacked}
 use Rattle.language.specs.Outcome.{Outcome, done, refused}
 use Rattle.language.specs.Ranges.{upFrom}
 use Rattle.language.specs.Scope.{boundTo}
-use Rattle.language.specs.Evaluation.{lengthOf, runOf}
+use Rattle.language.specs.Evaluation.{isNone, lengthOf, runOf}
 use Rattle.language.specs.Evaluation as Evaluation
 use Rattle.evaluator.specs.declared.steps.scope.Scope.{Scope as Held}
 use Rattle.evaluator.specs.declared.steps.values.Answer.{Answer}
@@ -82,27 +82,32 @@ pub record SmallSpan (a b : ℤ) : Type 0 where
   pub high : natAbs b ≤ mantissaLimit
   pub rises : leZ a b ≡ true
 
-pub record LengthIs (l : Limits) (r : ℕ) : Type 0 where
-  pub is : SmallLimits l → r ≡ lengthOf (limitsIn l)
+-- how many numbers lie between them; none where one of them is no value's
+unfoldable pub countOf : Limits → ℕ
+countOf l = cond (leb (natAbs (l .lower)) mantissaLimit) (cond (leb (natAbs (l .upper)) mantissaLimit) (lengthOf (limitsIn l)) 0) 0
+
+-- the run of the index i at p: its length; 8 where it is too long, 7 where the index may not be bound
+unfoldable pub runAnswer : Limits → ℕ → Held → ℕ → Runs
+runAnswer l i s p =
+    cond (leb (countOf l) runLimit)
+    (cond (isNone (boundTo i (bindingsOf s)) && ltb (length (bindingsOf s)) indexLimit) (runs.Count (countOf l)) (runs.Refused BadIndex p))
+    (runs.Refused NotWhole p)
 
 abbrev pub runOutcome : Limits → Runs → Outcome (List ℤ)
 runOutcome l (runs.Count n) = done (upFrom (l .lower) n)
 runOutcome l (runs.Refused r p) = refused r p
 
--- a run, and what its count says: its length, that it is short enough, and that one index more may be bound
+-- what the answer says: with limits that are values' the run, and its length; that it is short enough, and that one index more may
+-- be bound
 pub record RunIs (l : Limits) (i : ℕ) (s : Held) (p : ℕ) (r : Runs) : Type 0 where
   pub is : SmallLimits l → (known : ℕ → List ℤ → Option Value) → runOf (limitsIn l) i (scopeOf known s) p ≡ runOutcome l r
   pub count : SmallLimits l → (n : ℕ) → r ≡ runs.Count n → n ≡ lengthOf (limitsIn l)
   pub short : (n : ℕ) → r ≡ runs.Count n → n ≤ runLimit
   pub room : (n : ℕ) → r ≡ runs.Count n → ltb (length (bindingsOf s)) indexLimit ≡ true
 
--- the j-th number of a run
-pub record NumberIs (l : Limits) (j : ℕ) (k : ℤ) : Type 0 where
-  pub is : natAbs (l .lower) ≤ mantissaLimit → j ≤ runLimit → k ≡ l .lower +ℤ pos j
-
--- an index bound to it
-pub record BindsNth (s : Held) (i : ℕ) (l : Limits) (j : ℕ) (t : Held) : Type 0 where
-  pub is : natAbs (l .lower) ≤ mantissaLimit → j ≤ runLimit → bindingsOf t ≡ boundMore i (l .lower +ℤ pos j) (bindingsOf s)
+-- the j-th number of a run; 0 where the lower limit is no value's, or no run is so long
+unfoldable pub numberIn : Limits → ℕ → ℤ
+numberIn l j = cond (leb (natAbs (l .lower)) mantissaLimit) (cond (leb j runLimit) (l .lower +ℤ pos j) (pos 0)) (pos 0)
 
 -- the j-th subscript against its limits
 abbrev pub insideLimits : Limits → ℤ → Bool
@@ -122,5 +127,6 @@ unfoldable pub wordAnswer : ℕ → ℕ → Option ℕ → Answer
 wordAnswer p a (some w) = answer.Value (unpacked w) a
 wordAnswer p a none = answer.Refused Missing p
 
-pub record KnownIs (ds : List ℕ) (rows i : ℕ) (ks : List ℤ) (p a : ℕ) (r : Answer) : Type 0 where
-  pub is : Sorted ds rows → r ≡ wordAnswer p a (lookup ds rows (keyOf i ks))
+-- the datum of a name and an element, found by halving
+unfoldable pub knownAnswer : List ℕ → ℕ → ℕ → List ℤ → ℕ → ℕ → Answer
+knownAnswer ds rows i ks p a = wordAnswer p a (wordIn ds (foundRow ds rows (keyOf i ks)))

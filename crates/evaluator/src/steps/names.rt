@@ -4,9 +4,10 @@ use tokens::Found;
 use tokens::Seen;
 use tokens::kinds;
 ghost use mathlib.Core.Path.{_≡_};
+ghost use mathlib.Core.List.{map};
 ghost use Prim.Native.Nat.{_≤_};
 ghost use lib.ListN.{getD};
-ghost use Rattle.evaluator.specs.Steps.Names.{numberKept, resolvedWord, Resolves, numberPart, rowWord, listedOf, indexNumber, Heads};
+ghost use Rattle.evaluator.specs.Steps.Names.{numberKept, resolvedWord, numberPart, rowWord, listedOf, indexNumber, Opens};
 
 // A name that the table tells of: its number, sort, number of indices, and the position of what was declared.
 pub enum Listed {
@@ -52,7 +53,7 @@ fn resolved(text: &[u8], names: &[u64], w: u64) -> u64
 
 // Gives each name token its number in the table.
 pub fn resolve(text: &[u8], names: &[u64], tokens: &mut [u64])
-    ensures { λ _. ⌜ Resolves (now (text .entry)) (now (names .entry)) (now (tokens .entry)) (now (tokens .exit)) ⌝ }
+    ensures { λ _. ⌜ now (tokens .exit) ≡ map (resolvedWord (now (text .entry)) (now (names .entry))) (now (tokens .entry)) ⌝ }
 {
     let mut i = 0;
     while i < tokens.len() {
@@ -126,7 +127,7 @@ pub fn index_number(tokens: &[u64], level: usize, at: usize) -> usize
 
 // `(`, an index and a comma, after `SUM` or `S`.
 pub fn head(tokens: &[u64], level: usize, at: usize) -> Headed
-    ensures { λ r. ⌜ Heads (now (tokens .entry)) level at r ⌝ }
+    ensures { λ r. ⌜ Opens (now (tokens .entry)) level at r ⌝ }
 {
     let a = super::passing::skip(tokens, at);
     let token = tokens::token_at(tokens, a);

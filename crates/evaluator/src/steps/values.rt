@@ -13,7 +13,8 @@ ghost use Rattle.rules.specs.Limits.{mantissaLimit, runLimit};
 ghost use Rattle.rational.specs.Integer.{up};
 ghost use Rattle.value.specs.Decimal.{zeroValue, productOf, sumOf, ifInRange};
 ghost use Rattle.store.specs.Element.{listOf, extended};
-ghost use Rattle.evaluator.specs.Steps.Values.{fittedAt, signedValue, wholeAnswer, boundAnswer, SmallSpan, LengthIs, RunIs, NumberIs, BindsNth, Tests, KnownIs};
+ghost use Rattle.evaluator.specs.Steps.Scopes.{bindingsOf, boundMore};
+ghost use Rattle.evaluator.specs.Steps.Values.{fittedAt, signedValue, wholeAnswer, boundAnswer, SmallSpan, countOf, runAnswer, numberIn, Tests, knownAnswer};
 
 // A value and the position behind it, or a refusal and its place.
 pub enum Answer {
@@ -168,9 +169,9 @@ fn span(a: i64, b: i64) -> usize
     (b - a) as usize + 1
 }
 
-// How many numbers lie from the lower to the upper limit.
+// How many numbers lie from the lower to the upper limit, 0 where one of them is no value.
 fn length_of(l: Limits) -> usize
-    ensures { λ r. ⌜ LengthIs l r ⌝ }
+    ensures { λ r. ⌜ r ≡ countOf l ⌝ }
 {
     let a = l.lower;
     let b = l.upper;
@@ -188,7 +189,7 @@ fn length_of(l: Limits) -> usize
 
 // The run of an index from its lower to its upper limit, at p: its length, then whether the index may be bound.
 pub fn run(sc: Scope, l: Limits, i: usize, p: u64) -> Runs
-    ensures { λ r. ⌜ RunIs l i sc p r ⌝ }
+    ensures { λ r. ⌜ r ≡ runAnswer l i sc p ⌝ }
 {
     let n = length_of(l);
     if rules::RUN_LIMIT < n {
@@ -210,7 +211,7 @@ fn nth(a: i64, j: usize) -> i64
 
 // The j-th number of a run by its limits; 0 where they are no values, or the run is never so long.
 pub fn nth_number(l: Limits, j: usize) -> i64
-    ensures { λ r. ⌜ NumberIs l j r ⌝ }
+    ensures { λ r. ⌜ r ≡ numberIn l j ⌝ }
 {
     let a = l.lower;
     if !is_small(a) {
@@ -224,7 +225,7 @@ pub fn nth_number(l: Limits, j: usize) -> i64
 
 // An index bound to the j-th number of its run.
 pub fn bind_nth(sc: Scope, i: usize, l: Limits, j: usize) -> Scope
-    ensures { λ r. ⌜ BindsNth sc i l j r ⌝ }
+    ensures { λ r. ⌜ bindingsOf r ≡ boundMore i (numberIn l j) (bindingsOf sc) ⌝ }
 {
     let k = nth_number(l, j);
     sc.bind(i, k)
@@ -247,9 +248,9 @@ pub fn test(sc: Scope, e: Element, j: usize, b: Bounds, p: u64) -> Tested
 
 // ---- data
 
-// The datum of a name and an element, read at p.
+// The datum of a name and an element, read at p. The table is searched by halving, sorted or not.
 pub fn known(table: &[u64], rows: usize, i: usize, e: Element, p: u64, at: usize) -> Answer
-    ensures { λ r. ⌜ KnownIs (now (table .entry)) rows i (listOf e) p at r ⌝ }
+    ensures { λ r. ⌜ r ≡ knownAnswer (now (table .entry)) rows i (listOf e) p at ⌝ }
 {
     let key = store::key_of(i, e);
     match store::find(table, rows, key) {

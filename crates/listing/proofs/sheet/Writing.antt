@@ -21,10 +21,11 @@ use Rattle.listing.proofs.Lines.{lines-end}
 use Rattle.listing.proofs.Lengths.{line-most}
 use Rattle.store.specs.declared.Element.{Element}
 use Rattle.store.specs.Element.{listOf}
-use Rattle.store.specs.Table.{wordAt}
+use Rattle.store.specs.Key.{nameOf, elementOf}
+use Rattle.store.specs.Table.{keyAt, wordAt}
 use Rattle.store.specs.Packed.{unpacked}
-use Rattle.store.specs.Entries.{NameRead, ElementRead}
 use Rattle.store.proofs.Elements.{length-few}
+use Rattle.store.proofs.Back.{name-back, element-back}
 use Rattle.rows.specs.Bounds.{lowerWord, upperWord}
 use Rattle.listing.specs.Sheet.Columns.{slotAt}
 use Rattle.listing.specs.Sheet.Strings.{nameAt, titleOf, lowerIn, upperIn}
@@ -45,7 +46,7 @@ module _ {l : List ℕ} {n : ℕ} {p : List ℕ} where
 
 module _ (l : List ℕ) (at from : ℕ) (f : from ≡ min at (length l)) {n : ℕ} {p : List ℕ} where
   pub row-written : (s ts cs rows : List ℕ) (less i k w name : ℕ) (v : Value) (title : List ℕ) (e : Element) → length s ≤ 16384 → k ≡ slotAt less i → w ≡ wordAt rows k
-      → v ≡ unpacked w → NameRead rows k name → title ≡ titleOf s ts cs name → ElementRead rows k e
+      → v ≡ unpacked w → name ≡ nameOf (keyAt rows k) → title ≡ titleOf s ts cs name → listOf e ≡ elementOf (keyAt rows k)
       → Written (take (length l - from) (drop from l)) 0 (shownLine (rowLine (i + 1) (leb less i) v title (listOf e))) n p
       → Writes (RowTold s ts cs rows less i) l at (at + n) (putMid from (length l - from) l p)
   row-written s ts cs rows less i k w name v title e h a b c d g x written =
@@ -54,13 +55,13 @@ module _ (l : List ℕ) (at from : ℕ) (f : from ≡ min at (length l)) {n : �
         line = λ z t.
             let key = rw (← a) at (t .key) in
             let right : v ≡ unpacked (wordAt rows (slotAt less i)) = c ∙ ap unpacked (b ∙ ap (wordAt rows) a) in
-            let named : title ≡ titleOf s ts cs (t .constraint) = g ∙ ap (titleOf s ts cs) (d .is (t .constraint) (t .element) (t .keyed) key) in
-            let same : z ≡ rowLine (i + 1) (leb less i) v title (listOf e) = t .is ∙ cc (right, named, x .is (t .constraint) (t .element) (t .keyed) key) in
+            let named : title ≡ titleOf s ts cs (t .constraint) = g ∙ ap (titleOf s ts cs) (d ∙ name-back (keyAt rows k) (t .constraint) (t .element) (t .keyed) key) in
+            let same : z ≡ rowLine (i + 1) (leb less i) v title (listOf e) = t .is ∙ cc (right, named, x ∙ element-back (keyAt rows k) (t .constraint) (t .element) (t .keyed) key) in
             written-from l at from (shownLine z) n p f (rw same written);
       }
 
   pub variable-written : (s ns vs bs : List ℕ) (discrete j a b name : ℕ) (lower : Value) (upper : Option Value) (spelled : List ℕ) (e : Element) → length s ≤ 16384 → a ≡ lowerWord bs j
-      → b ≡ upperWord bs j → lower ≡ lowerIn a → upper ≡ upperIn b → NameRead vs j name → spelled ≡ nameAt s ns name → ElementRead vs j e
+      → b ≡ upperWord bs j → lower ≡ lowerIn a → upper ≡ upperIn b → name ≡ nameOf (keyAt vs j) → spelled ≡ nameAt s ns name → listOf e ≡ elementOf (keyAt vs j)
       → Written (take (length l - from) (drop from l)) 0 (shownLine (varLine (j + 1) (ltb j discrete) lower upper spelled (listOf e))) n p
       → Writes (VariableTold s ns vs bs discrete j) l at (at + n) (putMid from (length l - from) l p)
   variable-written s ns vs bs discrete j a b name lower upper spelled e h ea eb el eu d g x written =
@@ -69,8 +70,8 @@ module _ (l : List ℕ) (at from : ℕ) (f : from ≡ min at (length l)) {n : �
         line = λ z t.
             let low : lower ≡ lowerIn (lowerWord bs j) = el ∙ ap lowerIn ea in
             let high : upper ≡ upperIn (upperWord bs j) = eu ∙ ap upperIn eb in
-            let named : spelled ≡ nameAt s ns (t .name) = g ∙ ap (nameAt s ns) (d .is (t .name) (t .element) (t .keyed) (t .key)) in
-            let same : z ≡ varLine (j + 1) (ltb j discrete) lower upper spelled (listOf e) = t .is ∙ cc (low, high, named, x .is (t .name) (t .element) (t .keyed) (t .key)) in
+            let named : spelled ≡ nameAt s ns (t .name) = g ∙ ap (nameAt s ns) (d ∙ name-back (keyAt vs j) (t .name) (t .element) (t .keyed) (t .key)) in
+            let same : z ≡ varLine (j + 1) (ltb j discrete) lower upper spelled (listOf e) = t .is ∙ cc (low, high, named, x ∙ element-back (keyAt vs j) (t .name) (t .element) (t .keyed) (t .key)) in
             written-from l at from (shownLine z) n p f (rw same written);
       }
 

@@ -28,7 +28,8 @@ use Rattle.tokens.specs.declared.Found.the-variants as found
 use Rattle.tokens.specs.Stored.{token, from, Sees, Looks, Named, Matches}
 use Rattle.tokens.proofs.Moved.{next-is, look-is, is-sum}
 use Rattle.formulas.specs.Cycle.{Subscripts}
-use Rattle.linear.specs.Linear.{Heads, Begins}
+use Rattle.linear.specs.Linear.{variableOf, Heads, Begins}
+use Rattle.linear.proofs.Laws.{begins-of}
 use Rattle.evaluator.proofs.Laws.{stop}
 use Rattle.constraints.specs.Rows.{SideAt}
 use Rattle.matrix.specs.Sides.Answers.{isBare, IsAlone, IsBare}
@@ -180,7 +181,7 @@ module _ (s ns ts : List ℕ) (at : ℕ) (t : Seen) (h : Looks ts at t) where
   unfolding linearAt linearOf readSign
   bare-wrong m p e = record { is = λ names d l a. absurd (refused-done (sym (stop _ _ m p (stop _ _ m p (subst (Sees s ts at) e (h .sees s) .looks))) ∙ a .stands .reads)) }
 
-  module _ (k p x a : ℕ) (e : t ≡ seen.Token k p x a) (v : Found) (b : Begins s ns k p x v) where
+  module _ (k p x a : ℕ) (e : t ≡ seen.Token k p x a) (v : Found) (b : v ≡ variableOf s ns k p x) where
     nexts : next (from s ts at) ≡ read (token s k p x) (from s ts a)
     nexts = next-is s ts at k p x a (subst (Sees s ts at) e (h .sees s))
 
@@ -189,7 +190,7 @@ module _ (s ns ts : List ℕ) (at : ℕ) (t : Seen) (h : Looks ts at t) where
 
     heads : (y : Found) → v ≡ y → (names : List Name) → Named s ns names → Heads (headBy names true (token s k p x .kind)) true k y
     unfolding token
-    heads y f names d = subst (Begins s ns k p x) f b .heads names d true
+    heads y f names d = subst (Begins s ns k p x) f (begins-of s ns p x k v b) .heads names d true
 
     pub bare-other : v ≡ found.Nothing → IsBare s ns ts at false
     bare-other f = record { is = λ names d l z. go names d l z }

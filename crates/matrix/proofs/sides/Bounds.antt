@@ -37,7 +37,8 @@ use Rattle.evaluator.specs.Cycle.{formulaIn, valueOutcome, ValidAnswer, onlyOut
 use Rattle.evaluator.proofs.Names.{only-as}
 use Rattle.gatherer.specs.declared.Numbered.{Numbered}
 use Rattle.gatherer.specs.declared.Numbered.the-variants as numbered
-use Rattle.gatherer.specs.Cycle.{Model, numberOutcome, NumberIs, Heads, Begins}
+use Rattle.gatherer.specs.Cycle.{Model, numberOutcome, NumberIs, Heads, variableSeen, Begins}
+use Rattle.gatherer.proofs.Numbers.{begins-of}
 use Rattle.matrix.specs.declared.sides.Bounded.{Bounded}
 use Rattle.matrix.specs.declared.sides.Bounded.the-variants as bounded
 use Rattle.matrix.specs.Sides.Answers.{isBare, LeftAt, RightAt, NumberOf, boundOutcome, Sound, BoundIs}
@@ -75,7 +76,7 @@ module _ (ns ts ds : List ℕ) (given : ℕ) (xs : List ℕ) (total level : ℕ)
           below = λ w j a z. absurd (let z : _≡_ {A = ℕ} 0 1 = cc in omega arith);
         }
 
-    module _ (k p x a : ℕ) (e : t ≡ seen.Token k p x a) (l : Listed) (b : Begins ns ts level at k l) where
+    module _ (k p x a : ℕ) (e : t ≡ seen.Token k p x a) (l : Listed) (b : l ≡ variableSeen ns ts level at k) where
       -- the token is the side's
       record Stood (w : Model ns ts ds given xs total) (i : ℕ) (d : Spans) (fs : Formulas) (q : ℕ) (y : Listed) : Type 0 where
         pub rest : List Token
@@ -94,7 +95,7 @@ module _ (ns ts ds : List ℕ) (given : ℕ) (xs : List ℕ) (total level : ℕ)
             place = ap (λ (t : Token). t .place) (same-what same) ∙ u .at;
             walks = ap (walkNumber (w .variables) (seenBy (w .world) level) nestingLimit i d q (under (w .world) sc)) (same-rest same) ∙ u .walks (under (w .world) sc);
             heads = subst (λ o. Heads (w .world) o y) (no-mark (seenBy (w .world) level) (kindOf s k p x) i d (ap (λ (t : Token). headBy (seenBy (w .world) level) true (t .kind)) (same-what same) ∙ u .begins))
-                (subst (Begins ns ts level at k) f b .heads p x a (subst (Looks ts at) e h) false refl ds given (w .world));
+                (subst (Begins ns ts level at k) f (begins-of ns ts level at k l b) .heads p x a (subst (Looks ts at) e h) false refl ds given (w .world));
           }
 
       pub of-nothing : l ≡ listed.Nothing → NumberOf ns ts ds given xs total level sc at (numbered.Refused Misplaced p)

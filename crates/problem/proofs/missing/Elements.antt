@@ -20,8 +20,9 @@ use Rattle.store.specs.declared.Found.{Found}
 use Rattle.store.specs.declared.Found.the-variants as found
 use Rattle.store.specs.Element.{listOf, Subscripts}
 use Rattle.store.specs.Key.{nameBound, keyNumber, keyOf}
-use Rattle.store.specs.Table.{rowOf, wordIn, lookup, Finds}
+use Rattle.store.specs.Table.{rowOf, wordIn, lookup, foundRow}
 use Rattle.store.specs.Entries.{Keyed}
+use Rattle.store.proofs.Halving.{finds-row}
 use Rattle.evaluator.specs.declared.steps.scope.Scope.{Scope as HeldScope}
 use Rattle.evaluator.specs.Steps.Scopes.{scopeOf}
 use Rattle.evaluator.specs.Steps.Names.{rowWord}
@@ -40,14 +41,14 @@ use Rattle.problem.specs.Missing.Given.{IsGiven, Declares, DomainGiven, 
 
 -- ---- a value at an element
 
-module _ (ds : List ℕ) (n i : ℕ) (l : List ℤ) (k : Key) (r : Found) (e : keyNumber k ≡ keyOf i l) (f : Finds ds n (keyNumber k) r) where
+module _ (ds : List ℕ) (n i : ℕ) (l : List ℤ) (k : Key) (r : Found) (e : keyNumber k ≡ keyOf i l) (f : r ≡ foundRow ds n (keyNumber k)) where
   pub given-found : (j : ℕ) → r ≡ found.At j → IsGiven ds n i l true
   unfolding lookup wordIn
-  given-found j p = record { is = λ s. rw (ap (rowOf ds n) (sym e) ∙ sym (f .is-row s) ∙ p) }
+  given-found j p = record { is = λ s. rw (ap (rowOf ds n) (sym e) ∙ sym (finds-row ds n (keyNumber k) r f .is-row s) ∙ p) }
 
   pub given-nothing : r ≡ found.Nothing → IsGiven ds n i l false
   unfolding lookup wordIn
-  given-nothing p = record { is = λ s. rw (ap (rowOf ds n) (sym e) ∙ sym (f .is-row s) ∙ p) }
+  given-nothing p = record { is = λ s. rw (ap (rowOf ds n) (sym e) ∙ sym (finds-row ds n (keyNumber k) r f .is-row s) ∙ p) }
 
 none-in : (o : Option ℕ) → isNone (valueIn o) ≡ isNone o
 none-in none = refl

@@ -8,7 +8,7 @@ use Rattle.store.proofs.insert.Tie as tie
 
 -- the place is among the rows, or behind the last
 within : (c : tie.After-known-told) → c .before .at .given .0 .0 ≤ c .before .before .before .before .before .before .args .n
-within c = free-within _ _ _ _ _ (c .before .before .before .locate .ensures) (c .before .at .given .1)
+within c = free-within _ _ _ 0 _ (c .before .before .before .locate .ensures) _ (c .before .at .given .1)
 
 locate-requires : tie.Need-locate-requires
 locate-requires c κs = search needs

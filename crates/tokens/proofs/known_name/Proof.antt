@@ -1,5 +1,5 @@
 -- `tokens::known_name` meets its contract.
-use Rattle.tokens.proofs.Moved.{known-wrong, known-no-name, known-unknown, known-name}
+use Rattle.tokens.proofs.Moved.{at-wrong, at-no-name, at-unknown, at-name}
 use borrow.Author.Needs.{needs}
 use Rattle.tokens.proofs.known_name.Statement.{statement}
 use Rattle.tokens.proofs.known_name.Tie as tie
@@ -14,7 +14,7 @@ known-name-spec =
     (λ c. search needs)  -- enum-known-name
     (λ c. search needs)  -- enum-told
     (λ c. search needs)  -- enum-known-token-2
-    (λ c. search known-name depth 8)  -- returns
-    (λ c. search known-unknown depth 8)  -- returns-2
-    (λ c. search known-no-name depth 7)  -- returns-3
-    (λ c. search known-wrong depth 6))  -- returns-4
+    (λ c. search at-name depth 8)  -- returns
+    (λ c. search at-unknown depth 8)  -- returns-2
+    (λ c. search at-no-name depth 7)  -- returns-3
+    (λ c. search at-wrong depth 6))  -- returns-4

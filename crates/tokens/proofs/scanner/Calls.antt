@@ -6,7 +6,8 @@ use mathlib.Core.Logic.{_⊎_, inl, inr}
 use mathlib.Core.List.{List, [], _∷_}
 use Prim.Native.Nat.{ℕ, zero, suc, _+_, _<_, _≤_}
 use native.Mathlib.Omega.{arith}
-use lib.ListN.{length, getD, take, drop}
+use lib.ListN.{length, getD, take, drop, length-take}
+use lib.Seq.{take-all, getD-take}
 use Rattle.rules.specs.Limits.{byteLimit, nameLength}
 use Rattle.value.specs.Decimal.{Valid}
 use Rattle.lexer.specs.Text.{Token, tokens}
@@ -14,7 +15,7 @@ use Rattle.lexer.specs.View.{isLast}
 use Rattle.tokens.specs.declared.Seen.the-variants as seen
 use Rattle.tokens.specs.Stored.{kindPart, placePart, payloadPart, nameBytes, bytesFrom, spelling, kindOf, token, view, from, Looks}
 use Rattle.tokens.proofs.Tables.{false-true, view-here, view-end}
-use Rattle.tokens.specs.Scanner.Table.{tableSize, valueOf, Holds, Scanned}
+use Rattle.tokens.specs.Scanner.Table.{tableSize, valueOf, ShortName, Holds, Scanned}
 use Rattle.tokens.proofs.scanner.Proper.{Held, Proper, last, more, proper-first, tokens-proper}
 
 -- ---- by kinds
@@ -82,10 +83,17 @@ proper-from s (w ∷ v ∷ ts) (suc at) t l e p = proper-from s (v ∷ ts) at t 
 
 -- ---- the words of a text
 
+taken-names : (u : List ℕ) (i : ℕ) → ((j : ℕ) → j < i → ShortName (getD u j 0)) → (j : ℕ) → j < length (take i u) → ShortName (getD (take i u) j 0)
+taken-names u i f j h = let g : j < i = omega (arith, length-take i u) in rw (getD-take i u j 0 g) (f j g)
+
 -- a table of `scanner::TABLE` words
 pub table-holds : (s t : List ℕ) (r : ℕ) (t′ : List ℕ) → length t ≡ 16385 → Scanned s t r t′ → Holds s (take r t′)
 unfolding tableSize byteLimit
-table-holds s t r t′ e w = w .holds (omega arith)
+table-holds s t r t′ e w = record { all = whole (w .ends); names = taken-names t′ r (w .names) }
+  where
+    whole : (length (tokens s) ≡ r) ⊎ ((r ≡ length t) × (r < tableSize)) → view s (take r t′) ≡ tokens s
+    whole (inl g) = w .words ∙ take-all (length t) (tokens s) (omega (arith, w .within))
+    whole (inr g) = absurd (omega (arith, g .0, g .1))
 
 pub holds-from : (s ts : List ℕ) → Holds s ts → from s ts 0 ≡ tokens s
 unfolding from

@@ -2,11 +2,12 @@
 use mathlib.Core.Path.{_≡_, refl, sym, _∙_, ap, subst}
 use mathlib.Core.Bool.{Bool, true, false}
 use mathlib.Core.List.{List, [], _∷_, _++_, append-assoc}
-use Prim.Native.Nat.{ℕ, _+_, _<_, _≤_}
+use mathlib.Core.Logic.{inl, inr}
+use Prim.Native.Nat.{ℕ, suc, _+_, _<_, _≤_}
 use native.Mathlib.Omega.{arith}
 use native.Mathlib.Numerals.{add-one}
-use lib.ListN.{length, getD, set, take, drop, length-set, length-take}
-use lib.Seq.{drop-drop, drop-set-lt, take-suc-set, getD-take, getD-set-same, getD-set-other}
+use lib.ListN.{length, getD, set, take, drop, length-set}
+use lib.Seq.{length-take-le, take-all, take-at, drop-drop, drop-set-lt, take-suc-set, getD-set-same, getD-set-other}
 use borrow.Author.Count.{below-more}
 use Rattle.rules.specs.declared.Refusal.the-variants.{LongText}
 use Rattle.rules.specs.Limits.{byteLimit}
@@ -46,8 +47,20 @@ filling-start s t c h e = rw e (record {
   names = λ j g. absurd (omega arith);
 })
 
-taken-names : (u : List ℕ) (i : ℕ) → ((j : ℕ) → j < i → ShortName (getD u j 0)) → (j : ℕ) → j < length (take i u) → ShortName (getD (take i u) j 0)
-taken-names u i f j h = let g : j < i = omega (arith, length-take i u) in rw (getD-take i u j 0 g) (f j g)
+-- ---- tokens and their words
+
+length-view : (s l : List ℕ) → length (view s l) ≡ length l
+unfolding view
+length-view s [] = refl
+length-view s (w ∷ l) = ap suc (length-view s l)
+
+-- all tokens, in r words of a table that has as many
+module _ (s t u : List ℕ) (r : ℕ) (e : view s (take r u) ≡ tokens s) (h : r ≤ length u) (g : length u ≡ length t) where
+  all-count : length (tokens s) ≡ r
+  all-count = ap (λ (l : List Token). length l) (sym e) ∙ length-view s (take r u) ∙ length-take-le r u h
+
+  all-words : view s (take r u) ≡ take (length t) (tokens s)
+  all-words = e ∙ sym (take-all (length t) (tokens s) (omega (arith, all-count)))
 
 -- ---- one word more
 
@@ -73,7 +86,7 @@ module _ (s t u : List ℕ) (c : Source) (i : ℕ) (r : Turn) (f : Filling s t u
   turn-packs = packs s (r .place) (r .token) (w .within) (turn-held s c r w)
 
   pub turn-place : r .place ≤ byteLimit
-  turn-place = omega (arith, f .short, w .placed .high (f .inside))
+  turn-place = omega (arith, f .short, f .inside, w .placed .high)
 
   module _ (x : ℕ) (h : i < length u) (e : x ≡ wordOf (kindNumber (r .token)) (r .place) (payloadOf (r .token))) where
     abbrev given : Token
@@ -114,22 +127,25 @@ module _ (s t u : List ℕ) (c : Source) (i : ℕ) (r : Turn) (f : Filling s t u
         record {
           size = length-set u i x ∙ f .size;
           within = omega (arith, f .size);
-          some = λ _. omega arith;
           behind = more-behind;
-          holds = λ _. record {
-            all = more-view ∙ ap (λ (z : List Token). view s (take i u) ++ z) (sym (rw l at (w .tokens))) ∙ f .all;
-            names = taken-names (set u i x) (i + 1) more-names;
-          };
+          words = all-words s t (set u i x) (i + 1) (whole l) (simp length-set (omega arith)) (length-set u i x ∙ f .size);
+          names = more-names;
+          ends = inl (all-count s t (set u i x) (i + 1) (whole l) (simp length-set (omega arith)) (length-set u i x ∙ f .size));
         }
+      where
+        whole : isLast (kindOf s (r .token)) ≡ true → view s (take (i + 1) (set u i x)) ≡ tokens s
+        whole l = more-view ∙ ap (λ (z : List Token). view s (take i u) ++ z) (sym (rw l at (w .tokens))) ∙ f .all
 
 pub filling-out : (s t u : List ℕ) (c : Source) (i : ℕ) → Filling s t u c i → length u ≤ i → Scanned s t i u
 unfolding tableSize
 filling-out s t u c i f h = record {
   size = f .size;
   within = f .within;
-  some = λ g. omega (arith, f .size);
   behind = f .behind;
-  holds = λ g. absurd (omega (arith, f .size, f .short, f .reached, f .inside));
+  words =
+      sym (ap (take (length t)) (sym (f .all)) ∙ take-at (view s (take i u)) (comingAt s c) (length t) (length-view s (take i u) ∙ length-take-le i u (omega (arith, f .size, f .within)) ∙ omega (arith, f .size, f .within)));
+  names = f .names;
+  ends = inr (omega (arith, f .size, f .within), omega (arith, f .short, f .reached, f .inside));
 }
 
 -- ---- a text that is too long, and a table of no words
@@ -140,14 +156,22 @@ scanned-long s [] x g h e = absurd (h refl)
 scanned-long s (y ∷ t) x g h e = record {
   size = refl;
   within = omega arith;
-  some = λ _. omega arith;
   behind = refl;
-  holds = λ _. record {
-    all = ap (λ (z : Token). z ∷ []) (word-held s byteLimit x (Wrong LongText) tt refl (omega arith) e) ∙ sym (tokens-long s g);
-    names = taken-names (x ∷ t) 1 (below-more (λ (j : ℕ). ShortName (getD (x ∷ t) j 0)) 0 (λ j h. absurd (omega arith)) (word-name s byteLimit x (Wrong LongText) tt refl (omega arith) e));
-  };
+  words = all-words s (y ∷ t) (x ∷ t) 1 (whole e) (omega arith) refl;
+  names = below-more (λ (j : ℕ). ShortName (getD (x ∷ t) j 0)) 0 (λ j h. absurd (omega arith)) (word-name s byteLimit x (Wrong LongText) tt refl (omega arith) e);
+  ends = inl (all-count s (y ∷ t) (x ∷ t) 1 (whole e) (omega arith) refl);
 }
+  where
+    whole : x ≡ wordOf 5 byteLimit 1 → view s (x ∷ []) ≡ tokens s
+    whole e = ap (λ (z : Token). z ∷ []) (word-held s byteLimit x (Wrong LongText) tt refl (omega arith) e) ∙ sym (tokens-long s g)
 
 pub scanned-none : (s t : List ℕ) → length t ≡ 0 → Scanned s t 0 t
-unfolding tableSize
-scanned-none s t h = record { size = refl; within = omega arith; some = λ g. omega arith; behind = refl; holds = λ g. absurd (omega arith) }
+unfolding tableSize view
+scanned-none s t h = record {
+  size = refl;
+  within = omega arith;
+  behind = refl;
+  words = rw h refl;
+  names = λ i g. absurd (omega arith);
+  ends = inr (sym h, omega arith);
+}

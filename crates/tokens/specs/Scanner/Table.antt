@@ -2,6 +2,7 @@
 use mathlib.Core.Path.{_≡_}
 use mathlib.Core.Bool.{cond}
 use mathlib.Core.List.{List}
+use mathlib.Core.Logic.{_⊎_}
 use Prim.Native.Nat.{ℕ, _+_, _*_, _/_, _%_, _<_, _≤_}
 use lib.IntN.{pos, natAbs}
 use lib.ListN.{length, getD, take, drop}
@@ -68,11 +69,12 @@ pub record Holds (s ts : List ℕ) : Type 0 where
   pub all : view s ts ≡ tokens s
   pub names : (i : ℕ) → i < length ts → ShortName (getD ts i 0)
 
--- t was lent, r words of it are written, and t′ is what it is then. Where t is too short for the text, nothing is said of
--- the r words.
+-- t was lent, r words of it are written, and t′ is what it is then: the text's first tokens, as many as t has words; all of them,
+-- or so many that a table shorter than `tableSize` is full
 pub record Scanned (s t : List ℕ) (r : ℕ) (t′ : List ℕ) : Type 0 where
   pub size : length t′ ≡ length t
   pub within : r ≤ length t
-  pub some : 0 < length t → 0 < r
   pub behind : drop r t′ ≡ drop r t
-  pub holds : tableSize ≤ length t → Holds s (take r t′)
+  pub words : view s (take r t′) ≡ take (length t) (tokens s)
+  pub names : (i : ℕ) → i < r → ShortName (getD t′ i 0)
+  pub ends : (length (tokens s) ≡ r) ⊎ ((r ≡ length t) × (r < tableSize))

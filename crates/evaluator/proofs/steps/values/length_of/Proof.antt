@@ -14,4 +14,4 @@ length-of-spec =
     (λ c κs. search needs)  -- is-small-requires-2
     (λ c. search length-high depth 6)  -- returns-3
     (λ c κs. span-small _ _ _ _ (c .before .before .before .is-small .ensures) (c .before .before .if2 .left) (c .before .is-small2 .ensures) (c .if3 .left) (c .before .before .before .before .if1 .left))  -- span-requires
-    (λ c. search length-span depth 6))  -- returns-4
+    (λ c. search length-span depth 12))  -- returns-4

@@ -12,4 +12,4 @@ nth-number-spec =
     (λ c. search nth-wide depth 6)  -- returns
     (λ c. search nth-beyond depth 6)  -- returns-2
     (λ c κs. nth-may (seen (c .before .before .before .before .args .l .lower)) _ _ (c .before .before .is-small .ensures) (c .before .if1 .left) (c .if2 .left))  -- nth-requires
-    (λ c. search nth-number depth 7))  -- returns-3
+    (λ c. search nth-number depth 11))  -- returns-3

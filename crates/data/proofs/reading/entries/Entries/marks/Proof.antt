@@ -1,7 +1,7 @@
 -- `entries::Entries::marks` meets its contract.
 use Prim.Native.Nat.{_-_}
 use Rattle.data.specs.Reading.Entries.{entriesOf}
-use Rattle.data.proofs.reading.Marks.{Marking, marking-start, marking-fixed, marking-marked, marking-end}
+use Rattle.data.proofs.reading.Marks.{Marking, marking-start, marking-fixed, marking-marked, marking-end, entries-few}
 use borrow.Author.Needs.{needs}
 use Rattle.data.proofs.reading.entries.Entries.marks.Statement.{statement}
 use Rattle.data.proofs.reading.entries.Entries.marks.Tie as tie
@@ -30,4 +30,4 @@ marks-spec =
     (λ c κs. search needs)  -- with-requires
     (λ c. search needs)  -- loop-less-2
     (λ c. search marking-marked depth 10)  -- loop-again-2
-    (λ c. search marking-end depth 7))  -- returns
+    (λ c. search (marking-end, entries-few) depth 8))  -- returns

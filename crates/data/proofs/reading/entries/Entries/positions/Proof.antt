@@ -3,6 +3,7 @@ use Prim.Native.Nat.{_-_}
 use Rattle.data.specs.Reading.Few.{numbersOf}
 use Rattle.data.specs.Reading.Entries.{entriesOf}
 use Rattle.data.proofs.reading.Marks.{Ordering, ordering-start, ordering-on, ordering-end}
+use Rattle.data.proofs.reading.Lists.{length-few}
 use borrow.Author.Needs.{needs}
 use Rattle.data.proofs.reading.entries.Entries.positions.Statement.{statement}
 use Rattle.data.proofs.reading.entries.Entries.positions.Tie as tie
@@ -28,4 +29,4 @@ positions-spec =
     (λ c. search needs)  -- add-k
     (λ c. search needs)  -- loop-less
     (λ c. search ordering-on depth 9)  -- loop-again
-    (λ c. search ordering-end depth 7))  -- returns
+    (λ c. search (ordering-end, length-few) depth 8))  -- returns
