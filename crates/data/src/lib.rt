@@ -1,10 +1,10 @@
 // The data section, carried out as it is read, into a table that holds the store.
-pub mod carrying;
-pub mod entering;
-pub mod layouts;
-pub mod reading;
-pub mod running;
-pub mod sections;
+mod carrying;
+mod entering;
+mod layouts;
+mod reading;
+mod running;
+mod sections;
 
 use sections::Section;
 use tokens::Move;

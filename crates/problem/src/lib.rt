@@ -1,6 +1,6 @@
 // The problem of a model, generated from the model's tables into tables of its own: all data given, the variables numbered, the
 // objective, and each constraint at each element.
-pub mod missing;
+mod missing;
 pub mod variables;
 
 use evaluator::Passed;
