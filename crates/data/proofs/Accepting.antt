@@ -18,6 +18,8 @@ use Rattle.language.specs.Reader.{follow, asRead, lift}
 use Rattle.language.specs.Evaluation.{wholeAt, within}
 use Rattle.language.specs.Store.{Store, Portion, scopeOf, wholeIf, accept}
 use Rattle.language.specs.Data.{readNumber}
+use Rattle.language.specs.Model.{whatOf}
+use Rattle.onepass.proofs.Steps.{what-as}
 use Rattle.tokens.specs.Stored.{from}
 use Rattle.onepass.proofs.WalkedDomain.{within-walk}
 use Rattle.store.specs.declared.Element.{Element}
@@ -25,8 +27,8 @@ use Rattle.store.specs.Element.{listOf}
 use Rattle.store.specs.Key.{nameBound}
 use Rattle.evaluator.specs.declared.Passed.{Passed}
 use Rattle.evaluator.specs.declared.Passed.the-variants as passed
-use Rattle.evaluator.specs.Cycle.{passedOutcome, onlyOutcome, WithinIs}
-use Rattle.evaluator.proofs.Names.{size-count, only-as}
+use Rattle.evaluator.specs.Cycle.{passedOutcome, WithinIs}
+use Rattle.evaluator.proofs.Names.{size-count}
 use Rattle.data.specs.declared.reading.numbers.Numbered.{Numbered}
 use Rattle.data.specs.declared.reading.numbers.Numbered.the-variants as number
 use Rattle.data.specs.Reading.Readers.{Says, numbered, Number as Signed, numberIn}
@@ -71,8 +73,8 @@ module _ (ns ts ds : List ℕ) (given : ℕ) (h : Worked) (e : Element) (p : ℕ
     tested s x a st k o q =
         let d = a .portrays .domain in
         rw (a .portrays .place)
-        (sym (only-as (within (x .domain) (listOf e) (scopeOf st) (h .place)) (d .rest))
-        ∙ ap onlyOutcome (sym (within-walk (take (h .name) (a .ground .names)) (x .domain) (listOf e) (a .long ∙ size-count (x .domain)) (scopeOf st) (h .place) (from s ts (h .start)) (d .rest) (d .reads)))
+        (sym (what-as (within (x .domain) (listOf e) (scopeOf st) (h .place)) (d .rest))
+        ∙ ap whatOf (sym (within-walk (take (h .name) (a .ground .names)) (x .domain) (listOf e) (a .long ∙ size-count (x .domain)) (scopeOf st) (h .place) (from s ts (h .start)) (d .rest) (d .reads)))
         ∙ g .is (world s ns ts ds given st (a .ground) k) (a .small) ∙ ap passedOutcome q)
 
     pub accept-outside : (n : Refusal) (q : ℕ) (ds′ : List ℕ) → t ≡ passed.Refused n q → Accepts ns ts ds given h e p v (accepted.Refused n q) ds′

@@ -22,7 +22,8 @@ use Rattle.language.specs.Reader.{Reader, Read, follow, asRead, _>>=_, give, li
 use Rattle.language.specs.Formulas.{readSign}
 use Rattle.language.specs.Scope.{Scope}
 use Rattle.language.specs.Evaluation.{wholeAt, Limits}
-use Rattle.onepass.specs.Walk.{Walk, negatedValue, walkTerm, walkFormula, walkPart, walkLimits, walkInside, valueAt}
+use Rattle.language.specs.Numbering.{signed}
+use Rattle.onepass.specs.Walk.{Walk, walkTerm, walkFormula, walkPart, walkLimits, walkInside, valueAt}
 use Rattle.onepass.specs.Entries.{read}
 use Rattle.onepass.proofs.Steps.{on}
 use Rattle.tokens.specs.Stored.{from}
@@ -81,11 +82,11 @@ whole-valid p a v h = go (wholeOf v)
     go noNumber = tt
 
 module _ (b : Bool) (v : Value) (h : Valid v) where
-  pub signed-is : signedValue b v ≡ negatedValue b v
+  pub signed-is : signedValue b v ≡ signed b v
   unfolding signedValue
   signed-is = go b
     where
-      go : (b : Bool) → signedValue b v ≡ negatedValue b v
+      go : (b : Bool) → signedValue b v ≡ signed b v
       go true = valid-negated v h
       go false = refl
 
@@ -222,7 +223,7 @@ module _ (ns ts ds : List ℕ) (given level : ℕ) (sc : Held) where
 
   module _ (n at : ℕ) (x : Lead) (l : Leads ts at x) where
     formulaRest : List Name → Scope → Bool → Reader Value
-    formulaRest names s b = termIn n names s >>= (λ v. summandsIn n tokenLimit (negatedValue b v) names s)
+    formulaRest names s b = termIn n names s >>= (λ v. summandsIn n tokenLimit (signed b v) names s)
 
     -- the sign that was read
     led-refused : (m : Refusal) (p : ℕ) → x ≡ lead.Refused m p → (w : World ns ts ds given) → readSign (tokensAt w at) ≡ refused m p
@@ -257,7 +258,7 @@ module _ (ns ts ds : List ℕ) (given level : ℕ) (sc : Held) where
           record {
             is = λ w g.
                 let y = value-valid h f w g in
-                let j : u ≡ negatedValue b v = i ∙ signed-is b v y in
+                let j : u ≡ signed b v = i ∙ signed-is b v y in
                 led-sign b a e w _
                 (on _ _ v (tokensAt w c) _ (value-is h f w g)
                 (subst (λ u. summandsIn n tokenLimit u (seenBy w level) (under w sc) (tokensAt w c) ≡ valueOutcome (w .text) ts z) j (k .is w g (subst Valid (sym i) (signed-valid b v y)))));

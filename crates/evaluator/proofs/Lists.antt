@@ -20,6 +20,7 @@ use Rattle.language.specs.Syntax.{Name, Spans, point, span}
 use Rattle.language.specs.Reader.{Reader, Read, follow, _>>=_, give, lift}
 use Rattle.language.specs.Scope.{Scope, bind}
 use Rattle.language.specs.Evaluation.{wholeAt}
+use Rattle.language.specs.Model.{whatOf}
 use Rattle.onepass.specs.Walk.{skip, walkPart, walkList, walkSubscripts, walkInside, walkWithin, inDomainWalk, Bounds}
 use Rattle.onepass.specs.Entries.{read}
 use Rattle.onepass.proofs.Steps.{on}
@@ -42,7 +43,7 @@ use Rattle.evaluator.specs.declared.Entered.{Entered}
 use Rattle.evaluator.specs.declared.Entered.the-variants as entered
 use Rattle.evaluator.specs.declared.Passed.the-variants as passed
 use Rattle.evaluator.specs.Tables.{World}
-use Rattle.evaluator.specs.Cycle.{limitIn, entryIn, boundsOutcome, onlyOutcome, seenBy, under, nothingBound, tokensAt, Wholes, EntryIs, SubscriptsAre, WithinIs}
+use Rattle.evaluator.specs.Cycle.{limitIn, entryIn, boundsOutcome, seenBy, under, nothingBound, tokensAt, Wholes, EntryIs, SubscriptsAre, WithinIs}
 use Rattle.evaluator.proofs.Laws.{regroup, no-whole, whole-is, whole-small}
 
 -- ---- subscripts
@@ -160,13 +161,13 @@ module _ (n p count : ℕ) (ns ts ds : List ℕ) (given level : ℕ) (sc : Held)
 module _ (ns ts ds : List ℕ) (given level at : ℕ) (e : Element) (p : ℕ) where
   -- the test of all numbers from the tree's or the code's scope
   abbrev testOf : World ns ts ds given → List ℤ → Scope → ℕ → Outcome (Unit {0})
-  testOf w ks s a = onlyOutcome (walkWithin (seenBy w level) (inDomainWalk (seenBy w level)) ks s p (tokensAt w a))
+  testOf w ks s a = whatOf (walkWithin (seenBy w level) (inDomainWalk (seenBy w level)) ks s p (tokensAt w a))
 
   -- the first j numbers have been tested and bound, and the test goes on from a
   pub record WithinOn (sc : Held) (a j : ℕ) : Type 0 where
     pub same : (w : World ns ts ds given) → Subscripts (listOf e)
-        → onlyOutcome (walkWithin (seenBy w level) (inDomainWalk (seenBy w level)) (drop j (listOf e)) (under w sc) p (tokensAt w a))
-        ≡ onlyOutcome (walkWithin (seenBy w level) (inDomainWalk (seenBy w level)) (listOf e) (nothingBound w) p (tokensAt w at))
+        → whatOf (walkWithin (seenBy w level) (inDomainWalk (seenBy w level)) (drop j (listOf e)) (under w sc) p (tokensAt w a))
+        ≡ whatOf (walkWithin (seenBy w level) (inDomainWalk (seenBy w level)) (listOf e) (nothingBound w) p (tokensAt w at))
     pub small : World ns ts ds given → Subscripts (listOf e) → Small sc
     pub bound : Subscripts (listOf e) → length (bindingsOf sc) ≡ j
     pub within : j ≤ length (listOf e)
@@ -196,12 +197,12 @@ module _ (ns ts ds : List ℕ) (given level at : ℕ) (e : Element) (p : ℕ) wh
     testRest : World ns ts ds given → Bounds → Reader (Unit {0})
     testRest w b = lift (check Outside p (leZ (b .limits .lower) number && leZ number (b .limits .upper))) >>= (λ _. walkWithin (seenBy w level) (inDomainWalk (seenBy w level)) (drop (j + 1) (listOf e)) (bind (b .number) number (under w sc)) p)
 
-    entered-at : (z : Entered) → y ≡ z → (w : World ns ts ds given) → (s : Subscripts (listOf e)) → testOf w (listOf e) (nothingBound w) at ≡ onlyOutcome (follow (boundsOutcome (w .text) ts z) (testRest w))
+    entered-at : (z : Entered) → y ≡ z → (w : World ns ts ds given) → (s : Subscripts (listOf e)) → testOf w (listOf e) (nothingBound w) at ≡ whatOf (follow (boundsOutcome (w .text) ts z) (testRest w))
     unfolding walkWithin testRest entryIn nestingLimit number
     entered-at z i w s =
         sym (o .same w s)
         ∙ ap (λ ks. testOf w ks (under w sc) a) next
-        ∙ ap (λ x. onlyOutcome (follow x (testRest w))) (k .is w (o .small w s) ∙ ap (boundsOutcome (w .text) ts) i)
+        ∙ ap (λ x. whatOf (follow x (testRest w))) (k .is w (o .small w s) ∙ ap (boundsOutcome (w .text) ts) i)
       where
         next : drop j (listOf e) ≡ number ∷ drop (j + 1) (listOf e)
         next = let d : j + 1 ≡ suc j = omega arith in rw d (drop-cons (listOf e) j (pos 0) (omega arith))

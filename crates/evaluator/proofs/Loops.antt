@@ -19,7 +19,8 @@ use Rattle.language.specs.Syntax.{Name}
 use Rattle.language.specs.Reader.{Reader, Read, follow, asRead, _>>=_, give, lift, isMark}
 use Rattle.language.specs.Formulas.{isSum}
 use Rattle.language.specs.Scope.{Scope}
-use Rattle.onepass.specs.Walk.{Walk, skip, negatedValue, walkFactors, walkSummands}
+use Rattle.language.specs.Numbering.{signed}
+use Rattle.onepass.specs.Walk.{Walk, skip, walkFactors, walkSummands}
 use Rattle.onepass.specs.Entries.{read}
 use Rattle.onepass.proofs.Steps.{on}
 use Rattle.tokens.specs.declared.Seen.{Seen}
@@ -183,7 +184,7 @@ module _ (ns ts ds : List ℕ) (given level : ℕ) (sc : Held) (at : ℕ) (v : V
         module _ (x p y b : ℕ) (e : t ≡ seen.Token x p y b) where
           -- the sum or the difference
           plus : Value → Fit
-          plus z = sumOf u (negatedValue (eqb x 45) z)
+          plus z = sumOf u (signed (eqb x 45) z)
 
           summands-turn : (c : Bool) → (eqb x 43 || eqb x 45) ≡ c → (w : World ns ts ds given)
               → summandsIn n k u (seenBy w level) (under w sc) (tokensAt w a) ≡ turn (termIn n) plus (summandsIn n (k - 1)) p u (seenBy w level) (under w sc) c (tokensAt w a)
@@ -198,8 +199,8 @@ module _ (ns ts ds : List ℕ) (given level : ℕ) (sc : Held) (at : ℕ) (v : V
               go (suc k) m =
                   let d : suc k - 1 ≡ k = omega arith in
                   on _ _ (token (w .text) x p y) (tokensAt w a) _ (look-is (w .text) ts a x p y b (subst (Sees (w .text) ts a) e (h .sees (w .text))))
-                  (ap (λ c. turn (termIn n) (λ z. sumOf u (negatedValue (isMark minusSign (token (w .text) x p y)) z)) (summandsIn n k) p u (seenBy w level) (under w sc) c (tokensAt w a)) sums
-                  ∙ ap (λ (m : Bool). turn (termIn n) (λ z. sumOf u (negatedValue m z)) (summandsIn n k) p u (seenBy w level) (under w sc) c (tokensAt w a)) (is-mark (w .text) x p y 45 (omega arith))
+                  (ap (λ c. turn (termIn n) (λ z. sumOf u (signed (isMark minusSign (token (w .text) x p y)) z)) (summandsIn n k) p u (seenBy w level) (under w sc) c (tokensAt w a)) sums
+                  ∙ ap (λ (m : Bool). turn (termIn n) (λ z. sumOf u (signed m z)) (summandsIn n k) p u (seenBy w level) (under w sc) c (tokensAt w a)) (is-mark (w .text) x p y 45 (omega arith))
                   ∙ ap (λ k. turn (termIn n) plus (summandsIn n k) p u (seenBy w level) (under w sc) c (tokensAt w a)) (sym d))
 
           pub summands-end : (eqb x 43 || eqb x 45) ≡ false → Continues (summandsIn n tokenLimit) ns ts ds given level sc at v (answer.Value u a)
@@ -230,4 +231,4 @@ module _ (ns ts ds : List ℕ) (given level : ℕ) (sc : Held) (at : ℕ) (v : V
               summands-on s c′ d′ =
                   loop-on (summandsIn n) k a u o (k - 1) c′ s
                   (λ w g y′. to-sum w ∙ joined-on (termIn n) a t h x p y b e r f plus (summandsIn n (k - 1)) z c d q w g (exact-sum w g y′) s c′ d′)
-                  (λ w g y′. subst ValidAnswer (sym (exact-sum w g y′) ∙ d′) (fitted-valid p c (plus z) (sum-valid u (negatedValue (eqb x 45) z))))
+                  (λ w g y′. subst ValidAnswer (sym (exact-sum w g y′) ∙ d′) (fitted-valid p c (plus z) (sum-valid u (signed (eqb x 45) z))))

@@ -20,9 +20,10 @@ use Rattle.language.specs.Syntax
 use Rattle.language.specs.Reader.{asRead}
 use Rattle.language.specs.Scope.{unbound, boundTo}
 use Rattle.language.specs.Evaluation.{eval, within}
+use Rattle.language.specs.Model.{whatOf}
 use Rattle.onepass.specs.Walk.{walkInside, walkFound, walkNamed, walkDatum, walkSubscripts}
 use Rattle.onepass.specs.Entries.{read, indexCount}
-use Rattle.onepass.proofs.Steps.{on, same-what}
+use Rattle.onepass.proofs.Steps.{on, same-what, what-as}
 use Rattle.onepass.proofs.Walked.{walked}
 use Rattle.onepass.proofs.WalkedDomain.{within-walk, subscripts-count}
 use Rattle.tokens.specs.Stored.{size, Shaped}
@@ -47,7 +48,7 @@ use Rattle.evaluator.specs.declared.Numbers.the-variants as numbers
 use Rattle.evaluator.specs.declared.Passed.{Passed}
 use Rattle.evaluator.specs.declared.Passed.the-variants as passed
 use Rattle.evaluator.specs.Tables.{DomainAt, FormulaAt, Stands, valueIn, World}
-use Rattle.evaluator.specs.Cycle.{formulaIn, valueOutcome, ValidAnswer, numbersOutcome, SmallNumbers, passedOutcome, onlyOutcome, seenBy, under, nothingBound, tokensAt, Values, SubscriptsAre, WithinIs, KnownAs, Told, NamedIs, DatumIs}
+use Rattle.evaluator.specs.Cycle.{formulaIn, valueOutcome, ValidAnswer, numbersOutcome, SmallNumbers, passedOutcome, seenBy, under, nothingBound, tokensAt, Values, SubscriptsAre, WithinIs, KnownAs, Told, NamedIs, DatumIs}
 use Rattle.evaluator.proofs.Laws.{stop}
 
 -- ---- lists of names
@@ -77,10 +78,6 @@ as-refused (refused k q) l m p e = cc
 as-done : {A : Type 0} (o : Outcome A) (l : List Token) (a : A) (r : List Token) → asRead o l ≡ read a r → o ≡ done a
 as-done (done b) l a r e = ap done (same-what e)
 as-done (refused k q) l a r e = absurd (let z : _≡_ {A = ℕ} 0 1 = cc in omega arith)
-
-pub only-as : {A : Type 0} (o : Outcome A) (l : List Token) → onlyOutcome (asRead o l) ≡ o
-only-as (done a) l = refl
-only-as (refused m p) l = refl
 
 pub size-count : (d : Spans) → size d ≡ indexCount d
 unfolding size indexCount
@@ -217,7 +214,7 @@ module _ (ns ts ds : List ℕ) (given level : ℕ) (sc : Held) (n i c q p at : �
     unfolding unbound scopeOf
     within-at z j w g d b s =
         let count = subscripts-count (walkInside (seenBy w level) n) d (under w sc) p (tokensAt w at) (listOf e) (tokensAt w a) (numbers-at _ f w g d b s) in
-        sym (ap onlyOutcome (within-walk (seenBy w i) d (listOf e) count (nothingBound w) p (tokensAt w q) (b .rest) (b .reads)) ∙ only-as (within d (listOf e) (nothingBound w) p) (b .rest))
+        sym (ap whatOf (within-walk (seenBy w i) d (listOf e) count (nothingBound w) p (tokensAt w q) (b .rest) (b .reads)) ∙ what-as (within d (listOf e) (nothingBound w) p) (b .rest))
         ∙ k .is w (small w g d b s) ∙ ap passedOutcome j
 
     pub datum-outside : (m : Refusal) (o : ℕ) → t ≡ passed.Refused m o → DatumIs n i c q p ns ts ds given level sc at (answer.Refused m o)

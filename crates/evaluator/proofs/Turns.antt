@@ -19,7 +19,9 @@ use Rattle.language.specs.Outcome.{Outcome, done, refused, fitting, _>>=_}
 use Rattle.language.specs.Scope.{bind}
 use Rattle.language.specs.Ranges.{upFrom}
 use Rattle.language.specs.Evaluation.{lengthOf, each, addTo}
-use Rattle.onepass.specs.Walk.{walkInside, walkTurns, walkBody, valueOnly, restAs, behindBracket}
+use Rattle.language.specs.Reader.{asRead}
+use Rattle.language.specs.Model.{whatOf}
+use Rattle.onepass.specs.Walk.{walkInside, walkTurns, walkBody, behindBracket}
 use Rattle.onepass.specs.Entries.{read}
 use Rattle.evaluator.specs.declared.steps.scope.Scope.{Scope as Held}
 use Rattle.evaluator.specs.declared.steps.values.Answer.{Answer}
@@ -60,7 +62,7 @@ nth-small l j h b = go (l .lower) (l .upper) (l .lower +ℤ pos j) (h .low) (h .
 module _ (n i p : ℕ) (ns ts ds : List ℕ) (given level : ℕ) (sc : Held) (at : ℕ) (l : code.Limits) (k : ℕ) where
   -- what the body adds at a number, and the turns from a number on
   pub added : World ns ts ds given → ℤ → Value → Outcome Value
-  added w x v = addTo p v (valueOnly (walkInside (seenBy w level) n (bind i x (under w sc)) (tokensAt w at)))
+  added w x v = addTo p v (whatOf (walkInside (seenBy w level) n (bind i x (under w sc)) (tokensAt w at)))
 
   -- with the sum v before the j-th turn the turns give what they give from the start
   pub record TurnsOn (v : Value) (j : ℕ) : Type 0 where
@@ -79,7 +81,7 @@ module _ (n i p : ℕ) (ns ts ds : List ℕ) (given level : ℕ) (sc : Held) (at
   unfolding walkBody walkTurns added
   body-stops m q r e f =
       record {
-        is = λ w g y. ap (λ o. restAs o (behindBracket 0 (tokensAt w at))) (f w g y) ∙ sym (ap (valueOutcome (w .text) ts) e);
+        is = λ w g y. ap (λ o. asRead o (behindBracket 0 (tokensAt w at))) (f w g y) ∙ sym (ap (valueOutcome (w .text) ts) e);
         valid = λ w g y. subst ValidAnswer (sym e) tt;
       }
 
@@ -88,7 +90,7 @@ module _ (n i p : ℕ) (ns ts ds : List ℕ) (given level : ℕ) (sc : Held) (at
     unfolding walkBody walkTurns added each
     body-end end h f =
         record {
-          is = λ w g y. ap (λ o. restAs o (behindBracket 0 (tokensAt w at))) (sym (o .same w g y) ∙ last w) ∙ ap (read v) (f .is (w .text));
+          is = λ w g y. ap (λ o. asRead o (behindBracket 0 (tokensAt w at))) (sym (o .same w g y) ∙ last w) ∙ ap (read v) (f .is (w .text));
           valid = o .valid;
         }
       where
@@ -122,7 +124,7 @@ module _ (n i p : ℕ) (ns ts ds : List ℕ) (given level : ℕ) (sc : Held) (at
       pub body-refused : (q : Refusal) (s : ℕ) → r ≡ answer.Refused q s → BodyIs n i p ns ts ds given level sc at l k r
       unfolding added
       body-refused q s e =
-          body-stops q s r e (λ w g y. sym (o .same w g y) ∙ turn w (refused q s) (ap (λ x. addTo p v (valueOnly x)) (body-at _ e w g y)))
+          body-stops q s r e (λ w g y. sym (o .same w g y) ∙ turn w (refused q s) (ap (λ x. addTo p v (whatOf x)) (body-at _ e w g y)))
 
       module _ (z : Value) (a : ℕ) (e : r ≡ answer.Value z a) (end : ℕ) (q : Answer) (f : q ≡ fittedAt p end (ifInRange v (signedValue false z) (sumOf v (signedValue false z)))) where
         exact : World ns ts ds given → Small sc → Ready sc l k → q ≡ fittedAt p end (sumOf v z)
@@ -131,7 +133,7 @@ module _ (n i p : ℕ) (ns ts ds : List ℕ) (given level : ℕ) (sc : Held) (at
 
         sum-at : (w : World ns ts ds given) → Small sc → Ready sc l k → added w (l .lower +ℤ pos j) v ≡ fitting p (sumOf v z)
         unfolding added
-        sum-at w g y = ap (λ x. addTo p v (valueOnly x)) (body-at _ e w g y)
+        sum-at w g y = ap (λ x. addTo p v (whatOf x)) (body-at _ e w g y)
 
         pub body-unfit : (c : Refusal) (s : ℕ) → q ≡ answer.Refused c s → BodyIs n i p ns ts ds given level sc at l k q
         unfolding fittedAt

@@ -18,6 +18,7 @@ use Rattle.language.specs.Reader.{Reader, Read, _>>=_, give, lift, next, find}
 use Rattle.language.specs.Scope.{Scope}
 use Rattle.language.specs.Ranges.{upFrom}
 use Rattle.language.specs.Evaluation.{wholeAt, Limits, lengthOf}
+use Rattle.language.specs.Model.{whatOf}
 use Rattle.onepass.specs.Walk.{Walk, skip, nameNumber, walkFactors, walkTerm, walkSummands, walkPart, walkBody, walkLimits, walkSum, walkSubscripts, walkDatum, walkFound, walkPrimary, walkInside, valueAt, Bounds, walkEntry, walkWithin, inDomainWalk}
 use Rattle.tokens.specs.Stored.{from, size, Shaped}
 use Rattle.store.specs.declared.Element.{Element}
@@ -130,10 +131,6 @@ abbrev pub passedOutcome : Passed → Outcome (Unit {0})
 passedOutcome passed.Inside = done tt
 passedOutcome (passed.Refused r p) = refused r p
 
-abbrev pub onlyOutcome : {A : Type 0} → Outcome (Read A) → Outcome A
-onlyOutcome (done x) = done (x .what)
-onlyOutcome (refused r p) = refused r p
-
 -- ---- contracts
 
 module _ {ns ts ds : List ℕ} {given : ℕ} (w : World ns ts ds given) where
@@ -201,7 +198,7 @@ pub record BodyIs (n i p : ℕ) (ns ts ds : List ℕ) (given level : ℕ) (sc : 
 -- the domain test of the numbers of e, at the declared domain's tokens and with nothing bound
 pub record WithinIs (ns ts ds : List ℕ) (given level at : ℕ) (e : Element) (p : ℕ) (r : Passed) : Type 0 where
   pub is : (w : World ns ts ds given) → Subscripts (listOf e)
-      → onlyOutcome (walkWithin (seenBy w level) (inDomainWalk (seenBy w level)) (listOf e) (nothingBound w) p (tokensAt w at)) ≡ passedOutcome r
+      → whatOf (walkWithin (seenBy w level) (inDomainWalk (seenBy w level)) (listOf e) (nothingBound w) p (tokensAt w at)) ≡ passedOutcome r
 
 -- ---- a name
 

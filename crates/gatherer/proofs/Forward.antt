@@ -19,11 +19,12 @@ use Rattle.language.specs.Outcome.{Outcome, done, refused, orRefuse, fitting}
 use Rattle.language.proofs.Outcome.{refused-done}
 use Rattle.language.specs.Syntax.{Spans, Name, Sort, point, span}
 use Rattle.language.specs.Syntax
-use Rattle.language.specs.Reader.{Reader, _>>=_, give, refuse, lift, passed, next, look, isMark, Used, find}
+use Rattle.language.specs.Reader.{Reader, _>>=_, give, refuse, lift, passed, next, look, isMark, Used, find, asRead}
 use Rattle.language.specs.Formulas.{Signed, isSum, readSign}
 use Rattle.language.specs.Scope.{Scope, unbound}
 use Rattle.language.specs.Evaluation.{wholeAt, Limits, runOf, eval, within}
-use Rattle.onepass.specs.Walk.{Walk, skip, nameNumber, opensBracket, closesBracket, behindBracket, negatedValue, restAs, walkFactors, walkTerm, walkSummands, walkFormula, walkPart, walkTurns, walkBody, walkHead, walkLimits, walkSum, walkList, walkSubscripts, walkDatum, walkNamed, walkFound, walkPrimaryBy, walkPrimary, walkInside}
+use Rattle.language.specs.Numbering.{signed}
+use Rattle.onepass.specs.Walk.{Walk, skip, nameNumber, opensBracket, closesBracket, behindBracket, walkFactors, walkTerm, walkSummands, walkFormula, walkPart, walkTurns, walkBody, walkHead, walkLimits, walkSum, walkList, walkSubscripts, walkDatum, walkNamed, walkFound, walkPrimaryBy, walkPrimary, walkInside}
 use Rattle.onepass.specs.Entries.{read}
 use Rattle.onepass.proofs.Steps.{after-read, same-rest}
 use Rattle.tokens.specs.declared.Seen.{Seen}
@@ -108,7 +109,7 @@ behind-forward (suc d) (t ∷ l) = pick (opensBracket t) (closesBracket t) (behi
     pick false true x y z = omega arith
     pick false false x y z = omega arith
 
-rest-forward : (o : Outcome Value) (l : List Token) (v : Value) (k : List Token) → restAs o (behindBracket 0 l) ≡ read v k → length k ≤ length l
+rest-forward : (o : Outcome Value) (l : List Token) (v : Value) (k : List Token) → asRead o (behindBracket 0 l) ≡ read v k → length k ≤ length l
 rest-forward (done a) l v k e = omega (arith, ap length (same-rest e), behind-forward 0 l)
 rest-forward (refused n p) l v k e = absurd (refused-done e)
 
@@ -144,13 +145,13 @@ module _ (F : Walk) (f : Forwards F) where
   summands-forward zero s v = give-forward v
   summands-forward (suc k) s v = then-forward look _ look-forward (λ t. pick (summands-forward k s) (t .place) (isMark minusSign t) (isSum t))
     where
-      pick : ((u : Value) → Forward (walkSummands F k s u)) → (p : ℕ) (m b : Bool) → Forward {A = Value} (elim b as (λ _. Reader Value) [ true ↦ skip >>= (λ _. F s >>= (λ w. lift (fitting p (sumOf v (negatedValue m w))) >>= (λ u. walkSummands F k s u))) | false ↦ give v ])
-      pick more p m true = then-forward skip _ skip-forward (λ _. then-forward (F s) _ (f s) (λ w. then-forward (lift (fitting p (sumOf v (negatedValue m w)))) _ (lift-forward (fitting p (sumOf v (negatedValue m w)))) more))
+      pick : ((u : Value) → Forward (walkSummands F k s u)) → (p : ℕ) (m b : Bool) → Forward {A = Value} (elim b as (λ _. Reader Value) [ true ↦ skip >>= (λ _. F s >>= (λ w. lift (fitting p (sumOf v (signed m w))) >>= (λ u. walkSummands F k s u))) | false ↦ give v ])
+      pick more p m true = then-forward skip _ skip-forward (λ _. then-forward (F s) _ (f s) (λ w. then-forward (lift (fitting p (sumOf v (signed m w)))) _ (lift-forward (fitting p (sumOf v (signed m w)))) more))
       pick more p m false = give-forward v
 
   formula-forward : Forwards (walkFormula F)
   unfolding walkFormula
-  formula-forward s = then-forward readSign _ sign-forward (λ g. then-forward (F s) _ (f s) (λ v. summands-forward tokenLimit s (negatedValue (g .negative) v)))
+  formula-forward s = then-forward readSign _ sign-forward (λ g. then-forward (F s) _ (f s) (λ v. summands-forward tokenLimit s (signed (g .negative) v)))
 
   part-forward : Forwards (walkPart F)
   unfolding walkPart

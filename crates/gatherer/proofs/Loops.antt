@@ -15,14 +15,15 @@ use Rattle.value.specs.Decimal.{Valid}
 use Rattle.lexer.specs.Marks.{minusSign}
 use Rattle.language.specs.Outcome.{Outcome, done, refused}
 use Rattle.language.specs.Outcome as outcome
-use Rattle.language.specs.Reader.{Reader, Read, _>>=_, give, isMark}
+use Rattle.language.specs.Reader.{Reader, Read, _>>=_, give, isMark, asRead}
 use Rattle.language.specs.Formulas.{isSum}
 use Rattle.language.specs.Scope.{bind}
 use Rattle.language.specs.Ranges.{upFrom}
 use Rattle.language.specs.Evaluation.{each}
 use Rattle.language.specs.Numbering.{Row, xor}
-use Rattle.onepass.specs.Walk.{skip, restAs, behindBracket}
-use Rattle.onepass.specs.WalkLinear.{rowOnly, walkLinearTerms, walkRuns}
+use Rattle.language.specs.Model.{whatOf}
+use Rattle.onepass.specs.Walk.{skip, behindBracket}
+use Rattle.onepass.specs.WalkLinear.{walkLinearTerms, walkRuns}
 use Rattle.onepass.specs.Entries.{read}
 use Rattle.onepass.proofs.Steps.{on}
 use Rattle.tokens.specs.declared.Move.{Move}
@@ -156,7 +157,7 @@ module _ (n : ℕ) (sigmas : Bool) (ns ts ds : List ℕ) (given : ℕ) (xs : Lis
 module _ (n i : ℕ) (ns ts ds : List ℕ) (given : ℕ) (xs : List ℕ) (total level : ℕ) (sc : Scope) (at : ℕ) (c : Value) (m : Bool) (b : code.Limits) (k : ℕ) (l₀ : List ℤ) where
   -- the body at a number
   pub step : Model ns ts ds given xs total → ℤ → Row → Outcome Row
-  step w x r = rowOnly (bodyIn n (w .variables) (seenBy (w .world) level) (bind i x (under (w .world) sc)) c m r (tokensAt (w .world) at))
+  step w x r = whatOf (bodyIn n (w .variables) (seenBy (w .world) level) (bind i x (under (w .world) sc)) c m r (tokensAt (w .world) at))
 
   pub record Turned (w : Model ns ts ds given xs total) (r₀ : Row) (j : ℕ) (l : List ℤ) : Type 0 where
     pub row : Row
@@ -182,7 +183,7 @@ module _ (n i : ℕ) (ns ts ds : List ℕ) (given : ℕ) (xs : List ℕ) (total 
               let q = o .turned w g y v r x in
               record {
                 gathered = q .row;
-                is = ap (λ o. restAs o (behindBracket 0 (tokensAt (w .world) at))) (sym (q .same) ∙ last w (q .row)) ∙ ap (read (q .row)) (f .is (w .world .text));
+                is = ap (λ o. asRead o (behindBracket 0 (tokensAt (w .world) at))) (sym (q .same) ∙ last w (q .row)) ∙ ap (read (q .row)) (f .is (w .world .text));
                 row = q .holds;
               };
         }
@@ -200,10 +201,10 @@ module _ (n i : ℕ) (ns ts ds : List ℕ) (given : ℕ) (xs : List ℕ) (total 
 
       -- the body under the index bound to the j-th number
       step-is : (w : Model ns ts ds given xs total) → Ready sc b k → (r : Row)
-          → step w (b .lower +ℤ pos j) r ≡ rowOnly (bodyIn n (w .variables) (seenBy (w .world) level) (under (w .world) t) c m r (tokensAt (w .world) at))
+          → step w (b .lower +ℤ pos j) r ≡ whatOf (bodyIn n (w .variables) (seenBy (w .world) level) (under (w .world) t) c m r (tokensAt (w .world) at))
       unfolding step
       step-is w y r =
-          ap (λ s. rowOnly (bodyIn n (w .variables) (seenBy (w .world) level) s c m r (tokensAt (w .world) at))) (sym (scope-bind (w .world .known) sc t i (b .lower +ℤ pos j) (bound y) (y .room)))
+          ap (λ s. whatOf (bodyIn n (w .variables) (seenBy (w .world) level) s c m r (tokensAt (w .world) at))) (sym (scope-bind (w .world .known) sc t i (b .lower +ℤ pos j) (bound y) (y .room)))
 
       round : (w : Model ns ts ds given xs total) (r : Row) (x : Outcome Row) → step w (b .lower +ℤ pos j) r ≡ x
           → each (step w) (upFrom (b .lower +ℤ pos j) (k - j)) r ≡ outcome._>>=_ x (λ q. each (step w) (upFrom (b .lower +ℤ pos (j + 1)) (k - (j + 1))) q)
@@ -219,8 +220,8 @@ module _ (n i : ℕ) (ns ts ds : List ℕ) (given : ℕ) (xs : List ℕ) (total 
           subst (λ z. RunsAre n i ns ts ds given xs total level sc at c m b k l₀ z l′) (sym e) (record {
             does = λ w g y v r x.
                 let a = o .turned w g y v r x in
-                ap (λ o. restAs o (behindBracket 0 (tokensAt (w .world) at)))
-                (sym (a .same) ∙ round w (a .row) (refused q s) (step-is w y (a .row) ∙ ap rowOnly (refused-at h w (inner g y) v (a .row) (a .holds) e)));
+                ap (λ o. asRead o (behindBracket 0 (tokensAt (w .world) at)))
+                (sym (a .same) ∙ round w (a .row) (refused q s) (step-is w y (a .row) ∙ ap whatOf (refused-at h w (inner g y) v (a .row) (a .holds) e)));
           })
 
       pub runs-on : (q : ℕ) → z ≡ move.At q → length l′ ≡ length l → RunsOn (j + 1) l′
@@ -234,6 +235,6 @@ module _ (n i : ℕ) (ns ts ds : List ℕ) (given : ℕ) (xs : List ℕ) (total 
                 record {
                   row = d .gathered;
                   holds = d .row;
-                  same = sym (round w (a .row) (done (d .gathered)) (step-is w y (a .row) ∙ ap rowOnly (d .is))) ∙ a .same;
+                  same = sym (round w (a .row) (done (d .gathered)) (step-is w y (a .row) ∙ ap whatOf (d .is))) ∙ a .same;
                 };
           }

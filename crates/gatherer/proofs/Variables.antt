@@ -15,7 +15,7 @@ use Rattle.language.specs.Syntax.{Spans}
 use Rattle.language.specs.Reader.{asRead}
 use Rattle.language.specs.Evaluation.{runOf}
 use Rattle.language.specs.Numbering.{Row, signed, addAt}
-use Rattle.onepass.specs.Walk.{negatedValue, walkHead}
+use Rattle.onepass.specs.Walk.{walkHead}
 use Rattle.onepass.specs.WalkLinear.{walkNumber, walkVariable}
 use Rattle.onepass.proofs.Steps.{on}
 use Rattle.tokens.specs.declared.Move.the-variants as move
@@ -58,7 +58,7 @@ module _ (n i k q p : ℕ) (ns ts ds : List ℕ) (given : ℕ) (xs : List ℕ) (
     signed-as : Valid c → v ≡ signed m c
     signed-as u = f ∙ signed-is m c u ∙ go m
       where
-        go : (m : Bool) → negatedValue m c ≡ signed m c
+        go : (m : Bool) → signed m c ≡ signed m c
         go true = refl
         go false = refl
 

@@ -176,15 +176,6 @@ fn same_bytes(a: &[u8], b: &[u8]) -> bool
     true
 }
 
-// Are the n bytes from `at` on and the m bytes from `to` on the same?
-pub fn same_parts(s: &[u8], at: usize, n: usize, to: usize, m: usize) -> bool
-    ensures { λ r. ⌜ r ≡ sameBytes (partOf (now (s .entry)) at n) (partOf (now (s .entry)) to m) ⌝ }
-{
-    let a = part(s, at, n);
-    let b = part(s, to, m);
-    same_bytes(a, b)
-}
-
 // ---- words
 
 // The word's number if the run is the word, else another number.

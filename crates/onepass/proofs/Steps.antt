@@ -14,7 +14,8 @@ use Rattle.language.proofs.Outcome.{done-injective, refused-done, some-injectiv
 use Rattle.language.specs.Syntax.{Name}
 use Rattle.language.specs.Reader.{Reader, Read, follow, asRead, refuse, passed, next, look, isMark, nameOf, demand, require, expect, bracket, Used, find, found, known, readKnown, isIndex, readIndex}
 use Rattle.language.specs.Formulas.{headOf}
-use Rattle.onepass.specs.Walk.{skip, usedNumber, nameNumber, restAs, walkHead}
+use Rattle.language.specs.Model.{whatOf}
+use Rattle.onepass.specs.Walk.{skip, usedNumber, nameNumber, walkHead}
 use Rattle.onepass.specs.Entries.{read}
 
 -- ---- sequences
@@ -62,9 +63,10 @@ module _ {A : Type 0} where
   done-last (done a) = refl
   done-last (refused n p) = refl
 
-  pub restAs-is : (o : Outcome A) (l : List Token) → restAs o l ≡ asRead o l
-  restAs-is (done a) l = refl
-  restAs-is (refused n p) l = refl
+  -- what was made into a reading, alone again
+  pub what-as : (o : Outcome A) (l : List Token) → whatOf (asRead o l) ≡ o
+  what-as (done a) l = refl
+  what-as (refused n p) l = refl
 
   -- an evaluation with nothing behind it
   pub stays : (q : Outcome (Read A)) (o : Outcome A) (l m : List Token) (k : A → Reader A) → q ≡ asRead o l → ((v : A) → k v l ≡ read v m) → follow q k ≡ asRead o m

@@ -12,7 +12,7 @@ use Rattle.value.specs.Decimal.{zeroValue, sumOf, productOf}
 use Rattle.lexer.specs.Marks.{minusSign, timesSign, comma, opens, closes, opensList, closesList, sumWord}
 use Rattle.lexer.specs.Text.{Token, Kind}
 use Rattle.lexer.specs.Text
-use Rattle.language.specs.Outcome.{Outcome, done, refused, fitting}
+use Rattle.language.specs.Outcome.{Outcome, done, fitting}
 use Rattle.language.proofs.Outcome.{done-injective}
 use Rattle.language.specs.Outcome as Outcome
 use Rattle.language.specs.Syntax.{Formula, Formulas, Spans, Name, Sort, point, span, datum, plus, times}
@@ -21,9 +21,11 @@ use Rattle.language.specs.Reader.{Reader, Read, follow, asRead, _>>=_, give, ne
 use Rattle.language.specs.Formulas.{factors, termOf, isSum, negated, summands, readSign, formulaOf, partOf, headOf, sumFormula, formulasOf, subscriptsOf, namedBy, nestedOf, primaryBy, primaryOf, insideAt, formulaAt}
 use Rattle.language.specs.Scope.{Scope, bind, unbound}
 use Rattle.language.specs.Evaluation.{wholeAt, limitsOf, runOf, each, addTo, eval, evalAll, within}
-use Rattle.onepass.specs.Walk.{skip, behindBracket, Walk, walkFactors, walkTerm, negatedValue, walkSummands, walkFormula, walkPart, valueOnly, walkTurns, walkBody, walkHead, walkLimits, walkSum, walkList, walkSubscripts, walkDatum, walkNamed, walkFound, walkPrimaryBy, walkPrimary, walkInside, valueAt}
+use Rattle.language.specs.Model.{whatOf}
+use Rattle.language.specs.Numbering.{signed}
+use Rattle.onepass.specs.Walk.{skip, behindBracket, Walk, walkFactors, walkTerm, walkSummands, walkFormula, walkPart, walkTurns, walkBody, walkHead, walkLimits, walkSum, walkList, walkSubscripts, walkDatum, walkNamed, walkFound, walkPrimaryBy, walkPrimary, walkInside, valueAt}
 use Rattle.onepass.specs.Entries.{read}
-use Rattle.onepass.proofs.Steps.{after-read, on, via, onward, stays, ends, restAs-is, Walks, nothing, skip-next, expect-is, skip-expect, expect-place, bracket-is, known-is, head-walks}
+use Rattle.onepass.proofs.Steps.{after-read, on, via, onward, stays, ends, Walks, nothing, skip-next, expect-is, skip-expect, expect-place, bracket-is, known-is, head-walks, what-as}
 use Rattle.onepass.proofs.Balanced.{body-end}
 
 -- a reader of formulas and its walk
@@ -53,7 +55,7 @@ module _ (P : Reader Formula) (W : Walk) (a : Agrees P W) (s : Scope) where
       go ih k l kl false d e = stays (asRead (eval f s) ts) (eval f s) ts l _ refl (λ v. on (look ts) _ k l _ kl (rw (d, walkFactors) refl)) ∙ ends (λ x. eval x s) e
 
 negated-walk : {B : Type 0} (b : Bool) (g : Formula) (s : Scope) (l : List Token) (k : Value → Reader B)
-    → follow (asRead (eval g s) l) (λ w. k (negatedValue b w)) ≡ follow (asRead (eval (negated b g) s) l) k
+    → follow (asRead (eval g s) l) (λ w. k (signed b w)) ≡ follow (asRead (eval (negated b g) s) l) k
 unfolding eval
 negated-walk true g s l k = onward (asRead (eval g s) l) (eval g s) _ l l _ k refl (λ w. refl)
 negated-walk false g s l k = refl
@@ -74,7 +76,7 @@ module _ (T : Reader Formula) (W : Walk) (a : Agrees T W) (s : Scope) where
           let b = isMark minusSign k in
           onward (asRead (eval f s) ts) (eval f s) (λ v. Outcome._>>=_ (eval (negated b g) s) λ w. fitting (k .place) (sumOf v w)) ts us _ (walkSummands W n s) refl (λ v.
           on (look ts) _ k l _ kl (rw (d, walkSummands) (on (skip l) _ tt m _ (skip-next l x m xm)
-          (ap (λ o. follow o (λ w us. follow (asRead (fitting (k .place) (sumOf v (negatedValue b w))) us) (walkSummands W n s))) (a s .walks m g us gu)
+          (ap (λ o. follow o (λ w us. follow (asRead (fitting (k .place) (sumOf v (signed b w))) us) (walkSummands W n s))) (a s .walks m g us gu)
           ∙ negated-walk b g s us (λ w us. follow (asRead (fitting (k .place) (sumOf v w)) us) (walkSummands W n s))
           ∙ onward (asRead (eval (negated b g) s) us) (eval (negated b g) s) _ us us _ (walkSummands W n s) refl (λ w. refl)))))
           ∙ ih (plus f (negated b g) (k .place)) t us rest e
@@ -96,7 +98,7 @@ formula-agrees T W a s =
           after-read (T l) _ _ e λ f m fm e.
           let b = g .negative in
           on (readSign ts) _ g l _ gl
-          (ap (λ o. follow o (λ v. walkSummands W tokenLimit s (negatedValue b v))) (a s .walks l f m fm) ∙ negated-walk b f s m (walkSummands W tokenLimit s)
+          (ap (λ o. follow o (λ v. walkSummands W tokenLimit s (signed b v))) (a s .walks l f m fm) ∙ negated-walk b f s m (walkSummands W tokenLimit s)
           ∙ summands-walk T W a s tokenLimit (negated b f) t m rest e);
     }
 
@@ -155,10 +157,6 @@ choose : {R R′ : Reader Formula} {h : Formula → Outcome Value} {G G′ : Rea
 choose true r r′ = r
 choose false r r′ = r′
 
-value-of : (o : Outcome Value) (l : List Token) → valueOnly (asRead o l) ≡ o
-value-of (done v) l = refl
-value-of (refused n p) l = refl
-
 -- a reader whose body's end is found by its brackets
 abbrev Ended : Reader Formula → Type 0
 Ended F = (ts : List Token) (h : Formula) (rest : List Token) → partOf F closes ts ≡ read h rest → behindBracket 0 ts ≡ rest
@@ -168,12 +166,12 @@ module _ (names : List Name) (n : ℕ) (F : Reader Formula) (W : Walk) (a : Agre
       → walkBody W i p s ks ts ≡ asRead (each (λ k v. addTo p v (eval h (bind i k s))) ks zeroValue) rest
   unfolding partOf walkBody walkTurns
   body-walks i p s ks ts rest h e =
-      restAs-is (walkTurns W i p s ks ts) (behindBracket 0 ts) ∙ ap (asRead (walkTurns W i p s ks ts)) (ended ts h rest e) ∙ ap (λ o. asRead o rest) turns
+      ap (asRead (walkTurns W i p s ks ts)) (ended ts h rest e) ∙ ap (λ o. asRead o rest) turns
     where
-      value : (s : Scope) → valueOnly (W s ts) ≡ eval h s
+      value : (s : Scope) → whatOf (W s ts) ≡ eval h s
       value s =
           after-read (F ts) _ _ e λ f m fm e. after-read (expect closes m) _ _ e λ p k pk e.
-          ap valueOnly (a s .walks ts f m fm) ∙ value-of (eval f s) m ∙ ap (λ (r : Read Formula). eval (r .what) s) (done-injective e)
+          ap whatOf (a s .walks ts f m fm) ∙ what-as (eval f s) m ∙ ap (λ (r : Read Formula). eval (r .what) s) (done-injective e)
 
       turns : walkTurns W i p s ks ts ≡ each (λ k v. addTo p v (eval h (bind i k s))) ks zeroValue
       turns = ap (λ o. each o ks zeroValue) (fun-ext λ k. fun-ext λ v. ap (addTo p v) (value (bind i k s)))

@@ -12,7 +12,7 @@ use Rattle.value.specs.declared.Value.{Value}
 use Rattle.value.specs.Decimal.{productOf}
 use Rattle.lexer.specs.Marks.{minusSign, timesSign, comma, closes, sigmaWord}
 use Rattle.lexer.specs.Text.{Token}
-use Rattle.language.specs.Outcome.{Outcome, done, refused, fitting}
+use Rattle.language.specs.Outcome.{done, fitting}
 use Rattle.language.proofs.Outcome.{refused-done}
 use Rattle.language.specs.Syntax.{Formulas, Spans, Name, Form, Term, also, factor, variable}
 use Rattle.language.specs.Syntax
@@ -22,10 +22,11 @@ use Rattle.language.specs.Linear.{Head, aSigma, aVariable, aPrimary, headBy, li
 use Rattle.language.specs.Scope.{Scope, bind, unbound}
 use Rattle.language.specs.Evaluation.{limitsOf, runOf, each, eval, evalAll, within}
 use Rattle.language.specs.Numbering.{Variable, Row, xor, variableAt, gather, gatherTerm}
+use Rattle.language.specs.Model.{whatOf}
 use Rattle.onepass.specs.Walk.{skip, behindBracket, walkHead, walkLimits, walkSubscripts, walkPrimaryBy, walkInside, valueAt}
-use Rattle.onepass.specs.WalkLinear.{Gatherer, rowOnly, walkNumber, walkVariable, walkLinearTerm, walkLinearTerms, walkLinear, noSigmaWalk, walkBodyForm, walkRuns, walkSigma, gatherAt}
+use Rattle.onepass.specs.WalkLinear.{Gatherer, walkNumber, walkVariable, walkLinearTerm, walkLinearTerms, walkLinear, noSigmaWalk, walkBodyForm, walkRuns, walkSigma, gatherAt}
 use Rattle.onepass.specs.Entries.{read}
-use Rattle.onepass.proofs.Steps.{after-read, on, via, ends, same-what, same-rest, done-last, restAs-is, Walks, nothing, look-stays, skip-next, expect-is, head-walks}
+use Rattle.onepass.proofs.Steps.{after-read, on, via, ends, same-what, same-rest, done-last, Walks, nothing, look-stays, skip-next, expect-is, head-walks, what-as}
 use Rattle.onepass.proofs.Balanced.{sigma-body-end}
 use Rattle.onepass.proofs.Walked.{Agrees, limits-walk, subscripts-walk, inside-agrees, primaryBy-walks, walked}
 
@@ -196,17 +197,12 @@ module _ (vs : List Variable) (names : List Name) where
                   ∙ ends (λ z. gather vs z s c m r) e;
             }
 
-  row-of : (o : Outcome Row) (l : List Token) → rowOnly (asRead o l) ≡ o
-  row-of (done r) l = refl
-  row-of (refused n p) l = refl
-
   -- a body for each number of a run
   runs-gather : (R : Reader Form) (B : Gatherer) → FormAgrees R B → (ts : List Token) (h : Form) (l : List Token) → R ts ≡ read h l → (rest : List Token) → behindBracket 0 ts ≡ rest
       → (i : ℕ) (s : Scope) (c : Value) (m : Bool) (r : Row) (ks : List ℤ) → walkRuns vs names B i s c m r ks ts ≡ asRead (each (λ k q. gather vs h (bind i k s) c m q) ks r) rest
   unfolding walkRuns
   runs-gather R B a ts h l e rest end i s c m r ks =
-      restAs-is (each (λ k q. rowOnly (B (bind i k s) c m q ts)) ks r) (behindBracket 0 ts)
-      ∙ ap (λ o. asRead (each o ks r) (behindBracket 0 ts)) (fun-ext λ k. fun-ext λ q. ap rowOnly (a (bind i k s) c m q .walks ts h l e) ∙ row-of (gather vs h (bind i k s) c m q) l)
+      ap (λ o. asRead (each o ks r) (behindBracket 0 ts)) (fun-ext λ k. fun-ext λ q. ap whatOf (a (bind i k s) c m q .walks ts h l e) ∙ what-as (gather vs h (bind i k s) c m q) l)
       ∙ ap (asRead (each (λ k q. gather vs h (bind i k s) c m q) ks r)) end
 
   sigma-gathers : (n p : ℕ) → TermAgrees (sigmaAt names n p) (walkSigma vs names n p)

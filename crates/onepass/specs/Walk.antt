@@ -12,17 +12,19 @@ use lib.Signed.{leZ}
 use Rattle.rules.specs.declared.Refusal.the-variants.{Misplaced, BadName, Full, Outside, Missing}
 use Rattle.rules.specs.Limits.{tokenLimit, nestingLimit}
 use Rattle.value.specs.declared.Value.{Value}
-use Rattle.value.specs.Decimal.{zeroValue, negate, sumOf, productOf}
+use Rattle.value.specs.Decimal.{zeroValue, sumOf, productOf}
 use Rattle.lexer.specs.Marks.{minusSign, timesSign, opens, closes, opensList, closesList, sumWord}
 use Rattle.lexer.specs.Text.{Token, Kind}
 use Rattle.lexer.specs.Text
-use Rattle.language.specs.Outcome.{Outcome, done, refused, orRefuse, fitting, check}
+use Rattle.language.specs.Outcome.{Outcome, done, orRefuse, fitting, check}
 use Rattle.language.specs.Syntax.{Spans, Name, Sort, point, span}
 use Rattle.language.specs.Syntax
-use Rattle.language.specs.Reader.{Reader, Read, _>>=_, give, refuse, lift, next, look, isMark, Used, find}
+use Rattle.language.specs.Reader.{Reader, _>>=_, give, refuse, lift, next, look, isMark, Used, find, asRead}
 use Rattle.language.specs.Formulas.{isSum, readSign}
 use Rattle.language.specs.Scope.{Scope, bind, unbound}
 use Rattle.language.specs.Evaluation.{wholeAt, Limits, runOf, each, addTo, eval, within}
+use Rattle.language.specs.Model.{whatOf}
+use Rattle.language.specs.Numbering.{signed}
 
 -- ---- one token
 
@@ -81,10 +83,6 @@ walkTerm P s = do
   v ← P s
   walkFactors P tokenLimit s v
 
-abbrev pub negatedValue : Bool → Value → Value
-negatedValue true v = negate v
-negatedValue false v = v
-
 unfoldable pub walkSummands : Walk → ℕ → Scope → Value → Reader Value
 walkSummands T zero s v = give v
 walkSummands T (suc n) s v = do
@@ -93,7 +91,7 @@ walkSummands T (suc n) s v = do
     | true ↦ do
       _ ← skip
       w ← T s
-      u ← lift (fitting (t .place) (sumOf v (negatedValue (isMark minusSign t) w)))
+      u ← lift (fitting (t .place) (sumOf v (signed (isMark minusSign t) w)))
       walkSummands T n s u
     | false ↦ give v
   ]
@@ -102,7 +100,7 @@ unfoldable pub walkFormula : Walk → Walk
 walkFormula T s = do
   g ← readSign
   v ← T s
-  walkSummands T tokenLimit s (negatedValue (g .negative) v)
+  walkSummands T tokenLimit s (signed (g .negative) v)
 
 -- a formula and the sign behind it
 unfoldable pub walkPart : Walk → Walk
@@ -111,20 +109,12 @@ walkPart F s = do
   _ ← skip
   give v
 
-abbrev pub valueOnly : Outcome (Read Value) → Outcome Value
-valueOnly (done r) = done (r .what)
-valueOnly (refused n p) = refused n p
-
 -- the body at ts for each number of the run
 unfoldable pub walkTurns : Walk → ℕ → ℕ → Scope → List ℤ → List Token → Outcome Value
-walkTurns F i p s ks ts = each (λ k v. addTo p v (valueOnly (F (bind i k s) ts))) ks zeroValue
-
-abbrev pub restAs : {A : Type 0} → Outcome A → List Token → Outcome (Read A)
-restAs (done a) ts = done (record { what = a; rest = ts })
-restAs (refused n p) ts = refused n p
+walkTurns F i p s ks ts = each (λ k v. addTo p v (whatOf (F (bind i k s) ts))) ks zeroValue
 
 unfoldable pub walkBody : Walk → ℕ → ℕ → Scope → List ℤ → Reader Value
-walkBody F i p s ks ts = restAs (walkTurns F i p s ks ts) (behindBracket 0 ts)
+walkBody F i p s ks ts = asRead (walkTurns F i p s ks ts) (behindBracket 0 ts)
 
 -- `(`, an index and a comma: the index's number
 unfoldable pub walkHead : List Name → Reader ℕ

@@ -9,23 +9,20 @@ use Rattle.rules.specs.Limits.{tokenLimit}
 use Rattle.value.specs.declared.Value.{Value}
 use Rattle.value.specs.Decimal.{productOf}
 use Rattle.lexer.specs.Marks.{minusSign, sigmaWord}
-use Rattle.language.specs.Outcome.{Outcome, done, refused, orRefuse, fitting}
+use Rattle.language.specs.Outcome.{orRefuse, fitting}
 use Rattle.language.specs.Syntax.{Spans, Name}
-use Rattle.language.specs.Reader.{Reader, Read, _>>=_, give, refuse, lift, next, look, isMark}
+use Rattle.language.specs.Reader.{Reader, _>>=_, give, refuse, lift, next, look, isMark, asRead}
 use Rattle.language.specs.Formulas.{isSum, readSign}
 use Rattle.language.specs.Linear.{aSigma, aVariable, aPrimary, headBy}
 use Rattle.language.specs.Scope.{Scope, bind, unbound}
 use Rattle.language.specs.Evaluation.{runOf, each, within}
 use Rattle.language.specs.Numbering.{Variable, numberOf, Row, xor, signed, addAt}
-use Rattle.onepass.specs.Walk.{skip, behindBracket, restAs, walkHead, walkLimits, walkSubscripts, walkPrimaryBy, walkInside, valueAt}
+use Rattle.language.specs.Model.{whatOf}
+use Rattle.onepass.specs.Walk.{skip, behindBracket, walkHead, walkLimits, walkSubscripts, walkPrimaryBy, walkInside, valueAt}
 
 -- scope, coefficient so far, whether a minus stands before it, row so far
 abbrev pub Gatherer : Type 0
 Gatherer = Scope → Value → Bool → Row → Reader Row
-
-abbrev pub rowOnly : Outcome (Read Row) → Outcome Row
-rowOnly (done r) = done (r .what)
-rowOnly (refused n p) = refused n p
 
 module _ (vs : List Variable) (names : List Name) where
   -- the number of the variable at p
@@ -89,7 +86,7 @@ module _ (vs : List Variable) (names : List Name) where
 
   -- the body at ts for each number of the run, one after the other into the row
   unfoldable pub walkRuns : Gatherer → ℕ → Scope → Value → Bool → Row → List ℤ → Reader Row
-  walkRuns B i s c m r ks ts = restAs (each (λ k q. rowOnly (B (bind i k s) c m q ts)) ks r) (behindBracket 0 ts)
+  walkRuns B i s c m r ks ts = asRead (each (λ k q. whatOf (B (bind i k s) c m q ts)) ks r) (behindBracket 0 ts)
 
   unfoldable pub walkSigma : ℕ → ℕ → Gatherer
   walkSigma zero p s c m r = refuse Full 0

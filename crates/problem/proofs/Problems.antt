@@ -37,7 +37,8 @@ use Rattle.matrix.specs.declared.Generated.the-variants as generated
 use Rattle.matrix.specs.Answers.{Adds, Objective, ObjectiveAdds, ObjectiveIs, Stays, Generates}
 use Rattle.problem.specs.declared.Problem.{Problem}
 use Rattle.problem.specs.declared.Problem.the-variants as problem
-use Rattle.problem.specs.Problem.{Poses, KeyedVariable, FromConstraint, Holds, Generating, Numbers, ShapesAs, GeneratesAs}
+use Rattle.rows.specs.Problems.{KeyedVariable, FromConstraint}
+use Rattle.problem.specs.Problem.{Poses, Holds, Generating, Numbers, ShapesAs, GeneratesAs}
 use Rattle.problem.proofs.Generated.{without-data, without-variables, without-objective, without-constraints, generates}
 
 -- ---- answers

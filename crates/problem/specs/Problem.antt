@@ -8,21 +8,21 @@ use lib.IntN.{ℤ}
 use Rattle.rules.specs.Limits.{variableLimit, constraintLimit}
 use Rattle.language.specs.Outcome.{Outcome, done, refused}
 use Rattle.language.specs.All.{All}
-use Rattle.language.specs.Listed.{At}
 use Rattle.language.specs.Syntax.{Constraint}
 use Rattle.language.specs.Store.{allGiven}
 use Rattle.language.specs.Model.{Model, start, asDiscrete, asContinuous, declared}
-use Rattle.language.specs.Numbering.{Variable, Entry, Lp, addVariables, generate}
+use Rattle.language.specs.Numbering.{Variable, Lp, addVariables, generate}
 use Rattle.tokens.specs.Stored.{rowsOf}
 use Rattle.constraints.specs.Rows.{Rows}
 use Rattle.parser.specs.Parsed.{FormAt}
-use Rattle.store.specs.Entries.{Keyed, Numbered}
+use Rattle.store.specs.Entries.{Numbered}
 use Rattle.evaluator.specs.Tables.{World}
 use Rattle.evaluator.specs.Cycle.{nothingBound}
 use Rattle.elements.specs.Placed.{Placed}
 use Rattle.rows.specs.declared.Filled.{Filled}
 use Rattle.rows.specs.Slots.{RowsHeld, ObjectiveHeld}
 use Rattle.rows.specs.Bounds.{BoundsHeld}
+use Rattle.rows.specs.Problems.{KeyedVariable, FromConstraint}
 use Rattle.problem.specs.Variables.Order.{InOrder}
 use Rattle.problem.specs.declared.Problem.{Problem}
 use Rattle.problem.specs.declared.Problem.the-variants as problem
@@ -43,13 +43,6 @@ pub record Poses (s ns ts ds : List ℕ) (given aim : ℕ) (b : Bool) (cs : List
   pub unbound : (k : ℕ) → getD bs k 0 ≡ 0
 
 -- ---- the problem
-
-abbrev pub KeyedVariable : Variable → Type 0
-KeyedVariable v = Keyed (v .name) (v .element)
-
--- an entry comes from the constraint of its number
-abbrev pub FromConstraint : List Constraint → Entry → Type 0
-FromConstraint cs e = At cs (e .source .ordinal) (e .source .constraint)
 
 -- the tables of variables, slots, bounds and counts hold the problem p of the constraints cs
 pub record Holds (xs t bs : List ℕ) (m : List ℤ) (discrete total : ℕ) (f : Filled) (cs : List Constraint) (p : Lp) : Type 0 where

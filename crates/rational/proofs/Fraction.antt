@@ -9,7 +9,7 @@ use Prim.Native.Nat.{ℕ, _*_, _<_}
 use lib.IntN.{ℤ, pos, negℤ, _+ℤ_, _*ℤ_, negℤ-negℤ, +ℤ-invr, zero-*ℤ}
 use lib.Signed.{_≤ℤ_, leZ-yes, ≤ℤ-refl}
 use Rattle.rational.proofs.Integer.{ringℤ, *ℤ-id, *ℤ-negℤ, negℤ-*ℤ, negℤ-mono, +ℤ-mono, *ℤ-mono, *ℤ-mono-up, *ℤ-cancel-≤, ≤ℤ-trans, ≤ℤ-antisym, ≤ℤ-of-≡, ≤ℤ-total, leZ-false, shrZ-is}
-use Rattle.rational.specs.Fraction.{Fraction, _≈_, _≼_, _⊕_, _⊖_, _⊗_, opposite, integer, isAtMost, wholePart}
+use Rattle.rational.specs.Fraction.{Fraction, _≈_, _≼_, _⊕_, _⊗_, opposite, integer, isAtMost, wholePart}
 
 -- the denominator as an integer
 abbrev below : Fraction → ℤ
@@ -106,14 +106,6 @@ unfolding _≈_ _⊗_
         let i : (a *ℤ b) *ℤ (x′ *ℤ y′) ≡ (a *ℤ x′) *ℤ (b *ℤ y′) = simp ringℤ in
         let j : (a′ *ℤ b′) *ℤ (x *ℤ y) ≡ (a′ *ℤ x) *ℤ (b′ *ℤ y) = simp ringℤ in
         cc
-
--- a difference is the sum with the opposite, so its laws are those of the sum
-pub ⊖-is : (p q : Fraction) → p ⊖ q ≡ p ⊕ opposite q
-unfolding _⊖_ _⊕_ opposite
-⊖-is p q = rw (negℤ-*ℤ (q .num) (below p))
-
-pub ⊖-cong : (p p′ q q′ : Fraction) → p ≈ p′ → q ≈ q′ → p ⊖ q ≈ p′ ⊖ q′
-⊖-cong p p′ q q′ e f = subst₂ _≈_ (sym (⊖-is p q)) (sym (⊖-is p′ q′)) (⊕-cong p p′ (opposite q) (opposite q′) e (opposite-cong q q′ f))
 
 -- ---- the laws of a commutative ring
 

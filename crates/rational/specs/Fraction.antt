@@ -1,10 +1,10 @@
 -- Fractions: a whole number over a positive one. Two are the same number (`_≈_`) where their cross products are equal.
--- Sum, difference and product are those of fractions in general; a decimal is the case of a power of ten below.
+-- Sum and product are those of fractions in general, a difference is the sum with the opposite; a decimal is the case of a power of ten below.
 use mathlib.Core.Path.{_≡_}
 use mathlib.Core.Bool.{Bool}
 use Prim.Native.Nat.{ℕ, _*_, _<_}
 use native.Mathlib.Nat.{mul-pos}
-use lib.IntN.{ℤ, pos, negℤ, _+ℤ_, _-ℤ_, _*ℤ_}
+use lib.IntN.{ℤ, pos, negℤ, _+ℤ_, _*ℤ_}
 use lib.Dec.{lit<}
 use lib.Signed.{_≤ℤ_, leZ, shrZ}
 
@@ -22,15 +22,11 @@ infix 40 _≼_
 unfoldable pub _≼_ : Fraction → Fraction → Type 0
 p ≼ q = (p .num *ℤ pos (q .den)) ≤ℤ (q .num *ℤ pos (p .den))
 
-infixl 60 _⊕_ _⊖_
+infixl 60 _⊕_
 infixl 70 _⊗_
 unfoldable pub _⊕_ : Fraction → Fraction → Fraction
 p ⊕ q =
     record { num = p .num *ℤ pos (q .den) +ℤ q .num *ℤ pos (p .den); den = p .den * q .den; positive = mul-pos (p .positive) (q .positive) }
-
-unfoldable pub _⊖_ : Fraction → Fraction → Fraction
-p ⊖ q =
-    record { num = p .num *ℤ pos (q .den) -ℤ q .num *ℤ pos (p .den); den = p .den * q .den; positive = mul-pos (p .positive) (q .positive) }
 
 unfoldable pub _⊗_ : Fraction → Fraction → Fraction
 p ⊗ q = record { num = p .num *ℤ q .num; den = p .den * q .den; positive = mul-pos (p .positive) (q .positive) }

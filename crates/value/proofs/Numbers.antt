@@ -13,8 +13,8 @@ use Rattle.rational.proofs.Integer.{*ℤ-id, leZ-true, leZ-false, le-leZ}
 use Rattle.rational.specs.Fraction.{Fraction, _≈_, _≼_, opposite, integer}
 use Rattle.rational.proofs.Fraction.{≈-same}
 use Rattle.value.specs.Rational.{𝟎, 𝟏, _⊕_, _⊗_, neg, whole, rational, sound, _⊑_}
-use Rattle.value.proofs.Rational.{exact, rational-integer, rational-⊕, rational-⊖, rational-⊗, rational-opposite, rational-⊑, whole-zero, whole-one}
-use Rattle.value.specs.Decimal.{Valid, tenths, frac, fitOf, sumOf, differenceOf, productOf, negate, isAtMost, isZero, zeroValue, oneValue, wholeOf, ofWhole}
+use Rattle.value.proofs.Rational.{exact, rational-integer, rational-⊕, rational-⊗, rational-opposite, rational-⊑, whole-zero, whole-one}
+use Rattle.value.specs.Decimal.{Valid, tenths, frac, fitOf, sumOf, productOf, negate, isAtMost, isZero, zeroValue, oneValue, wholeOf, ofWhole}
 use Rattle.value.specs.Number.{exactly}
 use Rattle.value.proofs.Fitting.{fitOf-exact, unique}
 
@@ -55,10 +55,6 @@ exactly-fitOf q v e = sound (frac v) q (fitOf-exact q v e)
 pub exactly-add : (a b v : Value) → sumOf a b ≡ Fits v → exactly v ≡ exactly a ⊕ exactly b
 unfolding exactly sumOf
 exactly-add a b v e = exactly-fitOf _ v e ∙ rational-⊕ (frac a) (frac b)
-
-pub exactly-difference : (a b v : Value) → differenceOf a b ≡ Fits v → exactly v ≡ exactly a ⊕ neg (exactly b)
-unfolding exactly differenceOf
-exactly-difference a b v e = exactly-fitOf _ v e ∙ rational-⊖ (frac a) (frac b)
 
 pub exactly-mul : (a b v : Value) → productOf a b ≡ Fits v → exactly v ≡ exactly a ⊗ exactly b
 unfolding exactly productOf

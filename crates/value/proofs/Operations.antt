@@ -12,11 +12,11 @@ use Rattle.rules.specs.Limits.{mantissaLimit, scaleLimit}
 use Rattle.value.specs.declared.Value.{Value}
 use Rattle.value.specs.declared.Fit.the-variants.{Fits, TooBig}
 use Rattle.value.specs.declared.Whole.the-variants.{Number, NotWhole}
-use Rattle.rational.specs.Fraction.{_≈_, _≼_, _⊕_, _⊖_, _⊗_, opposite}
-use Rattle.value.specs.Decimal.{Valid, tenths, frac, fitOf, sumOf, differenceOf, productOf, negate, isAtMost, isZero, wholeOf, ofWhole, inRange, zeroValue}
+use Rattle.rational.specs.Fraction.{_≈_, _≼_, _⊕_, _⊗_, opposite}
+use Rattle.value.specs.Decimal.{Valid, tenths, frac, fitOf, sumOf, productOf, negate, isAtMost, isZero, wholeOf, ofWhole, inRange, zeroValue}
 use Rattle.value.specs.Gathering.{millionths, ofMillionths}
 use Rattle.value.proofs.Integers.{natAbs-neg, natAbs-mul}
-use Rattle.rational.proofs.Fraction.{≈-trans, ⊕-cong, opposite-cong, ⊖-is}
+use Rattle.rational.proofs.Fraction.{≈-trans, ⊕-cong}
 use Rattle.value.proofs.Tenths.{tenths-sum, tenths-product, tenths-opposite, tenths-scale}
 use Rattle.value.proofs.Fitting.{fitOf-exact, fitOf-valid, fitOf-cong, fitOf-refused}
 use Rattle.value.proofs.Ranges.{range-small, range-places, valid-in-range}
@@ -47,12 +47,6 @@ module _ (a b : Value) (ha : inRange a ≡ true) (hb : inRange b ≡ true) where
   unfolding ofMillionths sumOf
   sum-fit = fitOf-cong _ _ (≈-trans _ _ _ (tenths-sum _ _ _) (⊕-cong _ _ _ _ (millionths-≈ a ha) (millionths-≈ b hb)))
 
-  pub difference-fit : ofMillionths (millionths a -ℤ millionths b) ≡ differenceOf a b
-  unfolding ofMillionths differenceOf
-  difference-fit =
-      rw (⊖-is (frac a) (frac b))
-      (fitOf-cong _ _ (≈-trans _ _ _ (tenths-sum (millionths a) (negℤ (millionths b)) scaleLimit) (rw (tenths-opposite (millionths b) scaleLimit) (⊕-cong _ _ _ _ (millionths-≈ a ha) (opposite-cong _ _ (millionths-≈ b hb))))))
-
 pub product-fit : (a b : Value) → fitOf (tenths (a .m *ℤ b .m) (a .s + b .s)) ≡ productOf a b
 unfolding productOf frac
 product-fit a b = fitOf-cong _ _ (tenths-product _ _ _ _)
@@ -71,18 +65,6 @@ module _ (a b c : Value) where
   pub sum-refused : sumOf a b ≡ TooBig → Valid c → frac c ≈ frac a ⊕ frac b → ⊥
   unfolding sumOf
   sum-refused e h q = fitOf-refused _ c e h q
-
-  pub difference-exact : differenceOf a b ≡ Fits c → frac c ≈ frac a ⊖ frac b
-  unfolding differenceOf
-  difference-exact e = fitOf-exact _ c e
-
-  pub difference-valid : differenceOf a b ≡ Fits c → Valid c
-  unfolding differenceOf
-  difference-valid e = fitOf-valid _ c e
-
-  pub difference-refused : differenceOf a b ≡ TooBig → Valid c → frac c ≈ frac a ⊖ frac b → ⊥
-  unfolding differenceOf
-  difference-refused e h q = fitOf-refused _ c e h q
 
   pub product-exact : productOf a b ≡ Fits c → frac c ≈ frac a ⊗ frac b
   unfolding productOf

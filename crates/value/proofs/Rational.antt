@@ -42,9 +42,6 @@ pub rational-opposite : (p : Fraction) → rational (opposite p) ≡ neg (ration
 unfolding ℚ rational neg
 rational-opposite p = refl
 
-pub rational-⊖ : (p q : Fraction) → rational (Fraction._⊖_ p q) ≡ rational p ⊕ neg (rational q)
-rational-⊖ p q = ap rational (Law.⊖-is p q) ∙ rational-⊕ p (opposite q) ∙ ap (λ r. rational p ⊕ r) (rational-opposite q)
-
 -- ---- the laws of a commutative ring
 
 pub add-comm : (p q : ℚ) → p ⊕ q ≡ q ⊕ p

@@ -1,5 +1,5 @@
 -- Document 01, "Values": a value is m / 10^s, s from 0 to 6, m whole, at most 999,999,999 either side of zero, with s as
--- small as it can be; such a value fits. Sums, differences and products are exact.
+-- small as it can be; such a value fits. Sums, differences (the sum with the opposite) and products are exact.
 use mathlib.Core.Path.{_≡_}
 use mathlib.Core.Bool.{Bool, true, false, cond, _&&_}
 use Prim.Native.Nat.{ℕ, zero, suc, _*_, _/_, _%_, _^_, _<_, _≤_}
@@ -13,7 +13,7 @@ use Rattle.value.specs.declared.Fit.{Fit}
 use Rattle.value.specs.declared.Fit.the-variants.{Fits, TooBig}
 use Rattle.value.specs.declared.Whole.{Whole}
 use Rattle.value.specs.declared.Whole.the-variants.{Number, NotWhole}
-use Rattle.rational.specs.Fraction.{Fraction, _⊕_, _⊖_, _⊗_}
+use Rattle.rational.specs.Fraction.{Fraction, _⊕_, _⊗_}
 
 -- the number that z / 10^s is, as a fraction
 unfoldable pub tenths : ℤ → ℕ → Fraction
@@ -62,9 +62,6 @@ fitOf q = choose (q .num) (seek ten (suc scaleLimit) 0 (natAbs (q .num)) (q .den
 
 unfoldable pub sumOf : Value → Value → Fit
 sumOf a b = fitOf (frac a ⊕ frac b)
-
-unfoldable pub differenceOf : Value → Value → Fit
-differenceOf a b = fitOf (frac a ⊖ frac b)
 
 unfoldable pub productOf : Value → Value → Fit
 productOf a b = fitOf (frac a ⊗ frac b)

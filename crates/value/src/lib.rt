@@ -8,7 +8,7 @@ ghost use lib.ListN.{length};
 ghost use lib.IntN.{pos, natAbs, _+ℤ_, _-ℤ_, _*ℤ_};
 ghost use Rattle.rules.specs.Characters.{code};
 ghost use Rattle.rules.specs.Limits.{mantissaLimit, scaleLimit};
-ghost use Rattle.value.specs.Decimal.{tenths, withSign, at, choose, fitOf, inRange, ifInRange, sumOf, differenceOf, productOf, negate, isAtMost, isZero, wholeOf, ofWhole};
+ghost use Rattle.value.specs.Decimal.{tenths, withSign, at, choose, fitOf, inRange, ifInRange, sumOf, productOf, negate, isAtMost, isZero, wholeOf, ofWhole};
 ghost use Rattle.value.specs.Gathering.{millionths, ofMillionths, isCount, Gathered};
 ghost use Rattle.value.specs.Literal.{isDigit, allDigits, digitOf, numberFrom, before, literalOf};
 ghost use Rattle.value.specs.Printed.{widthFrom, digits, minusSign, places, printed, shown, Written};
@@ -181,21 +181,12 @@ pub fn of_millionths(z: i64) -> Fit
     normalise(z, rules::SCALE_LIMIT)
 }
 
-// Sum, difference and product, exact, if they fit; too big where an operand is out of range.
+// Sum and product, exact, if they fit; too big where an operand is out of range. A difference is the sum with the opposite.
 pub fn add(a: Value, b: Value) -> Fit
     ensures { λ r. ⌜ r ≡ ifInRange a b (sumOf a b) ⌝ }
 {
     if both_in_range(a, b) {
         return of_millionths(plus(aligned(a), aligned(b)));
-    }
-    Fit::TooBig
-}
-
-pub fn sub(a: Value, b: Value) -> Fit
-    ensures { λ r. ⌜ r ≡ ifInRange a b (differenceOf a b) ⌝ }
-{
-    if both_in_range(a, b) {
-        return of_millionths(minus(aligned(a), aligned(b)));
     }
     Fit::TooBig
 }

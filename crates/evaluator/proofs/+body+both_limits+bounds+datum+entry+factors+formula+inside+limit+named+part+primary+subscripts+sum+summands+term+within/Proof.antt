@@ -89,12 +89,8 @@ use Rattle.evaluator.proofs.steps.values.zero.Reads as zero-reads
 use Rattle.store.proofs.Element.length.Reads as length-reads
 use Rattle.store.proofs.Element.none.Reads as Element-none-reads
 use Rattle.tokens.proofs.token_at.Reads as token-at-reads
-use Rattle.evaluator.proofs.+body+both_limits+bounds+datum+entry+factors+formula+inside+limit+named+part+primary+subscripts+sum+summands+term+within.{
-  statement,
-}
-use Rattle.evaluator.proofs.+body+both_limits+bounds+datum+entry+factors+formula+inside+limit+named+part+primary+subscripts+sum+summands+term+within.Tie.{
-  close,
-}
+use Rattle.evaluator.proofs.+body+both_limits+bounds+datum+entry+factors+formula+inside+limit+named+part+primary+subscripts+sum+summands+term+within.{statement}
+use Rattle.evaluator.proofs.+body+both_limits+bounds+datum+entry+factors+formula+inside+limit+named+part+primary+subscripts+sum+summands+term+within.Tie.{close}
 
 abbrev μ-body : Measures 3 body-kinds.ps ℕ
 μ-body κs a = 300 * a .1 .1 .1 .0 .level + 20 * a .1 .1 .1 .0 .nest + 1

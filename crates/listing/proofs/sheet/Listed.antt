@@ -32,7 +32,8 @@ use Rattle.listing.specs.declared.sheet.Sizes.{Sizes}
 use Rattle.listing.specs.Sheet.Columns.{slotAt, columnsFrom}
 use Rattle.listing.specs.Sheet.Strings.{stringAt, within}
 use Rattle.listing.specs.Sheet.Told.{RowTold, VariableTold, Told, WritesAll}
-use Rattle.listing.specs.Sheet.Shown.{KeyedVariable, FromConstraint, Shown, Lists}
+use Rattle.rows.specs.Problems.{KeyedVariable, FromConstraint}
+use Rattle.listing.specs.Sheet.Shown.{Shown, Lists}
 use Rattle.listing.proofs.sheet.Cells.{one-line}
 use Rattle.listing.proofs.sheet.Words.{yes-within}
 use Rattle.listing.proofs.sheet.Texts.{spelled-part, name-told, string-told, title-told}

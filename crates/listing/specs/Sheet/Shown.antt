@@ -7,27 +7,19 @@ use lib.IntN.{ℤ}
 use Rattle.rules.specs.Limits.{byteLimit, variableLimit}
 use Rattle.value.specs.Printed.{Written}
 use Rattle.language.specs.All.{All}
-use Rattle.language.specs.Listed.{At}
-use Rattle.language.specs.Syntax.{Constraint}
 use Rattle.language.specs.Reader.{readString}
 use Rattle.language.specs.Model.{Model}
-use Rattle.language.specs.Numbering.{Variable, Entry, Lp}
+use Rattle.language.specs.Numbering.{Lp}
 use Rattle.language.specs.Listing.{linesOf}
 use Rattle.language.specs.Proper.{Proper}
 use Rattle.tokens.specs.Stored.{spelling, Named, Stands}
 use Rattle.constraints.specs.Rows.{Rows}
-use Rattle.store.specs.Entries.{Keyed, Numbered}
+use Rattle.store.specs.Entries.{Numbered}
 use Rattle.listing.specs.Shown.{shownLines}
 use Rattle.rows.specs.Slots.{RowsHeld, ObjectiveHeld}
 use Rattle.rows.specs.Bounds.{BoundsHeld}
+use Rattle.rows.specs.Problems.{KeyedVariable, FromConstraint}
 use Rattle.listing.specs.declared.sheet.Sizes.{Sizes}
-
-abbrev pub KeyedVariable : Variable → Type 0
-KeyedVariable v = Keyed (v .name) (v .element)
-
--- an entry comes from the constraint of its number
-abbrev pub FromConstraint : List Constraint → Entry → Type 0
-FromConstraint cs e = At cs (e .source .ordinal) (e .source .constraint)
 
 -- the text, its names, tokens and constraints; the variables, rows and bounds, and the counts of the coefficients
 pub record Shown (s ns ts cs vs rows bs : List ℕ) (m : List ℤ) (sizes : Sizes) (at place bytes : ℕ) (x : Model) (p : Lp) : Type 0 where

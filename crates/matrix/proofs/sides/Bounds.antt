@@ -18,8 +18,9 @@ use Rattle.language.specs.Reader.{asRead}
 use Rattle.language.specs.Linear.{aSigma, aVariable, aPrimary, headBy}
 use Rattle.language.specs.Evaluation.{eval}
 use Rattle.language.specs.Numbering.{variableAt, factOf}
+use Rattle.language.specs.Model.{whatOf}
 use Rattle.onepass.specs.WalkLinear.{walkNumber}
-use Rattle.onepass.proofs.Steps.{same-what, same-rest}
+use Rattle.onepass.proofs.Steps.{same-what, same-rest, what-as}
 use Rattle.onepass.proofs.Walked.{walked}
 use Rattle.onepass.proofs.WalkedLinear.{Bare, bare-walk}
 use Rattle.tokens.specs.declared.Seen.{Seen}
@@ -33,8 +34,7 @@ use Rattle.evaluator.specs.declared.steps.names.Listed.the-variants as listed
 use Rattle.evaluator.specs.declared.steps.values.Answer.{Answer}
 use Rattle.evaluator.specs.declared.steps.values.Answer.the-variants as answer
 use Rattle.evaluator.specs.Steps.Scopes.{Small}
-use Rattle.evaluator.specs.Cycle.{formulaIn, valueOutcome, ValidAnswer, onlyOutcome, seenBy, under, tokensAt, Values}
-use Rattle.evaluator.proofs.Names.{only-as}
+use Rattle.evaluator.specs.Cycle.{formulaIn, valueOutcome, ValidAnswer, seenBy, under, tokensAt, Values}
 use Rattle.gatherer.specs.declared.Numbered.{Numbered}
 use Rattle.gatherer.specs.declared.Numbered.the-variants as numbered
 use Rattle.gatherer.specs.Cycle.{Model, numberOutcome, NumberIs, Heads, variableSeen, Begins}
@@ -119,19 +119,19 @@ module _ (ns ts ds : List ℕ) (given : ℕ) (xs : List ℕ) (total level : ℕ)
                 ∙ ap (λ d. walkNumber (w .variables) (seenBy (w .world) level) 12 ι d r (under (w .world) sc) (tokensAt (w .world) a)) vd
                 ∙ ap (λ r. walkNumber (w .variables) (seenBy (w .world) level) 12 ι v r (under (w .world) sc) (tokensAt (w .world) a)) (sym (u .place))
                 ∙ o .is w g v declared in
-                sym (only-as (variableAt (w .variables) i d fs r (under (w .world) sc)) (u .rest)) ∙ ap onlyOutcome n;
+                sym (what-as (variableAt (w .variables) i d fs r (under (w .world) sc)) (u .rest)) ∙ ap whatOf n;
             below = o .below;
           }
 
   -- ---- the right side
 
   module _ (at : ℕ) (v : Answer) (f : Values (formulaIn nestingLimit) ns ts ds given level sc at v) where
-    pub value-at : (y : Answer) → v ≡ y → (w : Model ns ts ds given xs total) → Small sc → (g : Formula) → RightAt w level at g → eval g (under (w .world) sc) ≡ onlyOutcome (valueOutcome (w .world .text) ts y)
+    pub value-at : (y : Answer) → v ≡ y → (w : Model ns ts ds given xs total) → Small sc → (g : Formula) → RightAt w level at g → eval g (under (w .world) sc) ≡ whatOf (valueOutcome (w .world .text) ts y)
     unfolding formulaIn
     value-at y e w s g a =
-        sym (only-as (eval g (under (w .world) sc)) (a .rest))
-        ∙ ap onlyOutcome (sym (walked (seenBy (w .world) level) nestingLimit (tokensAt (w .world) at) g (a .rest) (a .reads) (under (w .world) sc)) ∙ f .is (w .world) s)
-        ∙ ap (λ y. onlyOutcome (valueOutcome (w .world .text) ts y)) e
+        sym (what-as (eval g (under (w .world) sc)) (a .rest))
+        ∙ ap whatOf (sym (walked (seenBy (w .world) level) nestingLimit (tokensAt (w .world) at) g (a .rest) (a .reads) (under (w .world) sc)) ∙ f .is (w .world) s)
+        ∙ ap (λ y. whatOf (valueOutcome (w .world .text) ts y)) e
 
     pub valid-at : (y : Answer) → v ≡ y → Model ns ts ds given xs total → Small sc → ValidAnswer y
     valid-at y e w s = subst ValidAnswer e (f .valid (w .world) s)
@@ -142,7 +142,7 @@ module _ (ns ts ds : List ℕ) (given : ℕ) (xs : List ℕ) (total level : ℕ)
     -- by the variable's number
     by-number : (z : Numbered) → y ≡ z → (r : Bounded)
         → ((w : Model ns ts ds given xs total) → Small sc → (i : ℕ) (d : Spans) (fs : Formulas) (p : ℕ)
-        → variableAt (w .variables) i d fs p (under (w .world) sc) ≡ onlyOutcome (numberOutcome (w .world .text) ts z) → (g : Formula) → RightAt w level right g → (e : Relation)
+        → variableAt (w .variables) i d fs p (under (w .world) sc) ≡ whatOf (numberOutcome (w .world .text) ts z) → (g : Formula) → RightAt w level right g → (e : Relation)
         → factOf (w .variables) (bare i d fs p) e g (under (w .world) sc) ≡ boundOutcome r)
         → (Model ns ts ds given xs total → Small sc → Sound total r) → BoundIs ns ts ds given xs total level sc left right r
     by-number z e r f sound = record { is = go; sound = sound }
@@ -150,7 +150,7 @@ module _ (ns ts ds : List ℕ) (given : ℕ) (xs : List ℕ) (total level : ℕ)
         go : (w : Model ns ts ds given xs total) → Small sc → (l : Side) → isBare l ≡ true → LeftAt w level left l → (g : Formula) → RightAt w level right g → (o : Relation)
             → factOf (w .variables) l o g (under (w .world) sc) ≡ boundOutcome r
         go w s (form x) b a g u o = absurd (false-true b)
-        go w s (bare i d fs p) b a g u o = f w s i d fs p (h .is w s i d fs p a ∙ ap (λ z. onlyOutcome (numberOutcome (w .world .text) ts z)) e) g u o
+        go w s (bare i d fs p) b a g u o = f w s i d fs p (h .is w s i d fs p a ∙ ap (λ z. whatOf (numberOutcome (w .world .text) ts z)) e) g u o
 
     pub bound-number : (m : Refusal) (p : ℕ) → y ≡ numbered.Refused m p → BoundIs ns ts ds given xs total level sc left right (bounded.Refused m p)
     unfolding factOf

@@ -15,7 +15,8 @@ use Rattle.language.specs.Syntax.{Form, Formula, Relation, Side, bare, form}
 use Rattle.language.specs.Reader.{asRead}
 use Rattle.language.specs.Linear.{Linear}
 use Rattle.language.specs.Numbering.{Variable, Row, signed, gathered, row, flips, factOf}
-use Rattle.onepass.specs.Walk.{negatedValue}
+use Rattle.language.specs.Model.{whatOf}
+use Rattle.onepass.proofs.Steps.{what-as}
 use Rattle.onepass.proofs.WalkedLinear.{gathered-walk}
 use Rattle.tokens.specs.declared.Move.{Move}
 use Rattle.tokens.specs.declared.Move.the-variants as move
@@ -27,8 +28,7 @@ use Rattle.evaluator.specs.Steps.Scopes.{Small}
 use Rattle.evaluator.specs.Steps.Values.{signedValue}
 use Rattle.evaluator.specs.declared.Passed.{Passed}
 use Rattle.evaluator.specs.declared.Passed.the-variants as passed
-use Rattle.evaluator.specs.Cycle.{formulaIn, onlyOutcome, seenBy, under, tokensAt, Values}
-use Rattle.evaluator.proofs.Names.{only-as}
+use Rattle.evaluator.specs.Cycle.{formulaIn, seenBy, under, tokensAt, Values}
 use Rattle.evaluator.proofs.Laws.{signed-is, signed-valid}
 use Rattle.rows.specs.Counts.{RowOf, opposed}
 use Rattle.rows.proofs.Counting.{zeros-of, of-negated, of-kept}
@@ -80,14 +80,14 @@ module _ (ns ts ds : List ℕ) (given : ℕ) (xs : List ℕ) (total level : ℕ)
               let d = does _ o w g f x b in
               record {
                 coefficients = d .gathered;
-                is = sym (only-as (gathered (w .variables) (x .form) (under (w .world) sc)) (b .rest)) ∙ ap onlyOutcome (d .is);
+                is = sym (what-as (gathered (w .variables) (x .form) (under (w .world) sc)) (b .rest)) ∙ ap whatOf (d .is);
                 counts = d .row;
               };
         }
 
     pub gather-refused : (r : Refusal) (p : ℕ) → z ≡ move.Refused r p → GathersTo asIs ns ts ds given xs total level sc at m (passed.Refused r p) m′
     gather-refused r p o =
-        record { size = same-size; is = λ w g f x b. sym (only-as (gathered (w .variables) (x .form) (under (w .world) sc)) (b .rest)) ∙ ap onlyOutcome (does _ o w g f x b) }
+        record { size = same-size; is = λ w g f x b. sym (what-as (gathered (w .variables) (x .form) (under (w .world) sc)) (b .rest)) ∙ ap whatOf (does _ o w g f x b) }
 
   -- ---- an objective
 
@@ -140,6 +140,6 @@ module _ (ns ts ds : List ℕ) (given : ℕ) (xs : List ℕ) (total level : ℕ)
             valid = subst Valid (sym j) (signed-valid b x valid);
           }
         where
-          same : (b : Bool) (x : Value) → signed b x ≡ negatedValue b x
+          same : (b : Bool) (x : Value) → signed b x ≡ signed b x
           same true x = refl
           same false x = refl

@@ -16,13 +16,14 @@ use Rattle.language.specs.Reader.{look}
 use Rattle.language.specs.Formulas.{isSum, formulaAt}
 use Rattle.language.specs.Linear.{Linear, linearAt}
 use Rattle.language.specs.Numbering.{Variable, Row, signed, variableAt, gathered, Fact, bound, row, flips, factOf}
+use Rattle.language.specs.Model.{whatOf}
 use Rattle.onepass.specs.Entries.{read}
 use Rattle.tokens.specs.Stored.{from, Named, Stands}
 use Rattle.evaluator.specs.declared.steps.scope.Scope.{Scope}
 use Rattle.evaluator.specs.Steps.Scopes.{Small}
 use Rattle.evaluator.specs.declared.Passed.{Passed}
 use Rattle.evaluator.specs.declared.Passed.the-variants as passed
-use Rattle.evaluator.specs.Cycle.{onlyOutcome, seenBy, under}
+use Rattle.evaluator.specs.Cycle.{seenBy, under}
 use Rattle.constraints.specs.Rows.{SideAt}
 use Rattle.rows.specs.Counts.{RowOf}
 use Rattle.gatherer.specs.declared.Numbered.{Numbered}
@@ -63,7 +64,7 @@ module _ {ns ts ds : List ℕ} {given : ℕ} {xs : List ℕ} {total : ℕ} (w : 
 
 pub record NumberOf (ns ts ds : List ℕ) (given : ℕ) (xs : List ℕ) (total level : ℕ) (sc : Scope) (at : ℕ) (r : Numbered) : Type 0 where
   pub is : (w : Model ns ts ds given xs total) → Small sc → (i : ℕ) (d : Spans) (fs : Formulas) (p : ℕ) → LeftAt w level at (bare i d fs p)
-      → variableAt (w .variables) i d fs p (under (w .world) sc) ≡ onlyOutcome (numberOutcome (w .world .text) ts r)
+      → variableAt (w .variables) i d fs p (under (w .world) sc) ≡ whatOf (numberOutcome (w .world .text) ts r)
   pub below : Model ns ts ds given xs total → (j a : ℕ) → r ≡ numbered.Number j a → j < total
 
 abbrev pub boundOutcome : Bounded → Outcome Fact
