@@ -1,18 +1,18 @@
 /* The recipe model generator for C: link target/staticlib/libgenerator.a (x86-64 Linux; made by `rt staticlib generator`).
 
-   recipe_generate reads a model text and writes its listing into the output buffer. The contract, for every text and every
-   buffer length, is that of recipe_generate in crates/generator/src/lib.rt, and proved; docs/LANGUAGE.md has the language,
-   docs/REFUSALS.md the refusals.
+   recipe_generate reads a model text and writes its listing into the output buffer. Its contract, for every text and every
+   buffer length, is that of recipe_generate in crates/generator/src/lib.rt, and is proved. docs/LANGUAGE.md describes the
+   language, docs/REFUSALS.md the refusals.
 
-   accepted   number 0, place 0, length the listing's; the bytes of the buffer behind the listing are zero
+   accepted   number 0, place 0, the length of the listing; the bytes of the buffer after the listing are zero
    refused    number 1 to 11, its place, length 0; every byte of the buffer is zero
 
-   The text is not changed. No byte outside the two buffers and the stack is read or written, no memory is taken from the heap,
-   nothing is kept from one call to the next, and calls may run at the same time in different threads. Of the host's own
-   libraries only memcpy and memset are called.
+   The text is not changed. No byte outside the two buffers and the stack is read or written, no heap memory is used,
+   nothing is kept from one call to the next, and calls may run concurrently in different threads. The only functions of the
+   host's libraries that are called are memcpy and memset.
 
-   The host sees to it that
-   - text and out point to text_length and out_length bytes (a length of 0 may have any pointer that is not null),
+   The host must ensure that
+   - text and out point to text_length and out_length bytes (for a length of 0, any pointer that is not null will do),
    - the two do not overlap, and no other thread writes to them during the call,
    - the calling thread has RECIPE_STACK bytes of stack left. */
 #ifndef RECIPE_H
@@ -25,33 +25,33 @@
 extern "C" {
 #endif
 
-/* Why a model comes back. */
+/* Why a model is refused. */
 enum recipe_refusal {
     RECIPE_ACCEPTED = 0,
-    RECIPE_LONG_TEXT = 1,     /* text above 16,384 bytes */
-    RECIPE_STRANGE_BYTE = 2,  /* a byte that starts no token or may not stand in a string */
+    RECIPE_LONG_TEXT = 1,     /* a text of more than 16,384 bytes */
+    RECIPE_STRANGE_BYTE = 2,  /* a byte that starts no token or is not allowed in a string */
     RECIPE_MISPLACED = 3,     /* a misshapen or misplaced token */
     RECIPE_BAD_NAME = 4,      /* a name too long, unknown, or declared again */
     RECIPE_UNFIT = 5,         /* a value that does not fit */
-    RECIPE_FULL = 6,          /* a table full */
-    RECIPE_BAD_INDEX = 7,     /* an index unbound, bound already, or a fifth bound; an order or marks that are no rearrangement */
-    RECIPE_NOT_WHOLE = 8,     /* a limit, subscript or integer datum not whole; a run above 256 */
+    RECIPE_FULL = 6,          /* a table is full */
+    RECIPE_BAD_INDEX = 7,     /* an index unbound, already bound, or a fifth bound; an order or marks that are not a rearrangement */
+    RECIPE_NOT_WHOLE = 8,     /* a limit, subscript or integer datum that is not whole; a run of more than 256 */
     RECIPE_OUTSIDE = 9,       /* a subscript or fixed entry outside the domain */
     RECIPE_MISSING = 10,      /* a value missing, given twice, or one number too many */
-    RECIPE_LONG_LISTING = 11, /* listing longer than the buffer; the place is the listing's length */
+    RECIPE_LONG_LISTING = 11, /* the listing is longer than the buffer; the place is its length */
 };
 
-/* The longest text that is read, and the program's own buffer. */
+/* The longest text that is read, and the size of the program's own buffer. */
 #define RECIPE_TEXT_LIMIT 16384
 #define RECIPE_BUFFER 65536
 
-/* Stack that a call needs, in bytes, with room to spare: the texts that nest deepest took 3,390,656 (host/stack.c measures it, and
-   host/run fails where one takes more than RECIPE_STACK). */
+/* The stack that a call needs, in bytes, with a margin: the most deeply nested texts took up to 3,390,656 (host/stack.c measures
+   this, and host/run fails if a text takes more than RECIPE_STACK). */
 #define RECIPE_STACK 4194304
 
 struct recipe_answer {
     uint32_t number; /* 0, or a refusal */
-    size_t place;    /* the byte, from 0, of the token named; the text's end is its length; of refusal 11 the listing's length */
+    size_t place;    /* the byte refused, counted from 0; the text's length at its end; for refusal 11 the listing's length */
     size_t length;   /* of the listing; 0 if refused */
 };
 

@@ -12,7 +12,7 @@ ROOT = pathlib.Path(__file__).resolve().parents[1]
 
 
 def generator(tested):
-    """The program that is to answer: the first word, else the program recipe where it is built, else the independent generator."""
+    """The program to run: the first argument, otherwise the program recipe if it is built, otherwise the independent generator."""
     for path in map(pathlib.Path, sys.argv[1:] or [ROOT / 'target/bin/recipe', ROOT / 'target/independent/generate']):
         if os.access(path, os.X_OK):
             return path.resolve()
@@ -21,7 +21,7 @@ def generator(tested):
 
 
 def furnish(folder, program):
-    """Gives the folder what stands at the root of the repository, with this program as the one that is built."""
+    """Gives the folder what is at the root of the repository, with this program as the one that is built."""
     for name in ('recipe', 'where'):
         shutil.copy(ROOT / name, folder)
     shutil.copytree(ROOT / 'shell', folder / 'shell')
@@ -40,10 +40,10 @@ def has_terminal():
 
 
 def shown(words, own_output=False, typed=None, **rest):
-    """Runs a command on a terminal. Gives its status, what the terminal shows, and standard output where that is apart."""
+    """Runs a command on a terminal. Gives its status, what the terminal shows, and standard output if that is separate."""
     near, far = pty.openpty()
     if typed is None:
-        tty.setraw(far)  # no line end is changed on its way
+        tty.setraw(far)  # no line end is changed on the way
     else:
         os.write(near, typed)
         rest['stdin'] = far

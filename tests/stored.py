@@ -4,7 +4,7 @@ import pathlib
 import sys
 
 ROOT = pathlib.Path(__file__).resolve().parents[1]
-BUFFER = 65536  # the longest output buffer, and the longest text that a program of frames takes
+BUFFER = 65536  # the longest output buffer, and the longest text, that a program of frames takes
 
 
 def cases():
@@ -13,7 +13,7 @@ def cases():
 
 
 def frame(text, buffer):
-    """A case as crate frames takes it. Each character of a text stands for the byte of its number."""
+    """A case as cases::frames takes it. Each character of a text stands for the byte with its code."""
     assert len(text) <= BUFFER and buffer <= BUFFER, 'a case is longer than the programs take'
     return f'\n{len(text):05d} {buffer:05d}\n{text}'.encode('latin-1')
 
