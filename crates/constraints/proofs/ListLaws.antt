@@ -145,7 +145,7 @@ module _ (s ns ts t : List ℕ) (at : ℕ) where
           let x = o .reached names d in
           x .same ∙ ap (behind (x .before)) (one names ∙ ap (λ o. follow o (λ c. moreIn names >>= turn (64 - (n + 1)) c names)) (stuck constraintIn s ns ts a (row .end) (h .moves) names d e p f)))
 
-      module _ (b : ℕ) (t″ : List ℕ) (j : Joint) (f : row .end ≡ At b) (room : 320 ≤ length t) (w : Put t′ n (row .title ∷ row .left ∷ row .relation ∷ row .right ∷ row .domain ∷ []) t″)
+      module _ (b : ℕ) (t″ : List ℕ) (j : Joint) (f : row .end ≡ At b) (room : 320 ≤ length t) (w : Put t′ n (row .title ∷ row .left ∷ row .shape ∷ row .right ∷ row .domain ∷ []) t″)
           (k : Gives moreIn (IsTrue (j .more)) s ns ts b (j .end)) where
         row-got : (names : List Name) → Named s ns names → Got (constraintIn names) (RowOf s ts (wordsOf row) names) s ts a b
         row-got names d = got constraintIn (RowOf s ts (wordsOf row)) s ns ts a b (subst (Gives constraintIn (RowOf s ts (wordsOf row)) s ns ts a) f h) names d
@@ -155,7 +155,7 @@ module _ (s ns ts t : List ℕ) (at : ℕ) where
             let e : n * 5 + 5 ≤ length t′ = omega (arith, o .size) in
             let x = o .reached names d in
             subst (λ t. Rows s ts t names (x .before ++ (row-got names d .what ∷ []))) (sym (put-rows t′ n _ t″ w e))
-            (rows-more s ts (rowsOf n t′) (row .title) (row .left) (row .relation) (row .right) (row .domain) names (x .before) (row-got names d .what) (x .are) (row-got names d .holds))
+            (rows-more s ts (rowsOf n t′) (row .title) (row .left) (row .shape) (row .right) (row .domain) names (x .before) (row-got names d .what) (x .are) (row-got names d .holds))
 
         rest-same : drop ((n + 1) * 5) t″ ≡ drop ((n + 1) * 5) t
         rest-same = w .rest ∙ rest-more n t t′ (o .rest)

@@ -1,11 +1,12 @@
 -- Laws of one constraint, over plain variables.
 use mathlib.Core.Path.{_≡_, refl, sym, _∙_, ap, subst}
 use mathlib.Core.List.{List, [], _∷_}
-use Prim.Native.Nat.{ℕ}
+use Prim.Native.Nat.{ℕ, _<_}
+use native.Mathlib.Omega.{arith}
 use Rattle.rules.specs.declared.Refusal.{Refusal}
 use Rattle.rules.specs.Limits.{nestingLimit}
 use Rattle.language.specs.Outcome.{refused}
-use Rattle.language.specs.Syntax.{Name, Relation, Formula, Spans, Constraint}
+use Rattle.language.specs.Syntax.{Name, Relation, atMost, atLeast, equal, Formula, Spans, Constraint}
 use Rattle.language.specs.Reader.{Reader, follow, _>>=_, give, Titled}
 use Rattle.language.specs.Linear.{Linear, sideOf}
 use Rattle.language.specs.Grammar.{constraintOf}
@@ -16,10 +17,11 @@ use Rattle.tokens.proofs.Moved.{Stood, stood, stuck, Got, got, gives-at, gives-
 use Rattle.formulas.specs.Cycle.{formulaIn}
 use Rattle.linear.specs.Linear.{linearIn}
 use Rattle.domains.specs.Domains.{optionalIn}
-use Rattle.constraints.specs.declared.Row.{Row}
+use Rattle.constraints.specs.declared.Sites.{Sites}
 use Rattle.constraints.specs.declared.Compared.{Compared}
 use Rattle.constraints.specs.Readers.{titleIn, relationIn, constraintIn}
-use Rattle.constraints.specs.Rows.{IsRelation, RowOf, wordsOf}
+use Rattle.constraints.specs.Rows.{relationMark, IsRelation, Located, RowOf}
+use Rattle.constraints.specs.Shape.{ShapeIs}
 
 abbrev made : Titled → Linear → Relation → Formula → Spans → Constraint
 made s l r f d = record { title = s .title; place = s .place; left = sideOf (l .signed) (l .form); relation = r; right = f; domain = d }
@@ -37,25 +39,25 @@ signRest s l names = relationIn names >>= (λ r. rightRest s l r names)
 leftRest : Titled → List Name → Reader Constraint
 leftRest s names = linearIn 12 names >>= (λ l. signRest s l names)
 
--- the row of a refusal
-abbrev noRow : Move → Row
-noRow r = record { title = 0; left = 0; relation = 0; right = 0; domain = 0; end = r }
+-- the answer of a refusal
+abbrev nowhere : Move → Sites
+nowhere r = record { title = 0; left = 0; mark = 0; right = 0; domain = 0; end = r }
 
 module _ (s ns ts : List ℕ) (at : ℕ) where
   constraint-is : (names : List Name) → constraintIn names (from s ts at) ≡ follow (titleIn names (from s ts at)) (λ x. leftRest x names)
   unfolding constraintIn constraintOf titleIn leftRest linearIn signRest relationIn rightRest formulaIn domainRest optionalIn nestingLimit
   constraint-is names = refl
 
-  abbrev Answer : Row → Type 0
-  Answer q = Gives constraintIn (RowOf s ts (wordsOf q)) s ns ts at (q .end)
+  abbrev Answer : Sites → Type 0
+  Answer q = Gives constraintIn (Located s ts q) s ns ts at (q .end)
 
-  no-row : (n : Refusal) (p : ℕ) (r : Move) (q : Row) → r ≡ Refused n p → q ≡ noRow r → ((names : List Name) → Named s ns names → constraintIn names (from s ts at) ≡ refused n p) → Answer q
-  no-row n p r q e f g = subst Answer (sym (f ∙ ap noRow e)) (gives-refused constraintIn (RowOf s ts (wordsOf (noRow (Refused n p)))) s ns ts at n p g)
+  no-sites : (n : Refusal) (p : ℕ) (r : Move) (q : Sites) → r ≡ Refused n p → q ≡ nowhere r → ((names : List Name) → Named s ns names → constraintIn names (from s ts at) ≡ refused n p) → Answer q
+  no-sites n p r q e f g = subst Answer (sym (f ∙ ap nowhere e)) (gives-refused constraintIn (Located s ts (nowhere (Refused n p))) s ns ts at n p g)
 
   module _ (r : Move) (h : Moves titleIn s ns ts at r) where
-    pub row-title : (n : Refusal) (p : ℕ) (q : Row) → r ≡ Refused n p → q ≡ record { title = 0; left = 0; relation = 0; right = 0; domain = 0; end = r }
-        → Gives constraintIn (RowOf s ts (wordsOf q)) s ns ts at (q .end)
-    row-title n p q e f = no-row n p r q e f (λ names d. constraint-is names ∙ ap (λ o. follow o (λ x. leftRest x names)) (stuck titleIn s ns ts at r h names d n p e))
+    pub row-title : (n : Refusal) (p : ℕ) (q : Sites) → r ≡ Refused n p → q ≡ record { title = 0; left = 0; mark = 0; right = 0; domain = 0; end = r }
+        → Gives constraintIn (Located s ts q) s ns ts at (q .end)
+    row-title n p q e f = no-sites n p r q e f (λ names d. constraint-is names ∙ ap (λ o. follow o (λ x. leftRest x names)) (stuck titleIn s ns ts at r h names d n p e))
 
     module _ (a : ℕ) (r₂ : Move) (e : r ≡ At a) (h₂ : Moves (linearIn 12) s ns ts a r₂) where
       title-read : (names : List Name) → Named s ns names → Stood (titleIn names) s ts at a
@@ -65,10 +67,10 @@ module _ (s ns ts : List ℕ) (at : ℕ) where
       unfolding leftRest
       two names d = constraint-is names ∙ ap (λ o. follow o (λ x. leftRest x names)) (title-read names d .reads)
 
-      pub row-left : (n : Refusal) (p : ℕ) (q : Row) → r₂ ≡ Refused n p → q ≡ record { title = 0; left = 0; relation = 0; right = 0; domain = 0; end = r₂ }
-          → Gives constraintIn (RowOf s ts (wordsOf q)) s ns ts at (q .end)
+      pub row-left : (n : Refusal) (p : ℕ) (q : Sites) → r₂ ≡ Refused n p → q ≡ record { title = 0; left = 0; mark = 0; right = 0; domain = 0; end = r₂ }
+          → Gives constraintIn (Located s ts q) s ns ts at (q .end)
       row-left n p q z f =
-          no-row n p r₂ q z f (λ names d. two names d ∙ ap (λ o. follow o (λ l. signRest (title-read names d .what) l names)) (stuck (linearIn 12) s ns ts a r₂ h₂ names d n p z))
+          no-sites n p r₂ q z f (λ names d. two names d ∙ ap (λ o. follow o (λ l. signRest (title-read names d .what) l names)) (stuck (linearIn 12) s ns ts a r₂ h₂ names d n p z))
 
       module _ (b : ℕ) (r₃ : Compared) (e₂ : r₂ ≡ At b) (h₃ : Gives relationIn (IsRelation (r₃ .mark)) s ns ts b (r₃ .end)) where
         left-read : (names : List Name) → Named s ns names → Stood (linearIn 12 names) s ts a b
@@ -79,10 +81,10 @@ module _ (s ns ts : List ℕ) (at : ℕ) where
         unfolding signRest
         three names d = two names d ∙ ap (λ o. follow o (λ l. signRest (title-read names d .what) l names)) (left-read names d .reads)
 
-        pub row-relation : (n : Refusal) (p : ℕ) (q : Row) → r₃ .end ≡ Refused n p → q ≡ record { title = 0; left = 0; relation = 0; right = 0; domain = 0; end = r₃ .end }
-            → Gives constraintIn (RowOf s ts (wordsOf q)) s ns ts at (q .end)
+        pub row-relation : (n : Refusal) (p : ℕ) (q : Sites) → r₃ .end ≡ Refused n p → q ≡ record { title = 0; left = 0; mark = 0; right = 0; domain = 0; end = r₃ .end }
+            → Gives constraintIn (Located s ts q) s ns ts at (q .end)
         row-relation n p q z f =
-            no-row n p (r₃ .end) q z f (λ names d.
+            no-sites n p (r₃ .end) q z f (λ names d.
             three names d ∙ ap (λ o. follow o (λ r. rightRest (title-read names d .what) (left-read names d .what) r names)) (stuck relationIn s ns ts b (r₃ .end) (h₃ .moves) names d n p z))
 
         module _ (c : ℕ) (r₄ : Move) (e₃ : r₃ .end ≡ At c) (h₄ : Moves (formulaIn 12) s ns ts c r₄) where
@@ -94,10 +96,10 @@ module _ (s ns ts : List ℕ) (at : ℕ) where
           unfolding rightRest
           four names d = three names d ∙ ap (λ o. follow o (λ r. rightRest (title-read names d .what) (left-read names d .what) r names)) (relation-read names d .reads)
 
-          pub row-right : (n : Refusal) (p : ℕ) (q : Row) → r₄ ≡ Refused n p → q ≡ record { title = 0; left = 0; relation = 0; right = 0; domain = 0; end = r₄ }
-              → Gives constraintIn (RowOf s ts (wordsOf q)) s ns ts at (q .end)
+          pub row-right : (n : Refusal) (p : ℕ) (q : Sites) → r₄ ≡ Refused n p → q ≡ record { title = 0; left = 0; mark = 0; right = 0; domain = 0; end = r₄ }
+              → Gives constraintIn (Located s ts q) s ns ts at (q .end)
           row-right n p q z f =
-              no-row n p r₄ q z f (λ names d.
+              no-sites n p r₄ q z f (λ names d.
               four names d ∙ ap (λ o. follow o (λ f. domainRest (title-read names d .what) (left-read names d .what) (relation-read names d .what) f names)) (stuck (formulaIn 12) s ns ts c r₄ h₄ names d n p z))
 
           module _ (g : ℕ) (e₄ : r₄ ≡ At g) where
@@ -112,10 +114,10 @@ module _ (s ns ts : List ℕ) (at : ℕ) where
             five names d =
                 four names d ∙ ap (λ o. follow o (λ f. domainRest (title-read names d .what) (left-read names d .what) (relation-read names d .what) f names)) (right-read names d .reads)
 
-            abbrev theRow : Move → Row
-            theRow q = record { title = at; left = a; relation = r₃ .mark; right = c; domain = g; end = q }
+            abbrev sites : Move → Sites
+            sites q = record { title = at; left = a; mark = r₃ .mark; right = c; domain = g; end = q }
 
-            row-of : (names : List Name) (d : Named s ns names) (j : ℕ) (w : Stood (optionalIn names) s ts g j) → RowOf s ts (wordsOf (theRow (At j))) names (all names d (w .what))
+            row-of : (names : List Name) (d : Named s ns names) (j : ℕ) (w : Stood (optionalIn names) s ts g j) → Located s ts (sites (At j)) names (all names d (w .what))
             unfolding titleIn linearIn formulaIn optionalIn nestingLimit
             row-of names d j w =
                 record {
@@ -126,15 +128,41 @@ module _ (s ns ts : List ℕ) (at : ℕ) where
                   domain = record { rest = from s ts j; reads = w .reads };
                 }
 
-            row-end : (q : Move) → Moves optionalIn s ns ts g q → Answer (theRow q)
+            row-end : (q : Move) → Moves optionalIn s ns ts g q → Answer (sites q)
             row-end (Refused n p) u =
-                gives-refused constraintIn (RowOf s ts (wordsOf (theRow (Refused n p)))) s ns ts at n p
+                gives-refused constraintIn (Located s ts (sites (Refused n p))) s ns ts at n p
                 (λ names d. five names d ∙ ap (λ o. follow o (λ w. give (all names d w))) (stuck optionalIn s ns ts g (Refused n p) u names d n p refl))
             row-end (At j) u =
-                gives-at constraintIn (RowOf s ts (wordsOf (theRow (At j)))) s ns ts at j (λ names d.
+                gives-at constraintIn (Located s ts (sites (At j))) s ns ts at j (λ names d.
                 let w = stood optionalIn s ns ts g (At j) u names d j refl in
                 record { what = all names d (w .what); reads = five names d ∙ ap (λ o. follow o (λ w. give (all names d w))) (w .reads); holds = row-of names d j w })
 
             pub row-domain : (q : Move) → Moves optionalIn s ns ts g q
-                → Gives constraintIn (RowOf s ts (at ∷ a ∷ r₃ .mark ∷ c ∷ g ∷ [])) s ns ts at q
+                → Gives constraintIn (Located s ts (record { title = at; left = a; mark = r₃ .mark; right = c; domain = g; end = q })) s ns ts at q
             row-domain q u = row-end q u
+
+-- ---- its row
+
+-- a relation's mark has room in its word
+mark-small : (r : Relation) (m : ℕ) → relationMark r ≡ m → m < 256
+mark-small atMost m e = omega arith
+mark-small atLeast m e = omega arith
+mark-small equal m e = omega arith
+
+pub row-is : (s ns ts : List ℕ) (at : ℕ) (q : Sites) (v : ℕ) → Gives constraintIn (Located s ts q) s ns ts at (q .end) → ShapeIs s ns ts (q .left) (q .mark) (q .domain) v
+    → Gives constraintIn (RowOf s ts (q .title ∷ q .left ∷ v ∷ q .right ∷ q .domain ∷ [])) s ns ts at (q .end)
+row-is s ns ts at q v h w =
+    record {
+      moves = h .moves;
+      tells = λ names d x e.
+          let y = h .tells names d x e in
+          record {
+            title = y .title;
+            left = y .left;
+            relation = y .relation ∙ sym (w .mark (mark-small (x .what .relation) (q .mark) (y .relation)));
+            bare = w .bare names d (x .what .left) (y .left);
+            entries = w .entries names d (x .what .domain) (y .domain);
+            right = y .right;
+            domain = y .domain;
+          };
+    }

@@ -1,2 +1,4 @@
 pub mod Readers
+pub mod Layout
 pub mod Rows
+pub mod Shape

@@ -1,19 +1,21 @@
 -- What code tells of what it read, and what a table of constraints tells of them.
 use mathlib.Core.Path.{_≡_}
-use mathlib.Core.Bool.{Bool}
+use mathlib.Core.Bool.{Bool, true, false}
 use mathlib.Core.List.{List, [], _∷_}
 use Prim.Native.Nat.{ℕ, _*_, _≤_}
 use lib.ListN.{length, drop, getD}
 use Rattle.rules.specs.Limits.{nestingLimit, constraintLimit}
 use Rattle.lexer.specs.Marks as Marks
-use Rattle.language.specs.Syntax.{Name, Relation, atMost, atLeast, equal, Side, Constraint}
+use Rattle.language.specs.Syntax.{Name, Relation, atMost, atLeast, equal, Side, bare, form, Constraint}
 use Rattle.language.specs.Reader.{readString}
 use Rattle.language.specs.Formulas.{formulaAt, optionalDomain}
 use Rattle.language.specs.Linear.{Linear, linearAt, sideOf}
-use Rattle.tokens.specs.Stored.{Stands, Gives, rowsOf}
+use Rattle.tokens.specs.Stored.{size, Stands, Gives, rowsOf}
+use Rattle.constraints.specs.declared.Sites.{Sites}
 use Rattle.constraints.specs.declared.Row.{Row}
 use Rattle.constraints.specs.declared.Listed.{Listed}
 use Rattle.constraints.specs.Readers.{constraintsIn}
+use Rattle.constraints.specs.Layout.{markPart, barePart, entriesPart}
 
 -- the mark by which a relation is written
 abbrev pub relationMark : Relation → ℕ
@@ -35,17 +37,31 @@ pub record SideAt (s ts : List ℕ) (a : ℕ) (names : List Name) (l : Side) : T
   pub stands : Stands (linearAt names nestingLimit) s ts a linear
   pub side : l ≡ sideOf (linear .signed) (linear .form)
 
--- a constraint's row: the positions of its string and its left side, the mark of its relation, the positions of its right side and
--- of its domain
+-- a side that states a bound: one variable, without sign or factor
+abbrev pub isBare : Side → Bool
+isBare (bare i d fs p) = true
+isBare (form f) = false
+
+-- the positions of a constraint's parts, and the mark of its relation
+pub record Located (s ts : List ℕ) (r : Sites) (names : List Name) (c : Constraint) : Type 0 where
+  pub title : Stands readString s ts (r .title) (record { title = c .title; place = c .place })
+  pub left : SideAt s ts (r .left) names (c .left)
+  pub relation : relationMark (c .relation) ≡ r .mark
+  pub right : Stands (formulaAt names nestingLimit) s ts (r .right) (c .right)
+  pub domain : Stands (optionalDomain names) s ts (r .domain) (c .domain)
+
+-- a constraint's row
 pub record RowOf (s ts row : List ℕ) (names : List Name) (c : Constraint) : Type 0 where
   pub title : Stands readString s ts (getD row 0 0) (record { title = c .title; place = c .place })
   pub left : SideAt s ts (getD row 1 0) names (c .left)
-  pub relation : relationMark (c .relation) ≡ getD row 2 0
+  pub relation : relationMark (c .relation) ≡ markPart (getD row 2 0)
+  pub bare : isBare (c .left) ≡ barePart (getD row 2 0)
+  pub entries : size (c .domain) ≡ entriesPart (getD row 2 0)
   pub right : Stands (formulaAt names nestingLimit) s ts (getD row 3 0) (c .right)
   pub domain : Stands (optionalDomain names) s ts (getD row 4 0) (c .domain)
 
 abbrev pub wordsOf : Row → List ℕ
-wordsOf r = r .title ∷ r .left ∷ r .relation ∷ r .right ∷ r .domain ∷ []
+wordsOf r = r .title ∷ r .left ∷ r .shape ∷ r .right ∷ r .domain ∷ []
 
 -- the rows of a list of constraints, in their order
 abbrev pub Rows : List ℕ → List ℕ → List ℕ → List Name → List Constraint → Type 0

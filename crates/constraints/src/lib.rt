@@ -1,4 +1,7 @@
 // Relations, objectives and constraints read over the stored tokens; each constraint becomes a row of a table.
+pub mod layout;
+mod shape;
+
 use lexer::marks;
 use tokens::Move;
 use tokens::Seen;
@@ -8,7 +11,7 @@ ghost use Prim.Native.Nat.{_≤_};
 ghost use lib.ListN.{length};
 ghost use Rattle.tokens.specs.Stored.{Moves, Gives};
 ghost use Rattle.constraints.specs.Readers.{titleIn, relationIn, goalIn, constraintIn, moreIn, constraintsIn};
-ghost use Rattle.constraints.specs.Rows.{IsRelation, IsTrue, RowOf, wordsOf, Constrained};
+ghost use Rattle.constraints.specs.Rows.{IsRelation, IsTrue, Located, RowOf, wordsOf, Constrained};
 
 // The mark of a relation, and where its reading ended.
 pub struct Compared {
@@ -28,12 +31,21 @@ struct Joint {
     end: Move,
 }
 
-// A constraint's row: the positions of its string and its left side, the mark of its relation, the positions of its right side and
-// of its domain; and where its reading ended.
+// Where a constraint's string, sides and domain stand, and the mark of its relation; and where its reading ended.
+struct Sites {
+    title: u64,
+    left: u64,
+    mark: u64,
+    right: u64,
+    domain: u64,
+    end: Move,
+}
+
+// The words of a constraint's row, and where its reading ended.
 pub struct Row {
     pub title: u64,
     pub left: u64,
-    pub relation: u64,
+    pub shape: u64,
     pub right: u64,
     pub domain: u64,
     pub end: Move,
@@ -134,14 +146,14 @@ fn more(text: &[u8], names: &[u64], tokens: &[u64], at: usize) -> Joint
     }
 }
 
-// No row.
-fn no_row(end: Move) -> Row
-    ensures { λ r. ⌜ r ≡ record { title = 0; left = 0; relation = 0; right = 0; domain = 0; end = end } ⌝ }
+// No constraint stands there.
+fn nowhere(end: Move) -> Sites
+    ensures { λ r. ⌜ r ≡ record { title = 0; left = 0; mark = 0; right = 0; domain = 0; end = end } ⌝ }
 {
-    Row {
+    Sites {
         title: 0,
         left: 0,
-        relation: 0,
+        mark: 0,
         right: 0,
         domain: 0,
         end: end,
@@ -149,34 +161,58 @@ fn no_row(end: Move) -> Row
 }
 
 // String, linear form, relation, formula, optional domain.
-fn constraint(text: &[u8], names: &[u64], tokens: &[u64], at: usize) -> Row
-    ensures { λ r. ⌜ Gives constraintIn (RowOf (now (text .entry)) (now (tokens .entry)) (wordsOf r)) (now (text .entry)) (now (names .entry)) (now (tokens .entry)) at (r .end) ⌝ }
+fn locate(text: &[u8], names: &[u64], tokens: &[u64], at: usize) -> Sites
+    ensures { λ r. ⌜ Gives constraintIn (Located (now (text .entry)) (now (tokens .entry)) r) (now (text .entry)) (now (names .entry)) (now (tokens .entry)) at (r .end) ⌝ }
 {
     let string = title(text, names, tokens, at);
     let Move::At(a) = string else {
-        return no_row(string);
+        return nowhere(string);
     };
     let left = linear::linear(text, names, tokens, a, rules::NESTING_LIMIT);
     let Move::At(b) = left else {
-        return no_row(left);
+        return nowhere(left);
     };
     let compared = relation(text, names, tokens, b);
     let sign = compared.end;
     let Move::At(d) = sign else {
-        return no_row(sign);
+        return nowhere(sign);
     };
     let right = formulas::formula(text, names, tokens, d, rules::NESTING_LIMIT);
     let Move::At(e) = right else {
-        return no_row(right);
+        return nowhere(right);
     };
     let end = domains::optional_domain(text, names, tokens, e);
-    Row {
+    Sites {
         title: at as u64,
         left: a as u64,
-        relation: compared.mark,
+        mark: compared.mark,
         right: d as u64,
         domain: e as u64,
         end: end,
+    }
+}
+
+// A constraint, and what its row keeps of it.
+pub fn constraint(text: &[u8], names: &[u64], tokens: &[u64], at: usize) -> Row
+    ensures { λ r. ⌜ Gives constraintIn (RowOf (now (text .entry)) (now (tokens .entry)) (wordsOf r)) (now (text .entry)) (now (names .entry)) (now (tokens .entry)) at (r .end) ⌝ }
+{
+    let sites = locate(text, names, tokens, at);
+    let end = sites.end;
+    let shape = shape::word_at(
+        text,
+        names,
+        tokens,
+        sites.left as usize,
+        sites.mark,
+        sites.domain as usize,
+    );
+    Row {
+        title: sites.title,
+        left: sites.left,
+        shape,
+        right: sites.right,
+        domain: sites.domain,
+        end,
     }
 }
 
@@ -212,7 +248,7 @@ fn read_rows(text: &[u8], names: &[u64], tokens: &[u64], rows: &mut [u64], at: u
             n,
             row.title,
             row.left,
-            row.relation,
+            row.shape,
             row.right,
             row.domain,
         );

@@ -110,26 +110,25 @@ zeros-at (suc n) (suc k) = zeros-at n k
 
 module _ (s ts ns cs ds : List ℕ) (r : Tables) (few : r .constraints ≤ 64) (bs : List ℕ) (unstated : bs ≡ replicate 1024 0) (m : Model) (reads : readModel s ≡ done m) (h : ModelAt s ts ns cs ds r m) where
   -- the tables tell of the model
-  poses : Poses s (rowsOf (r .names) ns) ts ds (r .given) (r .objective) (r .minimize) cs (r .constraints) bs (model-holds s ts ns cs ds r m h .world) m
+  poses : Poses (rowsOf (r .names) ns) ts ds (r .given) (r .objective) (r .minimize) cs (r .constraints) bs (model-holds s ts ns cs ds r m h .world) m
   unfolding constraintLimit
   poses =
       let w = model-holds s ts ns cs ds r m h in
       let d = model-declares s m reads in
       record {
-        text = w .text;
         names = w .names;
         start = holds-start s (rowsOf (r .names) ns) ts ds (r .given) m w;
         placed = w .placed;
         ordered = subst InOrder (sym (w .names)) (declarations-order (d .first) (d .rest) (m .structure .names) (d .reads));
-        objective = h .structure .objective;
+        objective = rw (w .text) (h .structure .objective);
         minimize = h .structure .minimize;
         few = few;
-        constraints = h .structure .constraints;
+        constraints = rw (w .text) (h .structure .constraints);
         unbound = λ k. ap (λ l. getD l k 0) unstated ∙ zeros-at 1024 k;
       }
 
   module _ (xs t bs′ : List ℕ) (c : List ℤ) (out out′ : List ℕ) where
-    made-refused : (n : Refusal) (q : ℕ) → GeneratesAs s (rowsOf (r .names) ns) ts ds (r .given) (r .objective) (r .minimize) cs (r .constraints) bs (problem.Refused n q) xs t bs′ c
+    made-refused : (n : Refusal) (q : ℕ) → GeneratesAs (rowsOf (r .names) ns) ts ds (r .given) (r .objective) (r .minimize) cs (r .constraints) bs (problem.Refused n q) xs t bs′ c
         → Lists (accepted s) out (generated.Refused n q) out′
     made-refused n q g = go (generate m) refl (g .is _ m poses)
       where
@@ -137,7 +136,7 @@ module _ (s ts ns cs ds : List ℕ) (r : Tables) (few : r .constraints ≤ 64) (
         go (done p) i k = absurd k
         go (refused n′ q′) i k = subst (λ o. Lists o out (generated.Refused n q) out′) (sym (problem-refused s m reads n′ q′ i)) k
 
-    made-listed : (a n : ℕ) (f : Filled) → GeneratesAs s (rowsOf (r .names) ns) ts ds (r .given) (r .objective) (r .minimize) cs (r .constraints) bs (problem.Of a n f) xs t bs′ c → (k : ℕ)
+    made-listed : (a n : ℕ) (f : Filled) → GeneratesAs (rowsOf (r .names) ns) ts ds (r .given) (r .objective) (r .minimize) cs (r .constraints) bs (problem.Of a n f) xs t bs′ c → (k : ℕ)
         → sheet.Lists s (rowsOf (r .names) ns) ts (rowsOf (r .constraints) cs) xs t bs′ c (record { discrete = a; variables = n; less = f .less; equal = f .equal }) (r .title) (behindBrace (r .section)) (r .bytes) out k out′
         → Lists (accepted s) out (generated.Listed k) out′
     unfolding listingOf linesOf
@@ -171,10 +170,10 @@ module _ (s ts ns cs ds : List ℕ) (r : Tables) (few : r .constraints ≤ 64) (
             subst (λ o. Lists o out (generated.Listed k) out′) (sym acc) (subst (λ z. Written out 0 z k out′) (lines-shown (linesOf m p) proper) (l .lines m p shown))
 
 -- the same, of the rows of the names alone
-module _ (s ns ts cs ds : List ℕ) (r : Tables) (few : r .constraints ≤ 64) (bs : List ℕ) (x : Problem) (xs t bs′ : List ℕ) (c : List ℤ) (g : GeneratesAs s ns ts ds (r .given) (r .objective) (r .minimize) cs (r .constraints) bs x xs t bs′ c) (out out′ : List ℕ) where
+module _ (s ns ts cs ds : List ℕ) (r : Tables) (few : r .constraints ≤ 64) (bs : List ℕ) (x : Problem) (xs t bs′ : List ℕ) (c : List ℤ) (g : GeneratesAs ns ts ds (r .given) (r .objective) (r .minimize) cs (r .constraints) bs x xs t bs′ c) (out out′ : List ℕ) where
   generates-as : (y : Problem) → x ≡ y → (t₀ : List ℕ) → ns ≡ rowsOf (r .names) t₀
-      → GeneratesAs s (rowsOf (r .names) t₀) ts ds (r .given) (r .objective) (r .minimize) cs (r .constraints) bs y xs t bs′ c
-  generates-as y e t₀ i = subst₂ (λ l y. GeneratesAs s l ts ds (r .given) (r .objective) (r .minimize) cs (r .constraints) bs y xs t bs′ c) i e g
+      → GeneratesAs (rowsOf (r .names) t₀) ts ds (r .given) (r .objective) (r .minimize) cs (r .constraints) bs y xs t bs′ c
+  generates-as y e t₀ i = subst₂ (λ l y. GeneratesAs l ts ds (r .given) (r .objective) (r .minimize) cs (r .constraints) bs y xs t bs′ c) i e g
 
   pub list-refused : (n : Refusal) (q : ℕ) → x ≡ problem.Refused n q → ListsIn s ns ts cs ds r bs out (generated.Refused n q) out′
   list-refused n q e = record { lists = λ unstated. record { lists = λ m reads t₀ i h. made-refused s ts t₀ cs ds r few bs unstated m reads h xs t bs′ c out out′ n q (generates-as (problem.Refused n q) e t₀ i) } }

@@ -90,7 +90,6 @@ fn list_in(
     ensures { λ r. ⌜ ListsIn (now (text .entry)) (now (names .entry)) (now (tokens .entry)) (now (constraints .entry)) (now (store .entry)) model (now (bounds .entry)) (now (out .entry)) r (now (out .exit)) ⌝ }
 {
     let made = problem::generate(
-        text,
         names,
         tokens,
         store,

@@ -1,5 +1,6 @@
 // The listing of a problem, written from its tables. Each line is written from the byte where the last one ended, as far as the
 // output reaches; the listing's length is given whether or not the output reaches that far.
+use constraints::layout;
 use evaluator::steps::names;
 ghost use mathlib.Core.Path.{_≡_};
 ghost use Prim.Native.Nat.{_+_, _<_, _≤_, _^_};
@@ -72,7 +73,7 @@ fn string_at<'a>(text: &'a [u8], tokens: &[u64], at: usize) -> &'a [u8]
 fn title_of<'a>(text: &'a [u8], tokens: &[u64], constraints: &[u64], i: usize) -> &'a [u8]
     ensures { λ r. ⌜ now r ≡ titleOf (now (text .entry)) (now (tokens .entry)) (now (constraints .entry)) i ⌝ }
 {
-    string_at(text, tokens, names::word_of(constraints, i, 0) as usize)
+    string_at(text, tokens, layout::title_of(constraints, i))
 }
 
 // ---- the first line and the last

@@ -30,7 +30,7 @@ use Rattle.evaluator.specs.declared.Passed.{Passed}
 use Rattle.evaluator.specs.declared.Passed.the-variants as passed
 use Rattle.evaluator.specs.Tables.{World}
 use Rattle.evaluator.specs.Cycle.{seenBy, nothingBound, under}
-use Rattle.constraints.specs.Rows.{SideAt}
+use Rattle.constraints.specs.Rows.{SideAt, isBare}
 use Rattle.matrix.specs.declared.parts.Parts.{Parts}
 use Rattle.rows.specs.declared.Filled.{Filled}
 use Rattle.rows.specs.Slots.{objectiveRow, nextSlot, RowsHeld, RowPut, Wrote}
@@ -43,7 +43,7 @@ use Rattle.matrix.specs.declared.sides.Bounded.{Bounded}
 use Rattle.matrix.specs.declared.sides.Bounded.the-variants as bounded
 use Rattle.matrix.specs.declared.sides.Right.{Right}
 use Rattle.matrix.specs.declared.sides.Right.the-variants as right
-use Rattle.matrix.specs.Sides.Answers.{isBare, boundOutcome, Sound, BoundIs, Holds, GathersTo, RowOn, Rowed, RightIs}
+use Rattle.matrix.specs.Sides.Answers.{boundOutcome, Sound, BoundIs, Holds, GathersTo, RowOn, Rowed, RightIs}
 use Rattle.matrix.specs.declared.Generated.the-variants as generated
 use Rattle.matrix.specs.Answers.{Stays, Takes, RowAdds, BoundAdds, ObjectiveAdds, ObjectiveIs}
 

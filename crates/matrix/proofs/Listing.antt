@@ -15,58 +15,53 @@ use Rattle.language.specs.Scope.{Scope as Bindings}
 use Rattle.language.specs.Syntax.{Name, Constraint}
 use Rattle.language.specs.Evaluation.{over}
 use Rattle.language.specs.Numbering.{Variable, Entry, addEntry, addEntries}
-use Rattle.tokens.specs.Stored.{Named, rowsOf}
+use Rattle.tokens.specs.Stored.{rowsOf}
 use Rattle.store.specs.Key.{nameBound}
 use Rattle.evaluator.specs.declared.Passed.{Passed}
 use Rattle.evaluator.specs.declared.Passed.the-variants as passed
 use Rattle.evaluator.specs.Cycle.{nothingBound}
-use Rattle.constraints.specs.Rows.{RowOf, Rows}
+use Rattle.constraints.specs.Layout.{rowAt}
+use Rattle.constraints.specs.Rows.{isBare, RowOf, Rows}
 use Rattle.matrix.specs.declared.parts.Parts.{Parts}
-use Rattle.matrix.specs.Parts.Parts.{Tells, rowAt, PartsAre}
+use Rattle.matrix.specs.Parts.Parts.{PartsAre}
 use Rattle.rows.specs.declared.Filled.{Filled}
 use Rattle.rows.proofs.Slotting.{rows-none}
 use Rattle.rows.proofs.Bounding.{bounds-none}
 use Rattle.gatherer.specs.Cycle.{Model}
-use Rattle.matrix.specs.Sides.Answers.{isBare, IsBare}
 use Rattle.matrix.specs.declared.Generated.{Generated}
 use Rattle.matrix.specs.declared.Generated.the-variants as generated
 use Rattle.matrix.specs.Answers.{State, Adds, AddsBounds, Stays, Takes, RowsAdd, BoundsAdd, OneAdds, AllAdd, Generates}
 
 -- ---- one constraint
 
-module _ (s ns ts ds : List ℕ) (given : ℕ) (xs : List ℕ) (total : ℕ) (cs : List ℕ) (k : ℕ) (f : Filled) (t b : List ℕ) (m : List ℤ)
-    (p : Parts) (h : PartsAre s ns ts cs k p) (bare : Bool) (g : IsBare s ns ts (p .left) bare) where
+module _ (ns ts ds : List ℕ) (given : ℕ) (xs : List ℕ) (total : ℕ) (cs : List ℕ) (k : ℕ) (f : Filled) (t b : List ℕ) (m : List ℤ) (p : Parts) (h : PartsAre ts cs k p) where
   -- what the row tells
-  tells : (w : Model ns ts ds given xs total) → w .world .text ≡ s → (c : Constraint) → RowOf s ts (rowAt cs k) (w .world .names) c → Tells s ts (w .world .names) c p
-  tells w e c r = h .is (w .world .names) (subst (λ z. Named z ns (w .world .names)) e (w .world .tables .named)) c r
+  takes : (w : Model ns ts ds given xs total) → k < nameBound → (c : Constraint) → RowOf (w .world .text) ts (rowAt cs k) (w .world .names) c → Takes ns ts ds given xs total w k c p
+  takes w n c r = record { tells = h .is (w .world .text) (w .world .names) c r; numbered = n }
 
-  takes : (w : Model ns ts ds given xs total) → w .world .text ≡ s → k < nameBound → (c : Constraint) → RowOf s ts (rowAt cs k) (w .world .names) c → Takes ns ts ds given xs total w k c p
-  takes w e n c r = record { tells = subst (λ z. Tells z ts (w .world .names) c p) (sym e) (tells w e c r); numbered = n }
+  side-is : (v : Bool) → p .bare ≡ v → (w : Model ns ts ds given xs total) (c : Constraint) → RowOf (w .world .text) ts (rowAt cs k) (w .world .names) c → isBare (c .left) ≡ v
+  side-is v i w c r = h .is (w .world .text) (w .world .names) c r .bare ∙ i
 
-  side-is : (v : Bool) → bare ≡ v → (w : Model ns ts ds given xs total) → w .world .text ≡ s → (c : Constraint) → RowOf s ts (rowAt cs k) (w .world .names) c → isBare (c .left) ≡ v
-  side-is v i w e c r =
-      sym (g .is (w .world .names) (subst (λ z. Named z ns (w .world .names)) e (w .world .tables .named)) (c .left) (tells w e c r .left)) ∙ i
+  pub one-rows : p .bare ≡ false → (r : Generated) (t′ : List ℕ) (m′ : List ℤ) → RowsAdd ns ts ds given xs total k p f t m r t′ m′ → OneAdds ns ts ds given xs total cs k f t b m r t′ b m′
+  one-rows i r t′ m′ a = record { stays = a .stays; adds = λ w n c row es st. a .adds w c (takes w n c row) (side-is false i w c row) b es st }
 
-  pub one-rows : bare ≡ false → (r : Generated) (t′ : List ℕ) (m′ : List ℤ) → RowsAdd ns ts ds given xs total k p f t m r t′ m′ → OneAdds s ns ts ds given xs total cs k f t b m r t′ b m′
-  one-rows i r t′ m′ a = record { stays = a .stays; adds = λ w e n c row es st. a .adds w c (takes w e n c row) (side-is false i w e c row) b es st }
-
-  module _ (i : bare ≡ true) (q : Passed) (b′ : List ℕ) (a : BoundsAdd ns ts ds given xs total p b q b′) where
-    pub one-bounds : q ≡ passed.Inside → OneAdds s ns ts ds given xs total cs k f t b m (generated.Of f) t b′ m
+  module _ (i : p .bare ≡ true) (q : Passed) (b′ : List ℕ) (a : BoundsAdd ns ts ds given xs total p b q b′) where
+    pub one-bounds : q ≡ passed.Inside → OneAdds ns ts ds given xs total cs k f t b m (generated.Of f) t b′ m
     one-bounds j =
         record {
           stays = refl;
-          adds = λ w e n c row es st.
+          adds = λ w n c row es st.
               subst (λ z. AddsBounds (w .variables) (over (c .domain) (nothingBound (w .world)) (addEntry (w .variables) k c) es) z t m b′ f) j
-              (a .adds w k c (takes w e n c row) (side-is true i w e c row) t m f es st);
+              (a .adds w k c (takes w n c row) (side-is true i w c row) t m f es st);
         }
 
-    pub one-refused : (r : Refusal) (o : ℕ) → q ≡ passed.Refused r o → OneAdds s ns ts ds given xs total cs k f t b m (generated.Refused r o) t b′ m
+    pub one-refused : (r : Refusal) (o : ℕ) → q ≡ passed.Refused r o → OneAdds ns ts ds given xs total cs k f t b m (generated.Refused r o) t b′ m
     one-refused r o j =
         record {
           stays = refl;
-          adds = λ w e n c row es st.
+          adds = λ w n c row es st.
               subst (λ z. AddsBounds (w .variables) (over (c .domain) (nothingBound (w .world)) (addEntry (w .variables) k c) es) z t m b′ f) j
-              (a .adds w k c (takes w e n c row) (side-is true i w e c row) t m f es st);
+              (a .adds w k c (takes w n c row) (side-is true i w c row) t m f es st);
         }
 
 -- ---- rows of the table
@@ -136,7 +131,7 @@ module _ (vs : List Variable) (s : Bindings) (k : ℕ) (l : List Constraint) (es
 
 -- ---- the loop
 
-module _ (s ns ts ds : List ℕ) (given : ℕ) (xs : List ℕ) (total : ℕ) (cs : List ℕ) (count : ℕ) (t₀ b₀ : List ℕ) (m₀ : List ℤ) where
+module _ (ns ts ds : List ℕ) (given : ℕ) (xs : List ℕ) (total : ℕ) (cs : List ℕ) (count : ℕ) (t₀ b₀ : List ℕ) (m₀ : List ℤ) where
   abbrev all-entries : (w : Model ns ts ds given xs total) → List Constraint → Outcome (List Entry)
   all-entries w l = addEntries (w .variables) (nothingBound (w .world)) 0 l []
 
@@ -156,7 +151,7 @@ module _ (s ns ts ds : List ℕ) (given : ℕ) (xs : List ℕ) (total : ℕ) (cs
     pub counts : length m ≡ length m₀
     pub within : k ≤ count
     stays : Stays total m₀ m
-    on : (w : Model ns ts ds given xs total) → w .world .text ≡ s → count ≤ constraintLimit → (l : List Constraint) → Rows s ts (rowsOf count cs) (w .world .names) l
+    on : (w : Model ns ts ds given xs total) → count ≤ constraintLimit → (l : List Constraint) → Rows (w .world .text) ts (rowsOf count cs) (w .world .names) l
         → ((i : ℕ) → getD b₀ i 0 ≡ 0) → AllAt w l f t b m k
 
   pub all-start : total ≤ 512 → 320 ≤ length cs → 2048 ≤ length t₀ → 1024 ≤ length b₀ → 263168 ≤ length m₀ → AllOn (record { less = 0; equal = 0 }) t₀ b₀ m₀ 0
@@ -172,7 +167,7 @@ module _ (s ns ts ds : List ℕ) (given : ℕ) (xs : List ℕ) (total : ℕ) (cs
         counts = refl;
         within = omega arith;
         stays = refl;
-        on = λ w g i l r z. record { entries = []; state = record { rows = rows-none (w .variables) t₀ m₀; bounds = bounds-none b₀ (length (w .variables)) z }; due = refl };
+        on = λ w i l r z. record { entries = []; state = record { rows = rows-none (w .variables) t₀ m₀; bounds = bounds-none b₀ (length (w .variables)) z }; due = refl };
       }
 
   module _ (f : Filled) (t b : List ℕ) (m : List ℤ) (k : ℕ) (o : AllOn f t b m k) where
@@ -180,36 +175,36 @@ module _ (s ns ts ds : List ℕ) (given : ℕ) (xs : List ℕ) (total : ℕ) (cs
     unfolding constraintLimit
     size-rows h = length-take (count * 5) cs ∙ omega (arith, o .rowed)
 
-    pub all-done : count ≤ k → AllAdd s ns ts ds given xs total cs count b₀ m₀ (generated.Of f) t b m
+    pub all-done : count ≤ k → AllAdd ns ts ds given xs total cs count b₀ m₀ (generated.Of f) t b m
     all-done g =
         record {
           stays = o .stays;
-          adds = λ w e i l r z.
-              let x = o .on w e i l r z in
-              let n : length l ≤ k = omega (arith, rows-length s ts (w .world .names) (rowsOf count cs) l r, size-rows i) in
+          adds = λ w i l r z.
+              let x = o .on w i l r z in
+              let n : length l ≤ k = omega (arith, rows-length (w .world .text) ts (w .world .names) (rowsOf count cs) l r, size-rows i) in
               record { entries = x .entries; is = x .due ∙ entries-none (w .variables) (nothingBound (w .world)) k l (x .entries) (drop-of-length-le l n); state = x .state };
         }
 
-    module _ (g : k < count) (q : Generated) (t′ b′ : List ℕ) (m′ : List ℤ) (a : OneAdds s ns ts ds given xs total cs k f t b m q t′ b′ m′) where
+    module _ (g : k < count) (q : Generated) (t′ b′ : List ℕ) (m′ : List ℤ) (a : OneAdds ns ts ds given xs total cs k f t b m q t′ b′ m′) where
       -- the constraint in row k
-      next-row : (w : Model ns ts ds given xs total) → count ≤ constraintLimit → (l : List Constraint) → Rows s ts (rowsOf count cs) (w .world .names) l → RowHere s ts (w .world .names) (rowsOf count cs) l k
-      next-row w i l r = row-here s ts (w .world .names) (rowsOf count cs) l r k (omega (arith, size-rows i))
+      next-row : (w : Model ns ts ds given xs total) → count ≤ constraintLimit → (l : List Constraint) → Rows (w .world .text) ts (rowsOf count cs) (w .world .names) l → RowHere (w .world .text) ts (w .world .names) (rowsOf count cs) l k
+      next-row w i l r = row-here (w .world .text) ts (w .world .names) (rowsOf count cs) l r k (omega (arith, size-rows i))
 
-      adds-next : (w : Model ns ts ds given xs total) → w .world .text ≡ s → (i : count ≤ constraintLimit) (l : List Constraint) (r : Rows s ts (rowsOf count cs) (w .world .names) l) (x : AllAt w l f t b m k)
+      adds-next : (w : Model ns ts ds given xs total) (i : count ≤ constraintLimit) (l : List Constraint) (r : Rows (w .world .text) ts (rowsOf count cs) (w .world .names) l) (x : AllAt w l f t b m k)
           → Adds (w .variables) (over (next-row w i l r .constraint .domain) (nothingBound (w .world)) (addEntry (w .variables) k (next-row w i l r .constraint)) (x .entries)) q t′ m′ b′
       unfolding constraintLimit nameBound
-      adds-next w e i l r x =
+      adds-next w i l r x =
           let c = next-row w i l r in
-          a .adds w e (omega arith) (c .constraint) (row-whole s ts (w .world .names) cs count k (c .constraint) g (c .row)) (x .entries) (x .state)
+          a .adds w (omega arith) (c .constraint) (row-whole (w .world .text) ts (w .world .names) cs count k (c .constraint) g (c .row)) (x .entries) (x .state)
 
-      pub all-refused : (r : Refusal) (p : ℕ) → q ≡ generated.Refused r p → AllAdd s ns ts ds given xs total cs count b₀ m₀ q t′ b′ m′
+      pub all-refused : (r : Refusal) (p : ℕ) → q ≡ generated.Refused r p → AllAdd ns ts ds given xs total cs count b₀ m₀ q t′ b′ m′
       all-refused n p j =
           record {
             stays = a .stays ∙ o .stays;
-            adds = λ w e i l r z.
-                let x = o .on w e i l r z in
+            adds = λ w i l r z.
+                let x = o .on w i l r z in
                 let c = next-row w i l r in
-                let y = subst (λ z. Adds (w .variables) (over (c .constraint .domain) (nothingBound (w .world)) (addEntry (w .variables) k (c .constraint)) (x .entries)) z t′ m′ b′) j (adds-next w e i l r x) in
+                let y = subst (λ z. Adds (w .variables) (over (c .constraint .domain) (nothingBound (w .world)) (addEntry (w .variables) k (c .constraint)) (x .entries)) z t′ m′ b′) j (adds-next w i l r x) in
                 subst (λ z. Adds (w .variables) (all-entries w l) z t′ m′ b′) (sym j)
                 (x .due ∙ entries-refused (w .variables) (nothingBound (w .world)) k l (x .entries) (c .constraint) (c .here) n p y);
           }
@@ -227,10 +222,10 @@ module _ (s ns ts ds : List ℕ) (given : ℕ) (xs : List ℕ) (total : ℕ) (cs
             counts = hm ∙ o .counts;
             within = omega arith;
             stays = a .stays ∙ o .stays;
-            on = λ w e i l r z.
-                let x = o .on w e i l r z in
+            on = λ w i l r z.
+                let x = o .on w i l r z in
                 let c = next-row w i l r in
-                let y = subst (λ z. Adds (w .variables) (over (c .constraint .domain) (nothingBound (w .world)) (addEntry (w .variables) k (c .constraint)) (x .entries)) z t′ m′ b′) j (adds-next w e i l r x) in
+                let y = subst (λ z. Adds (w .variables) (over (c .constraint .domain) (nothingBound (w .world)) (addEntry (w .variables) k (c .constraint)) (x .entries)) z t′ m′ b′) j (adds-next w i l r x) in
                 record {
                   entries = y .entries;
                   state = y .state;
@@ -240,10 +235,10 @@ module _ (s ns ts ds : List ℕ) (given : ℕ) (xs : List ℕ) (total : ℕ) (cs
 
 -- ---- at most 512 variables
 
-module _ (s ns ts ds : List ℕ) (given : ℕ) (xs : List ℕ) (total : ℕ) (cs : List ℕ) (count : ℕ) (b : List ℕ) (m : List ℤ) (r : Generated) (t′ b′ : List ℕ) (m′ : List ℤ) where
-  pub too-many : 512 < total → Generates s ns ts ds given xs total cs count b m r t′ b′ m′
+module _ (ns ts ds : List ℕ) (given : ℕ) (xs : List ℕ) (total : ℕ) (cs : List ℕ) (count : ℕ) (b : List ℕ) (m : List ℤ) (r : Generated) (t′ b′ : List ℕ) (m′ : List ℤ) where
+  pub too-many : 512 < total → Generates ns ts ds given xs total cs count b m r t′ b′ m′
   unfolding variableLimit
   too-many h = record { all = λ g. absurd (omega arith) }
 
-  pub few-enough : AllAdd s ns ts ds given xs total cs count b m r t′ b′ m′ → Generates s ns ts ds given xs total cs count b m r t′ b′ m′
+  pub few-enough : AllAdd ns ts ds given xs total cs count b m r t′ b′ m′ → Generates ns ts ds given xs total cs count b m r t′ b′ m′
   few-enough h = record { all = λ _. h }

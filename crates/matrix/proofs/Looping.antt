@@ -19,6 +19,7 @@ use Rattle.evaluator.specs.declared.Passed.{Passed}
 use Rattle.evaluator.specs.declared.Passed.the-variants as passed
 use Rattle.evaluator.specs.Tables.{DomainAt}
 use Rattle.evaluator.specs.Cycle.{nothingBound, under}
+use Rattle.constraints.specs.Rows.{isBare}
 use Rattle.elements.specs.declared.here.Here.{Here}
 use Rattle.elements.specs.declared.Step.{Step}
 use Rattle.elements.specs.declared.Step.the-variants.{At, Done, Refused}
@@ -30,7 +31,6 @@ use Rattle.elements.proofs.Loops.{loop-start, loop-more, loop-refused, loop-don
 use Rattle.matrix.specs.declared.parts.Parts.{Parts}
 use Rattle.rows.specs.declared.Filled.{Filled}
 use Rattle.gatherer.specs.Cycle.{Model}
-use Rattle.matrix.specs.Sides.Answers.{isBare}
 use Rattle.matrix.specs.declared.Generated.{Generated}
 use Rattle.matrix.specs.declared.Generated.the-variants as generated
 use Rattle.matrix.specs.Answers.{State, Adds, AddsBounds, Stays, Takes, RowAdds, RowsAdd, BoundAdds, BoundsAdd}

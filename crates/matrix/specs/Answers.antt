@@ -20,14 +20,14 @@ use Rattle.evaluator.specs.Steps.Scopes.{Small}
 use Rattle.evaluator.specs.declared.Passed.{Passed}
 use Rattle.evaluator.specs.declared.Passed.the-variants as passed
 use Rattle.evaluator.specs.Cycle.{nothingBound, under}
-use Rattle.constraints.specs.Rows.{RowOf, Rows}
+use Rattle.constraints.specs.Layout.{rowAt}
+use Rattle.constraints.specs.Rows.{isBare, RowOf, Rows}
 use Rattle.matrix.specs.declared.parts.Parts.{Parts}
-use Rattle.matrix.specs.Parts.Parts.{Tells, rowAt}
+use Rattle.matrix.specs.Parts.Parts.{Tells}
 use Rattle.rows.specs.declared.Filled.{Filled}
 use Rattle.rows.specs.Slots.{countsAt, objectiveRow, ObjectiveHeld, RowsHeld}
 use Rattle.rows.specs.Bounds.{BoundsHeld}
 use Rattle.gatherer.specs.Cycle.{Model}
-use Rattle.matrix.specs.Sides.Answers.{isBare}
 use Rattle.matrix.specs.declared.Generated.{Generated}
 use Rattle.matrix.specs.declared.Generated.the-variants as generated
 
@@ -89,21 +89,21 @@ module _ (ns ts ds : List ℕ) (given : ℕ) (xs : List ℕ) (total : ℕ) where
 -- ---- all constraints
 
 -- constraint number k, in its row of the table cs
-pub record OneAdds (s ns ts ds : List ℕ) (given : ℕ) (xs : List ℕ) (total : ℕ) (cs : List ℕ) (k : ℕ) (f : Filled) (t b : List ℕ) (m : List ℤ) (r : Generated) (t′ b′ : List ℕ) (m′ : List ℤ) : Type 0 where
+pub record OneAdds (ns ts ds : List ℕ) (given : ℕ) (xs : List ℕ) (total : ℕ) (cs : List ℕ) (k : ℕ) (f : Filled) (t b : List ℕ) (m : List ℤ) (r : Generated) (t′ b′ : List ℕ) (m′ : List ℤ) : Type 0 where
   pub stays : Stays total m m′
-  pub adds : (w : Model ns ts ds given xs total) → w .world .text ≡ s → k < nameBound → (c : Constraint) → RowOf s ts (rowAt cs k) (w .world .names) c
+  pub adds : (w : Model ns ts ds given xs total) → k < nameBound → (c : Constraint) → RowOf (w .world .text) ts (rowAt cs k) (w .world .names) c
       → (es : List Entry) → State (w .variables) t m b f es
       → Adds (w .variables) (over (c .domain) (nothingBound (w .world)) (addEntry (w .variables) k c) es) r t′ m′ b′
 
 -- the constraints of the first `count` rows, from tables in which no bound is stated
-pub record AllAdd (s ns ts ds : List ℕ) (given : ℕ) (xs : List ℕ) (total : ℕ) (cs : List ℕ) (count : ℕ) (b : List ℕ) (m : List ℤ) (r : Generated) (t′ b′ : List ℕ) (m′ : List ℤ) : Type 0 where
+pub record AllAdd (ns ts ds : List ℕ) (given : ℕ) (xs : List ℕ) (total : ℕ) (cs : List ℕ) (count : ℕ) (b : List ℕ) (m : List ℤ) (r : Generated) (t′ b′ : List ℕ) (m′ : List ℤ) : Type 0 where
   pub stays : Stays total m m′
-  pub adds : (w : Model ns ts ds given xs total) → w .world .text ≡ s → count ≤ constraintLimit → (l : List Constraint) → Rows s ts (rowsOf count cs) (w .world .names) l
+  pub adds : (w : Model ns ts ds given xs total) → count ≤ constraintLimit → (l : List Constraint) → Rows (w .world .text) ts (rowsOf count cs) (w .world .names) l
       → ((k : ℕ) → getD b k 0 ≡ 0) → Adds (w .variables) (addEntries (w .variables) (nothingBound (w .world)) 0 l []) r t′ m′ b′
 
 -- the same for at most 512 variables
-pub record Generates (s ns ts ds : List ℕ) (given : ℕ) (xs : List ℕ) (total : ℕ) (cs : List ℕ) (count : ℕ) (b : List ℕ) (m : List ℤ) (r : Generated) (t′ b′ : List ℕ) (m′ : List ℤ) : Type 0 where
-  pub all : total ≤ variableLimit → AllAdd s ns ts ds given xs total cs count b m r t′ b′ m′
+pub record Generates (ns ts ds : List ℕ) (given : ℕ) (xs : List ℕ) (total : ℕ) (cs : List ℕ) (count : ℕ) (b : List ℕ) (m : List ℤ) (r : Generated) (t′ b′ : List ℕ) (m′ : List ℤ) : Type 0 where
+  pub all : total ≤ variableLimit → AllAdd ns ts ds given xs total cs count b m r t′ b′ m′
 
 -- ---- the objective
 

@@ -232,7 +232,6 @@ fn bounds_of(
 
 // Constraint number k: bounds where its left side is one variable, else rows.
 fn one(
-    text: &[u8],
     names: &[u64],
     tokens: &[u64],
     table: &[u64],
@@ -247,10 +246,10 @@ fn one(
     counts: &mut [i64],
 ) -> Generated
     requires { ⌜ (total ≤ 512) × (2048 ≤ length (now slots)) × (1024 ≤ length (now bounds)) × (263168 ≤ length (now counts)) ⌝ }
-    ensures { λ r. ⌜ OneAdds (now (text .entry)) (now (names .entry)) (now (tokens .entry)) (now (table .entry)) given (now (variables .entry)) total (now (constraints .entry)) k filled (now (slots .entry)) (now (bounds .entry)) (now (counts .entry)) r (now (slots .exit)) (now (bounds .exit)) (now (counts .exit)) ⌝ }
+    ensures { λ r. ⌜ OneAdds (now (names .entry)) (now (tokens .entry)) (now (table .entry)) given (now (variables .entry)) total (now (constraints .entry)) k filled (now (slots .entry)) (now (bounds .entry)) (now (counts .entry)) r (now (slots .exit)) (now (bounds .exit)) (now (counts .exit)) ⌝ }
 {
-    let parts = parts::read(text, names, tokens, constraints, k);
-    if sides::is_bare(text, names, tokens, parts.left) {
+    let parts = parts::read(tokens, constraints, k);
+    if parts.bare {
         let r = bounds_of(names, tokens, table, given, variables, total, parts, bounds);
         return match r {
             Passed::Inside => Generated::Of(filled),
@@ -274,7 +273,6 @@ fn one(
 
 // The constraints of the first `count` rows.
 fn all(
-    text: &[u8],
     names: &[u64],
     tokens: &[u64],
     table: &[u64],
@@ -288,13 +286,12 @@ fn all(
     counts: &mut [i64],
 ) -> Generated
     requires { ⌜ (total ≤ 512) × (2048 ≤ length (now slots)) × (1024 ≤ length (now bounds)) × (263168 ≤ length (now counts)) × (320 ≤ length (now constraints)) ⌝ }
-    ensures { λ r. ⌜ AllAdd (now (text .entry)) (now (names .entry)) (now (tokens .entry)) (now (table .entry)) given (now (variables .entry)) total (now (constraints .entry)) count (now (bounds .entry)) (now (counts .entry)) r (now (slots .exit)) (now (bounds .exit)) (now (counts .exit)) ⌝ }
+    ensures { λ r. ⌜ AllAdd (now (names .entry)) (now (tokens .entry)) (now (table .entry)) given (now (variables .entry)) total (now (constraints .entry)) count (now (bounds .entry)) (now (counts .entry)) r (now (slots .exit)) (now (bounds .exit)) (now (counts .exit)) ⌝ }
 {
     let mut f = Filled { less: 0, equal: 0 };
     let mut k = 0;
     while k < count {
         let r = one(
-            text,
             names,
             tokens,
             table,
@@ -319,7 +316,6 @@ fn all(
 
 // All constraints, in the first `count` rows of their table: the slots of their rows, their bounds, and the rows of counts.
 pub fn constraints(
-    text: &[u8],
     names: &[u64],
     tokens: &[u64],
     table: &[u64],
@@ -332,13 +328,12 @@ pub fn constraints(
     bounds: &mut [u64; 1024],
     counts: &mut [i64; 263168],
 ) -> Generated
-    ensures { λ r. ⌜ Generates (now (text .entry)) (now (names .entry)) (now (tokens .entry)) (now (table .entry)) given (now (variables .entry)) total (now (constraints .entry)) count (now (bounds .entry)) (now (counts .entry)) r (now (slots .exit)) (now (bounds .exit)) (now (counts .exit)) ⌝ }
+    ensures { λ r. ⌜ Generates (now (names .entry)) (now (tokens .entry)) (now (table .entry)) given (now (variables .entry)) total (now (constraints .entry)) count (now (bounds .entry)) (now (counts .entry)) r (now (slots .exit)) (now (bounds .exit)) (now (counts .exit)) ⌝ }
 {
     if rules::VARIABLE_LIMIT < total {
         return Generated::Refused(rules::Refusal::Full, 0);
     }
     all(
-        text,
         names,
         tokens,
         table,

@@ -6,14 +6,12 @@ use evaluator::steps::names::Listed;
 use evaluator::steps::values;
 use evaluator::steps::values::Answer;
 use gatherer::Numbered;
-use lexer::marks;
-use tokens::Found;
 use tokens::Move;
 use tokens::Seen;
 use value::Value;
 ghost use mathlib.Core.List.{map};
 ghost use Rattle.language.specs.Numbering.{signed};
-ghost use Rattle.matrix.specs.Sides.Answers.{IsAlone, IsBare, NumberOf, BoundIs, GathersTo, asIs, Turns, RightIs};
+ghost use Rattle.matrix.specs.Sides.Answers.{NumberOf, BoundIs, GathersTo, asIs, Turns, RightIs};
 
 // A variable's number from 0 and the right side.
 pub enum Bounded {
@@ -25,52 +23,6 @@ pub enum Bounded {
 pub enum Right {
     At(Value),
     Refused(rules::Refusal, u64),
-}
-
-// Whether neither `+` nor `-` stands at a position.
-fn is_alone(tokens: &[u64], at: usize) -> bool
-    ensures { λ r. ⌜ IsAlone (now (tokens .entry)) at r ⌝ }
-{
-    let token = tokens::token_at(tokens, at);
-    match token {
-        Seen::Token(k, p, x, next) => {
-            if (k == marks::PLUS as u64) | (k == marks::MINUS as u64) {
-                return false;
-            }
-            true
-        }
-        Seen::Refused(n, p) => false,
-    }
-}
-
-// Whether the left side at a position is one variable, without sign or factor.
-pub fn is_bare(text: &[u8], names: &[u64], tokens: &[u64], at: usize) -> bool
-    ensures { λ r. ⌜ IsBare (now (text .entry)) (now (names .entry)) (now (tokens .entry)) at r ⌝ }
-{
-    let token = tokens::token_at(tokens, at);
-    match token {
-        Seen::Token(k, p, x, next) => {
-            let name = linear::variable(text, names, k, p, x);
-            match name {
-                Found::Name(i, sort, count) => {
-                    let end = formulas::subscripts(
-                        text,
-                        names,
-                        tokens,
-                        next,
-                        rules::NESTING_LIMIT,
-                        count,
-                    );
-                    match end {
-                        Move::At(a) => is_alone(tokens, a),
-                        Move::Refused(n, q) => false,
-                    }
-                }
-                Found::Nothing => false,
-            }
-        }
-        Seen::Refused(n, p) => false,
-    }
 }
 
 // The number of the variable that is the left side at a position.

@@ -52,6 +52,8 @@ module _ (s ts ts′ : List ℕ) (same : (at : ℕ) → from s ts′ at ≡ from
         title = stands-kept _ _ _ (h .title);
         left = record { linear = h .left .linear; stands = stands-kept _ _ _ (h .left .stands); side = h .left .side };
         relation = h .relation;
+        bare = h .bare;
+        entries = h .entries;
         right = stands-kept _ _ _ (h .right);
         domain = stands-kept _ _ _ (h .domain);
       }

@@ -58,24 +58,24 @@ sources m vs es e =
 
 -- ---- missing data, variables
 
-module _ {s ns ts ds : List ℕ} {given aim : ℕ} {b : Bool} {cs : List ℕ} {count : ℕ} {bs : List ℕ} where
+module _ {ns ts ds : List ℕ} {given aim : ℕ} {b : Bool} {cs : List ℕ} {count : ℕ} {bs : List ℕ} where
   -- what was said of a world's names and scope is said of the model's
-  at-start : (P : List Name → Scope → Type 0) (w : World ns ts ds given) (m : Model) → Poses s ns ts ds given aim b cs count bs w m → P (w .names) (nothingBound w) → P (m .structure .names) (start m)
+  at-start : (P : List Name → Scope → Type 0) (w : World ns ts ds given) (m : Model) → Poses ns ts ds given aim b cs count bs w m → P (w .names) (nothingBound w) → P (m .structure .names) (start m)
   at-start P w m p h = subst₂ P (p .names) (p .start) h
 
   pub missing-refused : (test : Passed) → AllGiven ns ts ds given test → (n : Refusal) (q : ℕ) → test ≡ passed.Refused n q → (xs t bs′ : List ℕ) (c : List ℤ)
-      → GeneratesAs s ns ts ds given aim b cs count bs (problem.Refused n q) xs t bs′ c
+      → GeneratesAs ns ts ds given aim b cs count bs (problem.Refused n q) xs t bs′ c
   missing-refused test a n q e xs t bs′ c = record {
     is = λ w m p. answer-refused (generate m) n q (m .structure .constraints) xs t bs′ c
         (without-data m n q (at-start (λ l r. allGiven 0 l r ≡ refused n q) w m p (a .is w (p .placed) ∙ ap passedOutcome e)));
   }
 
   module _ (test : Passed) (a : AllGiven ns ts ds given test) (inside : test ≡ passed.Inside) where
-    all-given : (w : World ns ts ds given) (m : Model) → Poses s ns ts ds given aim b cs count bs w m → allGiven 0 (m .structure .names) (start m) ≡ done tt
+    all-given : (w : World ns ts ds given) (m : Model) → Poses ns ts ds given aim b cs count bs w m → allGiven 0 (m .structure .names) (start m) ≡ done tt
     all-given w m p = at-start (λ l r. allGiven 0 l r ≡ done tt) w m p (a .is w (p .placed) ∙ ap passedOutcome inside)
 
     pub variables-refused : (r : Counted) (xs : List ℕ) → NumbersAs ns ts ds given r xs → (n : Refusal) (q : ℕ) → r ≡ counted.Refused n q → (t bs′ : List ℕ) (c : List ℤ)
-        → GeneratesAs s ns ts ds given aim b cs count bs (problem.Refused n q) xs t bs′ c
+        → GeneratesAs ns ts ds given aim b cs count bs (problem.Refused n q) xs t bs′ c
     variables-refused r xs v n q e t bs′ c = record {
       is = λ w m p. answer-refused (generate m) n q (m .structure .constraints) xs t bs′ c
           (without-variables m (all-given w m p) n q
@@ -84,7 +84,7 @@ module _ {s ns ts ds : List ℕ} {given aim : ℕ} {b : Bool} {cs : List ℕ} {c
     }
 
     numbers-of : (xs : List ℕ) (discrete total : ℕ) → NumbersAs ns ts ds given (counted.Of discrete total) xs → (w : World ns ts ds given) (m : Model)
-        → Poses s ns ts ds given aim b cs count bs w m → Numbers xs discrete total m
+        → Poses ns ts ds given aim b cs count bs w m → Numbers xs discrete total m
     numbers-of xs discrete total v w m p =
         let k = v .is w (p .placed) (p .ordered) in
         record {
@@ -100,15 +100,15 @@ module _ {s ns ts ds : List ℕ} {given aim : ℕ} {b : Bool} {cs : List ℕ} {c
         }
 
     pub shaped : (r : Counted) (xs : List ℕ) → NumbersAs ns ts ds given r xs → (discrete total : ℕ) → r ≡ counted.Of discrete total → (x : Problem) (t bs′ : List ℕ) (c : List ℤ)
-        → ShapesAs s ns ts ds given xs discrete total aim b cs count bs x t bs′ c → GeneratesAs s ns ts ds given aim b cs count bs x xs t bs′ c
+        → ShapesAs ns ts ds given xs discrete total aim b cs count bs x t bs′ c → GeneratesAs ns ts ds given aim b cs count bs x xs t bs′ c
     shaped r xs v discrete total e x t bs′ c h = record {
       is = λ w m p. h .is w m p (numbers-of xs discrete total (subst (λ r. NumbersAs ns ts ds given r xs) e v) w m p);
     }
 
 -- ---- the objective, constraints
 
-module _ {s ns ts ds : List ℕ} {given : ℕ} {xs : List ℕ} {discrete total aim : ℕ} {b : Bool} {cs : List ℕ} {count : ℕ} {bs : List ℕ} where
-  module _ (w : World ns ts ds given) (m : Model) (p : Poses s ns ts ds given aim b cs count bs w m) (v : Numbers xs discrete total m) where
+module _ {ns ts ds : List ℕ} {given : ℕ} {xs : List ℕ} {discrete total aim : ℕ} {b : Bool} {cs : List ℕ} {count : ℕ} {bs : List ℕ} where
+  module _ (w : World ns ts ds given) (m : Model) (p : Poses ns ts ds given aim b cs count bs w m) (v : Numbers xs discrete total m) where
     abbrev gathering : Gathering ns ts ds given xs total
     gathering = record { world = w; variables = v .variables; held = v .numbered }
 
@@ -117,18 +117,18 @@ module _ {s ns ts ds : List ℕ} {given : ℕ} {xs : List ℕ} {discrete total a
     objective-at r c o =
         let f = p .objective in
         subst₂ (λ g z. ObjectiveAdds (v .variables) b (gathered (v .variables) g z) r c) (sym (f .form)) (p .start)
-        (o .is (v .few) gathering (f .linear) (subst₂ (λ z l. Stands (linearAt l nestingLimit) z ts aim (f .linear)) (sym (p .text)) (sym (p .names)) (f .stands)))
+        (o .is (v .few) gathering (f .linear) (subst (λ l. Stands (linearAt l nestingLimit) (w .text) ts aim (f .linear)) (sym (p .names)) (f .stands)))
 
     -- the constraints' answer, of the model
-    entries-at : (c : List ℤ) (r : Generated) (t bs′ : List ℕ) (c′ : List ℤ) → Generates s ns ts ds given xs total cs count bs c r t bs′ c′
+    entries-at : (c : List ℤ) (r : Generated) (t bs′ : List ℕ) (c′ : List ℤ) → Generates ns ts ds given xs total cs count bs c r t bs′ c′
         → Adds (v .variables) (addEntries (v .variables) (start m) 0 (m .structure .constraints) []) r t c′ bs′
     entries-at c r t bs′ c′ g =
         subst (λ z. Adds (v .variables) (addEntries (v .variables) z 0 (m .structure .constraints) []) r t c′ bs′) (p .start)
-        (g .all (v .few) .adds gathering (p .text) (p .few) (m .structure .constraints)
-        (subst (λ l. Rows s ts (rowsOf count cs) l (m .structure .constraints)) (sym (p .names)) (p .constraints)) (p .unbound))
+        (g .all (v .few) .adds gathering (p .few) (m .structure .constraints)
+        (subst (λ l. Rows (w .text) ts (rowsOf count cs) l (m .structure .constraints)) (sym (p .names)) (p .constraints)) (p .unbound))
 
   pub objective-refused : (r : Passed) (c : List ℤ) → ObjectiveIs b ns ts ds given xs total aim r c → (n : Refusal) (q : ℕ) → r ≡ passed.Refused n q → (t bs′ : List ℕ) (c′ : List ℤ)
-      → ShapesAs s ns ts ds given xs discrete total aim b cs count bs (problem.Refused n q) t bs′ c′
+      → ShapesAs ns ts ds given xs discrete total aim b cs count bs (problem.Refused n q) t bs′ c′
   objective-refused r c o n q e t bs′ c′ = record {
     is = λ w m p v. answer-refused (generate m) n q (m .structure .constraints) xs t bs′ c′
         (without-objective m (v .given) (v .discretes) (v .variables) (v .first) (v .all) n q
@@ -136,12 +136,12 @@ module _ {s ns ts ds : List ℕ} {given : ℕ} {xs : List ℕ} {discrete total a
   }
 
   module _ (r : Passed) (c : List ℤ) (o : ObjectiveIs b ns ts ds given xs total aim r c) (inside : r ≡ passed.Inside) where
-    aimed : (w : World ns ts ds given) (m : Model) → Poses s ns ts ds given aim b cs count bs w m → (v : Numbers xs discrete total m)
+    aimed : (w : World ns ts ds given) (m : Model) → Poses ns ts ds given aim b cs count bs w m → (v : Numbers xs discrete total m)
         → Objective (v .variables) b (gathered (v .variables) (m .structure .objective) (start m)) c
     aimed w m p v = subst (λ r. ObjectiveAdds (v .variables) b (gathered (v .variables) (m .structure .objective) (start m)) r c) inside (objective-at w m p v r c o)
 
-    module _ (x : Generated) (t bs′ : List ℕ) (c′ : List ℤ) (g : Generates s ns ts ds given xs total cs count bs c x t bs′ c′) where
-      pub constraints-refused : (n : Refusal) (q : ℕ) → x ≡ generated.Refused n q → ShapesAs s ns ts ds given xs discrete total aim b cs count bs (problem.Refused n q) t bs′ c′
+    module _ (x : Generated) (t bs′ : List ℕ) (c′ : List ℤ) (g : Generates ns ts ds given xs total cs count bs c x t bs′ c′) where
+      pub constraints-refused : (n : Refusal) (q : ℕ) → x ≡ generated.Refused n q → ShapesAs ns ts ds given xs discrete total aim b cs count bs (problem.Refused n q) t bs′ c′
       constraints-refused n q e = record {
         is = λ w m p v.
             let a = aimed w m p v in
@@ -150,7 +150,7 @@ module _ {s ns ts ds : List ℕ} {given : ℕ} {xs : List ℕ} {discrete total a
             (subst (λ x. Adds (v .variables) (addEntries (v .variables) (start m) 0 (m .structure .constraints) []) x t c′ bs′) e (entries-at w m p v c x t bs′ c′ g)));
       }
 
-      pub constraints-done : (f : Filled) → x ≡ generated.Of f → ShapesAs s ns ts ds given xs discrete total aim b cs count bs (problem.Of discrete total f) t bs′ c′
+      pub constraints-done : (f : Filled) → x ≡ generated.Of f → ShapesAs ns ts ds given xs discrete total aim b cs count bs (problem.Of discrete total f) t bs′ c′
       constraints-done f e = record {
         is = λ w m p v.
             let a = aimed w m p v in

@@ -30,16 +30,15 @@ use Rattle.problem.specs.declared.Problem.the-variants as problem
 -- ---- the model
 
 -- the tables, which hold a world, tell of the model m: its names, its objective at `aim`, its constraints; and no bound is stated
-pub record Poses (s ns ts ds : List ℕ) (given aim : ℕ) (b : Bool) (cs : List ℕ) (count : ℕ) (bs : List ℕ) (w : World ns ts ds given) (m : Model) : Type 0 where
-  pub text : w .text ≡ s
+pub record Poses (ns ts ds : List ℕ) (given aim : ℕ) (b : Bool) (cs : List ℕ) (count : ℕ) (bs : List ℕ) (w : World ns ts ds given) (m : Model) : Type 0 where
   pub names : w .names ≡ m .structure .names
   pub start : nothingBound w ≡ start m
   pub placed : Placed ns (w .names)
   pub ordered : InOrder (w .names)
-  pub objective : FormAt s ts aim (m .structure .names) (m .structure .objective)
+  pub objective : FormAt (w .text) ts aim (m .structure .names) (m .structure .objective)
   pub minimize : m .structure .minimize ≡ b
   pub few : count ≤ constraintLimit
-  pub constraints : Rows s ts (rowsOf count cs) (m .structure .names) (m .structure .constraints)
+  pub constraints : Rows (w .text) ts (rowsOf count cs) (m .structure .names) (m .structure .constraints)
   pub unbound : (k : ℕ) → getD bs k 0 ≡ 0
 
 -- ---- the problem
@@ -74,9 +73,9 @@ pub record Numbers (xs : List ℕ) (a n : ℕ) (m : Model) : Type 0 where
   pub numbered : Numbered xs n variables
   pub keyed : All KeyedVariable variables
 
-pub record ShapesAs (s ns ts ds : List ℕ) (given : ℕ) (xs : List ℕ) (discrete total aim : ℕ) (b : Bool) (cs : List ℕ) (count : ℕ) (bs : List ℕ) (r : Problem) (t bs′ : List ℕ) (c : List ℤ) : Type 0 where
-  pub is : (w : World ns ts ds given) (m : Model) → Poses s ns ts ds given aim b cs count bs w m → Numbers xs discrete total m
+pub record ShapesAs (ns ts ds : List ℕ) (given : ℕ) (xs : List ℕ) (discrete total aim : ℕ) (b : Bool) (cs : List ℕ) (count : ℕ) (bs : List ℕ) (r : Problem) (t bs′ : List ℕ) (c : List ℤ) : Type 0 where
+  pub is : (w : World ns ts ds given) (m : Model) → Poses ns ts ds given aim b cs count bs w m → Numbers xs discrete total m
       → Generating (generate m) (m .structure .constraints) r xs t bs′ c
 
-pub record GeneratesAs (s ns ts ds : List ℕ) (given aim : ℕ) (b : Bool) (cs : List ℕ) (count : ℕ) (bs : List ℕ) (r : Problem) (xs t bs′ : List ℕ) (c : List ℤ) : Type 0 where
-  pub is : (w : World ns ts ds given) (m : Model) → Poses s ns ts ds given aim b cs count bs w m → Generating (generate m) (m .structure .constraints) r xs t bs′ c
+pub record GeneratesAs (ns ts ds : List ℕ) (given aim : ℕ) (b : Bool) (cs : List ℕ) (count : ℕ) (bs : List ℕ) (r : Problem) (xs t bs′ : List ℕ) (c : List ℤ) : Type 0 where
+  pub is : (w : World ns ts ds given) (m : Model) → Poses ns ts ds given aim b cs count bs w m → Generating (generate m) (m .structure .constraints) r xs t bs′ c

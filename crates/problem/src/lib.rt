@@ -17,7 +17,6 @@ pub enum Problem {
 
 // The objective and the constraints of `total` variables, the first of which are discrete.
 fn shape(
-    text: &[u8],
     names: &[u64],
     tokens: &[u64],
     table: &[u64],
@@ -33,7 +32,7 @@ fn shape(
     bounds: &mut [u64; 1024],
     counts: &mut [i64; 263168],
 ) -> Problem
-    ensures { λ r. ⌜ ShapesAs (now (text .entry)) (now (names .entry)) (now (tokens .entry)) (now (table .entry)) given (now (variables .entry)) discrete total aim minimize (now (constraints .entry)) count (now (bounds .entry)) r (now (slots .exit)) (now (bounds .exit)) (now (counts .exit)) ⌝ }
+    ensures { λ r. ⌜ ShapesAs (now (names .entry)) (now (tokens .entry)) (now (table .entry)) given (now (variables .entry)) discrete total aim minimize (now (constraints .entry)) count (now (bounds .entry)) r (now (slots .exit)) (now (bounds .exit)) (now (counts .exit)) ⌝ }
 {
     let objective = matrix::objective(
         names,
@@ -53,7 +52,6 @@ fn shape(
         }
     }
     let rows = matrix::constraints(
-        text,
         names,
         tokens,
         table,
@@ -75,7 +73,6 @@ fn shape(
 // Missing data, variables, the objective, constraints. The form of the objective stands at `aim`, and the first `count` rows of the
 // table tell of the constraints.
 pub fn generate(
-    text: &[u8],
     names: &[u64],
     tokens: &[u64],
     table: &[u64],
@@ -89,7 +86,7 @@ pub fn generate(
     bounds: &mut [u64; 1024],
     counts: &mut [i64; 263168],
 ) -> Problem
-    ensures { λ r. ⌜ GeneratesAs (now (text .entry)) (now (names .entry)) (now (tokens .entry)) (now (table .entry)) given aim minimize (now (constraints .entry)) count (now (bounds .entry)) r (now (variables .exit)) (now (slots .exit)) (now (bounds .exit)) (now (counts .exit)) ⌝ }
+    ensures { λ r. ⌜ GeneratesAs (now (names .entry)) (now (tokens .entry)) (now (table .entry)) given aim minimize (now (constraints .entry)) count (now (bounds .entry)) r (now (variables .exit)) (now (slots .exit)) (now (bounds .exit)) (now (counts .exit)) ⌝ }
 {
     let test = missing::all_given(names, tokens, table, given);
     match test {
@@ -101,7 +98,6 @@ pub fn generate(
     let numbers = variables::number(names, tokens, table, given, variables);
     match numbers {
         Counted::Of(discrete, total) => shape(
-            text,
             names,
             tokens,
             table,

@@ -20,6 +20,7 @@ use Rattle.language.specs.Proper.{Visible}
 use Rattle.language.specs.Proper as Proper
 use Rattle.tokens.specs.Stored.{placePart, payloadPart, bytesFrom, spelling, kindOf, token, from, Named, Stands}
 use Rattle.tokens.proofs.Tables.{view-here, view-end}
+use Rattle.constraints.specs.Layout.{rowAt}
 use Rattle.constraints.specs.Rows.{Rows}
 use Rattle.evaluator.specs.Steps.Names.{rowWord}
 use Rattle.listing.specs.Sheet.Strings.{nameAt, stringAt, titleOf}
@@ -115,7 +116,7 @@ string-told s ts at x h t = spelled-part s (placePart (getD ts at 0) + 1) (paylo
 -- ---- constraints
 
 title-stands : (s ts cs : List ℕ) (names : List Name) (xs : List Constraint) (i : ℕ) (x : Constraint) → Rows s ts cs names xs → At xs i x
-    → Stands readString s ts (rowWord cs i 0) (record { title = x .title; place = x .place })
+    → Stands readString s ts (getD (rowAt cs i) 0 0) (record { title = x .title; place = x .place })
 unfolding rowWord
 title-stands s ts [] names [] i x h a = absurd a
 title-stands s ts [] names (y ∷ ys) i x h a = absurd h
@@ -131,4 +132,4 @@ title-stands s ts (a ∷ b ∷ c ∷ d ∷ e ∷ cs) names (y ∷ ys) (suc i) x 
 pub title-told : (s ts cs : List ℕ) (names : List Name) (xs : List Constraint) (i : ℕ) (x : Constraint) → Rows s ts cs names xs → At xs i x → Proper.Text (x .title)
     → x .title ≡ titleOf s ts cs i
 unfolding titleOf
-title-told s ts cs names xs i x h a t = string-told s ts (rowWord cs i 0) _ (title-stands s ts cs names xs i x h a) t
+title-told s ts cs names xs i x h a t = string-told s ts (getD (rowAt cs i) 0 0) _ (title-stands s ts cs names xs i x h a) t

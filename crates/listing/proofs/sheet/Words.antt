@@ -18,6 +18,7 @@ use Rattle.tokens.specs.Stored.{placePart, payloadPart}
 use Rattle.listing.specs.declared.Upper.the-variants.{None, At}
 use Rattle.listing.specs.Upper.{bound}
 use Rattle.store.specs.Packed.{unpacked}
+use Rattle.constraints.specs.Layout.{rowAt}
 use Rattle.evaluator.specs.Steps.Names.{rowWord}
 use Rattle.listing.specs.declared.sheet.Sizes.{Sizes}
 use Rattle.listing.specs.Sheet.Strings.{nameAt, stringAt, titleOf, lowerIn, upperIn, within}
@@ -70,7 +71,7 @@ module _ (s t : List ℕ) (i : ℕ) where
   unfolding stringAt
   string-is w r e h = rw (← e) h
 
-pub title-is : (s ts cs : List ℕ) (i w : ℕ) (r : List ℕ) → w ≡ rowWord cs i 0 → r ≡ stringAt s ts w → r ≡ titleOf s ts cs i
+pub title-is : (s ts cs : List ℕ) (i w : ℕ) (r : List ℕ) → w ≡ getD (rowAt cs i) 0 0 → r ≡ stringAt s ts w → r ≡ titleOf s ts cs i
 unfolding titleOf
 title-is s ts cs i w r e h = rw (← e) h
 
@@ -87,7 +88,7 @@ string-most s ts at = part-most s (placePart (getD ts at 0) + 1) (payloadPart (g
 
 pub title-most : (s ts cs : List ℕ) (i : ℕ) → length (titleOf s ts cs i) ≤ length s
 unfolding titleOf
-title-most s ts cs i = string-most s ts (rowWord cs i 0)
+title-most s ts cs i = string-most s ts (getD (rowAt cs i) 0 0)
 
 -- ---- bounds
 

@@ -11,6 +11,7 @@ use Rattle.value.specs.Decimal.{zeroValue}
 use Rattle.lexer.specs.View.{partOf}
 use Rattle.tokens.specs.Stored.{placePart, payloadPart}
 use Rattle.store.specs.Packed.{unpacked}
+use Rattle.constraints.specs.Layout.{rowAt}
 use Rattle.evaluator.specs.Steps.Names.{rowWord}
 use Rattle.listing.specs.declared.sheet.Sizes.{Sizes}
 
@@ -24,7 +25,7 @@ stringAt s ts at = partOf s (placePart (getD ts at 0) + 1) (payloadPart (getD ts
 
 -- the string of the constraint of a number
 unfoldable pub titleOf : List ℕ → List ℕ → List ℕ → ℕ → List ℕ
-titleOf s ts cs i = stringAt s ts (rowWord cs i 0)
+titleOf s ts cs i = stringAt s ts (getD (rowAt cs i) 0 0)
 
 -- bounds by their words
 unfoldable pub lowerIn : ℕ → Value

@@ -7,11 +7,11 @@ use Rattle.matrix.proofs.all.Statement.{statement}
 use Rattle.matrix.proofs.all.Tie as tie
 
 abbrev Inv-loop : tie.InvT-loop
-Inv-loop text names tokens table given variables total constraints count slots₀ bounds₀ counts₀ f₀ k₀ slots bounds counts f k =
-    AllOn text names tokens table given variables total constraints count slots₀ bounds₀ counts₀ f slots bounds counts k
+Inv-loop names tokens table given variables total constraints count slots₀ bounds₀ counts₀ f₀ k₀ slots bounds counts f k =
+    AllOn names tokens table given variables total constraints count slots₀ bounds₀ counts₀ f slots bounds counts k
 
 abbrev μ-loop : tie.MeasureT-loop
-μ-loop text names tokens table given variables total constraints count slots₀ bounds₀ counts₀ f₀ k₀ slots bounds counts f k = count - k
+μ-loop names tokens table given variables total constraints count slots₀ bounds₀ counts₀ f₀ k₀ slots bounds counts f k = count - k
 
 loop-holds : tie.Need-loop-holds Inv-loop μ-loop
 loop-holds c = search all-start depth 8

@@ -7,9 +7,6 @@ use Rattle.matrix.proofs.one.Tie as tie
 read-requires : tie.Need-read-requires
 read-requires c κs = search needs
 
-is-bare-requires : tie.Need-is-bare-requires
-is-bare-requires c κs = search needs
-
 bounds-of-requires : tie.Need-bounds-of-requires
 bounds-of-requires c κs = search needs
 
@@ -23,13 +20,13 @@ same-length : tie.Need-same-length
 same-length c = search needs
 
 returns : tie.Need-returns
-returns c = search one-bounds depth 8
+returns c = search one-bounds depth 7
 
 same-length-2 : tie.Need-same-length-2
 same-length-2 c = search needs
 
 returns-2 : tie.Need-returns-2
-returns-2 c = search one-refused depth 8
+returns-2 c = search one-refused depth 7
 
 rows-of-requires : tie.Need-rows-of-requires
 rows-of-requires c κs = search needs
@@ -41,14 +38,13 @@ same-length-4 : tie.Need-same-length-4
 same-length-4 c = search needs
 
 returns-3 : tie.Need-returns-3
-returns-3 c = search one-rows depth 7
+returns-3 c = search one-rows depth 6
 
 pub one-spec : {M : Type 1} → statement M
 one-spec =
     tie.close
     (tie.spec
     read-requires
-    is-bare-requires
     bounds-of-requires
     enum-told
     enum-known-r

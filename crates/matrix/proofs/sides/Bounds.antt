@@ -35,14 +35,15 @@ use Rattle.evaluator.specs.declared.steps.values.Answer.{Answer}
 use Rattle.evaluator.specs.declared.steps.values.Answer.the-variants as answer
 use Rattle.evaluator.specs.Steps.Scopes.{Small}
 use Rattle.evaluator.specs.Cycle.{formulaIn, valueOutcome, ValidAnswer, seenBy, under, tokensAt, Values}
+use Rattle.constraints.specs.Rows.{isBare}
 use Rattle.gatherer.specs.declared.Numbered.{Numbered}
 use Rattle.gatherer.specs.declared.Numbered.the-variants as numbered
 use Rattle.gatherer.specs.Cycle.{Model, numberOutcome, NumberIs, Heads, variableSeen, Begins}
 use Rattle.gatherer.proofs.Numbers.{begins-of}
 use Rattle.matrix.specs.declared.sides.Bounded.{Bounded}
 use Rattle.matrix.specs.declared.sides.Bounded.the-variants as bounded
-use Rattle.matrix.specs.Sides.Answers.{isBare, LeftAt, RightAt, NumberOf, boundOutcome, Sound, BoundIs}
-use Rattle.matrix.proofs.sides.Bare.{bare-side}
+use Rattle.matrix.specs.Sides.Answers.{LeftAt, RightAt, NumberOf, boundOutcome, Sound, BoundIs}
+use Rattle.constraints.proofs.SideLaws.{bare-side}
 
 module _ (ns ts ds : List ℕ) (given : ℕ) (xs : List ℕ) (total level : ℕ) (sc : Scope) where
   -- ---- the variable's number

@@ -30,13 +30,14 @@ use Rattle.evaluator.specs.declared.Passed.{Passed}
 use Rattle.evaluator.specs.declared.Passed.the-variants as passed
 use Rattle.evaluator.specs.Cycle.{formulaIn, seenBy, under, tokensAt, Values}
 use Rattle.evaluator.proofs.Laws.{signed-is, signed-valid}
+use Rattle.constraints.specs.Rows.{isBare}
 use Rattle.rows.specs.Counts.{RowOf, opposed}
 use Rattle.rows.proofs.Counting.{zeros-of, of-negated, of-kept}
 use Rattle.gatherer.specs.Cycle.{gatherIn, Model, Does, Gathers}
 use Rattle.matrix.specs.declared.sides.Right.{Right}
 use Rattle.matrix.specs.declared.sides.Right.the-variants as right
-use Rattle.matrix.specs.Sides.Answers.{isBare, LeftAt, RightAt, FormAt, asIs, Holds, GathersTo, Turns, Rowed, RightIs}
-use Rattle.matrix.proofs.sides.Bare.{form-side}
+use Rattle.matrix.specs.Sides.Answers.{LeftAt, RightAt, FormAt, asIs, Holds, GathersTo, Turns, Rowed, RightIs}
+use Rattle.constraints.proofs.SideLaws.{form-side}
 use Rattle.matrix.proofs.sides.Bounds.{value-at, valid-at}
 
 -- ---- a sign before each coefficient

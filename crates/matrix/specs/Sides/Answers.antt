@@ -1,7 +1,7 @@
 -- What each function answers: for every text, names, data and variables that the tables hold, what one element of a constraint
 -- becomes, and the objective's row. `level`: how many names are visible.
 use mathlib.Core.Path.{_≡_}
-use mathlib.Core.Bool.{Bool, true, false, not}
+use mathlib.Core.Bool.{Bool, true, false}
 use mathlib.Core.List.{List, map}
 use Prim.Native.Nat.{ℕ, _<_}
 use lib.ListN.{length}
@@ -9,22 +9,19 @@ use lib.IntN.{ℤ}
 use Rattle.rules.specs.Limits.{nestingLimit}
 use Rattle.value.specs.declared.Value.{Value}
 use Rattle.value.specs.Decimal.{Valid}
-use Rattle.lexer.specs.Text.{Token}
 use Rattle.language.specs.Outcome.{Outcome, done, refused}
-use Rattle.language.specs.Syntax.{Name, Formula, Formulas, Spans, Relation, Side, bare, form}
-use Rattle.language.specs.Reader.{look}
-use Rattle.language.specs.Formulas.{isSum, formulaAt}
+use Rattle.language.specs.Syntax.{Formula, Formulas, Spans, Relation, Side, bare}
+use Rattle.language.specs.Formulas.{formulaAt}
 use Rattle.language.specs.Linear.{Linear, linearAt}
 use Rattle.language.specs.Numbering.{Variable, Row, signed, variableAt, gathered, Fact, bound, row, flips, factOf}
 use Rattle.language.specs.Model.{whatOf}
-use Rattle.onepass.specs.Entries.{read}
-use Rattle.tokens.specs.Stored.{from, Named, Stands}
+use Rattle.tokens.specs.Stored.{Stands}
 use Rattle.evaluator.specs.declared.steps.scope.Scope.{Scope}
 use Rattle.evaluator.specs.Steps.Scopes.{Small}
 use Rattle.evaluator.specs.declared.Passed.{Passed}
 use Rattle.evaluator.specs.declared.Passed.the-variants as passed
 use Rattle.evaluator.specs.Cycle.{seenBy, under}
-use Rattle.constraints.specs.Rows.{SideAt}
+use Rattle.constraints.specs.Rows.{SideAt, isBare}
 use Rattle.rows.specs.Counts.{RowOf}
 use Rattle.gatherer.specs.declared.Numbered.{Numbered}
 use Rattle.gatherer.specs.declared.Numbered.the-variants as numbered
@@ -33,20 +30,6 @@ use Rattle.matrix.specs.declared.sides.Bounded.{Bounded}
 use Rattle.matrix.specs.declared.sides.Bounded.the-variants as bounded
 use Rattle.matrix.specs.declared.sides.Right.{Right}
 use Rattle.matrix.specs.declared.sides.Right.the-variants as right
-
--- ---- one variable, or a row
-
--- a side that states a bound
-abbrev pub isBare : Side → Bool
-isBare (bare i d fs p) = true
-isBare (form f) = false
-
-pub record IsAlone (ts : List ℕ) (at : ℕ) (r : Bool) : Type 0 where
-  pub is : (s : List ℕ) (t : Token) (l : List Token) → look (from s ts at) ≡ read t l → r ≡ not (isSum t)
-
--- for all names that the table tells of, and the side that stands there
-pub record IsBare (s ns ts : List ℕ) (at : ℕ) (r : Bool) : Type 0 where
-  pub is : (names : List Name) → Named s ns names → (l : Side) → SideAt s ts at names l → r ≡ isBare l
 
 -- ---- what stands at a position, read with the first `level` names
 

@@ -4,14 +4,14 @@ use Rattle.listing.proofs.sheet.Words.{title-is}
 use Rattle.listing.proofs.sheet.title_of.Statement.{statement}
 use Rattle.listing.proofs.sheet.title_of.Tie as tie
 
-word-of-requires : tie.Need-word-of-requires
-word-of-requires c κs = search needs
+title-of-requires : tie.Need-title-of-requires
+title-of-requires c κs = search needs
 
 string-at-requires : tie.Need-string-at-requires
 string-at-requires c κs = search needs
 
 returns : tie.Need-returns
-returns c = title-is _ _ _ _ _ _ (c .before .word-of .ensures) (c .string-at .ensures)
+returns c = title-is _ _ _ _ _ _ (c .before .title-of .ensures) (c .string-at .ensures)
 
 pub title-of-spec : {M : Type 1} → statement M
-title-of-spec = tie.close (tie.spec word-of-requires string-at-requires returns)
+title-of-spec = tie.close (tie.spec title-of-requires string-at-requires returns)

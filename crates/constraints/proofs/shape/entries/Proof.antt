@@ -1,10 +1,10 @@
--- `parts::entries` meets its contract.
+-- `entries` meets its contract.
 use Prim.Native.Nat.{_-_}
-use Rattle.matrix.proofs.parts.Laws.{Counting, counting-first, counting-full, counting-stuck, counting-wrong, counting-end, counting-more}
+use Rattle.constraints.proofs.DomainLaws.{Counting, counting-first, counting-full, counting-stuck, counting-wrong, counting-end, counting-more}
 use borrow.Author.Needs.{needs}
 use native.Mathlib.Omega.{arith}
-use Rattle.matrix.proofs.parts.entries.Statement.{statement}
-use Rattle.matrix.proofs.parts.entries.Tie as tie
+use Rattle.constraints.proofs.shape.entries.Statement.{statement}
+use Rattle.constraints.proofs.shape.entries.Tie as tie
 
 abbrev Inv-loop : tie.InvT-loop
 Inv-loop text names tokens at a₀ n₀ a n = Counting text names tokens at a n

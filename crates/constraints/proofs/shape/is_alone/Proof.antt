@@ -1,8 +1,8 @@
 -- `is_alone` meets its contract.
 use borrow.Author.Needs.{needs}
-use Rattle.matrix.proofs.sides.Bare.{alone-sum, alone-other, alone-wrong}
-use Rattle.matrix.proofs.sides.is_alone.Statement.{statement}
-use Rattle.matrix.proofs.sides.is_alone.Tie as tie
+use Rattle.constraints.proofs.SideLaws.{alone-sum, alone-other, alone-wrong}
+use Rattle.constraints.proofs.shape.is_alone.Statement.{statement}
+use Rattle.constraints.proofs.shape.is_alone.Tie as tie
 
 pub is-alone-spec : {M : Type 1} → statement M
 is-alone-spec =

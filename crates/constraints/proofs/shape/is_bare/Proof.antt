@@ -1,8 +1,8 @@
 -- `is_bare` meets its contract.
 use borrow.Author.Needs.{needs}
-use Rattle.matrix.proofs.sides.Bare.{bare-alone, bare-refused, bare-other, bare-wrong}
-use Rattle.matrix.proofs.sides.is_bare.Statement.{statement}
-use Rattle.matrix.proofs.sides.is_bare.Tie as tie
+use Rattle.constraints.proofs.SideLaws.{bare-alone, bare-refused, bare-other, bare-wrong}
+use Rattle.constraints.proofs.shape.is_bare.Statement.{statement}
+use Rattle.constraints.proofs.shape.is_bare.Tie as tie
 
 pub is-bare-spec : {M : Type 1} → statement M
 is-bare-spec =

@@ -10,10 +10,11 @@ use Rattle.rules.specs.Limits.{tokenLimit, nestingLimit}
 use Rattle.lexer.specs.Marks.{minusSign, timesSign, sigmaWord}
 use Rattle.lexer.specs.Text.{Token, Kind}
 use Rattle.lexer.specs.Text
+use Rattle.language.specs.Outcome.{Outcome, refused}
 use Rattle.language.proofs.Outcome.{refused-done}
 use Rattle.language.specs.Syntax.{Name, Formulas, Spans, Form, Term, also, factor, variable, sigma, Side, bare, form}
 use Rattle.language.specs.Syntax
-use Rattle.language.specs.Reader.{Reader, follow, _>>=_, give, next, look, markOf, isMark, expect}
+use Rattle.language.specs.Reader.{Reader, Read, follow, _>>=_, give, next, look, markOf, isMark, expect}
 use Rattle.language.specs.Formulas.{isSum, Signed, readSign, subscriptsOf, primaryBy, insideAt}
 use Rattle.language.specs.Linear.{Head, aSigma, aVariable, aPrimary, headBy, linearTerm, linearTerms, Linear, linearOf, sigmaAt, linearAt, sideOfTerm, sideOf}
 use Rattle.onepass.specs.Entries.{read}
@@ -30,9 +31,8 @@ use Rattle.tokens.proofs.Moved.{next-is, look-is, is-sum}
 use Rattle.formulas.specs.Cycle.{Subscripts}
 use Rattle.linear.specs.Linear.{variableOf, Heads, Begins}
 use Rattle.linear.proofs.Laws.{begins-of}
-use Rattle.evaluator.proofs.Laws.{stop}
-use Rattle.constraints.specs.Rows.{SideAt}
-use Rattle.matrix.specs.Sides.Answers.{isBare, IsAlone, IsBare}
+use Rattle.constraints.specs.Rows.{SideAt, isBare}
+use Rattle.constraints.specs.Shape.{IsAlone, IsBare}
 
 -- ---- whether a sign stands at a position
 
@@ -175,6 +175,9 @@ module _ (names : List Name) (n : ℕ) where
       }
 
 -- ---- whether a side is one variable
+
+stop : {A B : Type 0} (o : Outcome (Read A)) (K : A → Reader B) (m : Refusal) (p : ℕ) → o ≡ refused m p → follow o K ≡ refused m p
+stop o K m p e = ap (λ o. follow o K) e
 
 module _ (s ns ts : List ℕ) (at : ℕ) (t : Seen) (h : Looks ts at t) where
   pub bare-wrong : (m : Refusal) (p : ℕ) → t ≡ seen.Refused m p → IsBare s ns ts at false
