@@ -193,7 +193,7 @@ fn locate(text: &[u8], names: &[u64], tokens: &[u64], at: usize) -> Sites
 }
 
 // A constraint, and what its row keeps of it.
-pub fn constraint(text: &[u8], names: &[u64], tokens: &[u64], at: usize) -> Row
+fn constraint(text: &[u8], names: &[u64], tokens: &[u64], at: usize) -> Row
     ensures { λ r. ⌜ Gives constraintIn (RowOf (now (text .entry)) (now (tokens .entry)) (wordsOf r)) (now (text .entry)) (now (names .entry)) (now (tokens .entry)) at (r .end) ⌝ }
 {
     let sites = locate(text, names, tokens, at);

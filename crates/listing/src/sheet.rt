@@ -240,7 +240,7 @@ fn count_at(matrix: &[i64], k: usize, j: usize) -> i64
     requires { ⌜ (k ≤ 512) × (j < 512) ⌝ }
     ensures { λ r. ⌜ r ≡ countAt (now (matrix .entry)) k j ⌝ }
 {
-    let at = k * 512 + j;
+    let at = k * rules::VARIABLE_LIMIT + j;
     if at < matrix.len() {
         return matrix[at];
     }

@@ -48,7 +48,7 @@ fn row(
 {
     let equal = parts.equal;
     let slot = rows::next_slot(filled, equal);
-    let a = slot * 512;
+    let a = slot * rules::VARIABLE_LIMIT;
     let b = a + total;
     let cx = Context {
         given,
@@ -373,7 +373,7 @@ fn objective_row(
         nest: rules::NESTING_LIMIT,
         scope,
     };
-    let a = slot * 512;
+    let a = slot * rules::VARIABLE_LIMIT;
     let b = a + total;
     sides::objective_at(
         names,
