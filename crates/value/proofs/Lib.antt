@@ -1,5 +1,4 @@
 pub mod Rational
-mod Table
 pub mod Integers
 mod Scales
 mod Tenths

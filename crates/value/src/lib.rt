@@ -33,33 +33,33 @@ pub enum Whole {
 
 // ---- powers of ten
 
-const POWERS: [u64; 19] = [
-    1,
-    10,
-    100,
-    1000,
-    10000,
-    100000,
-    1000000,
-    10000000,
-    100000000,
-    1000000000,
-    10000000000,
-    100000000000,
-    1000000000000,
-    10000000000000,
-    100000000000000,
-    1000000000000000,
-    10000000000000000,
-    100000000000000000,
-    1000000000000000000,
-];
+// 10^k below 10^10. A `match`: a constant table is built anew at each call.
+fn small_power(k: usize) -> u64
+    requires { ⌜ k < 10 ⌝ }
+    ensures { λ r. ⌜ r ≡ 10 ^ k ⌝ }
+{
+    match k {
+        0 => 1,
+        1 => 10,
+        2 => 100,
+        3 => 1000,
+        4 => 10000,
+        5 => 100000,
+        6 => 1000000,
+        7 => 10000000,
+        8 => 100000000,
+        _ => 1000000000,
+    }
+}
 
 fn power(k: usize) -> u64
     requires { ⌜ k < 19 ⌝ }
     ensures { λ r. ⌜ r ≡ 10 ^ k ⌝ }
 {
-    POWERS[k]
+    if k < 10 {
+        return small_power(k);
+    }
+    1000000000 * small_power(k - 9)
 }
 
 // ---- signed numbers: all code that adds, subtracts or multiplies them stands here
