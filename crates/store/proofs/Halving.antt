@@ -10,6 +10,9 @@ use native.Mathlib.Omega.{arith}
 use native.Mathlib.Nat.{eq-or-lt-of-le}
 use borrow.Author.Tests.{lt-ltb, le-ltb, ltb-true, ltb-false, le-leb, lt-leb, leb-true, leb-false, eq-eqb, ne-eqb, eqb-true, eqb-false}
 use lib.Dec.{eqb, ltb, leb}
+use lib.ListN.{getD}
+use mir.Syntax.{w64}
+use mir.Val.{Fits}
 use Rattle.store.specs.declared.Key.{Key}
 use Rattle.store.specs.declared.Found.{Found}
 use Rattle.store.specs.declared.Found.the-variants.{At, Nothing}
@@ -71,32 +74,44 @@ module _ (h m l a b c : ℕ) (p : h ≡ a) (q : m ≡ b) where
       (λ u. rw (p, q, u) (eq-eqb c c refl ∙ sym (eq-eqb (threeWords a b c) (threeWords a b c) refl)))
       (λ u. ne-eqb l c (λ e. omega arith) ∙ sym (ne-eqb _ _ (λ e. less-not-equal (sym e) (low-less a b c h m l (sym p) (sym q) u))))
 
+-- every word of a row fits where every element of the list does
+pub part-fits : (t : List ℕ) (i : ℕ) → ((j : ℕ) → Fits w64 (getD t j 0)) → (f : ℕ) → partAt t i f < 18446744073709551616
+unfolding partAt
+part-fits t i h f = omega (arith, h (i * 4 + f))
+
 -- a row's key against another, by the words h, m, l of the row
 module _ (t : List ℕ) (i : ℕ) (k : Key) (h m l : ℕ) (p : h ≡ partAt t i 0) (q : m ≡ partAt t i 1) (r : l ≡ partAt t i 2) where
   row-key : keyAt t i ≡ threeWords h m l
   unfolding keyAt
   row-key = rw (p, q, r)
 
-  pub high-below : h < k .high → m < 18446744073709551616 → l < 18446744073709551616 → true ≡ ltb (keyAt t i) (keyNumber k)
+  high-below : h < k .high → m < 18446744073709551616 → l < 18446744073709551616 → true ≡ ltb (keyAt t i) (keyNumber k)
   unfolding keyNumber
   high-below u v w = rw row-key (sym (lt-ltb _ _ (high-less h m l (k .high) (k .middle) (k .low) u v w)))
 
-  pub high-above : k .high < h → k .middle < 18446744073709551616 → k .low < 18446744073709551616 → false ≡ ltb (keyAt t i) (keyNumber k)
+  high-above : k .high < h → k .middle < 18446744073709551616 → k .low < 18446744073709551616 → false ≡ ltb (keyAt t i) (keyNumber k)
   unfolding keyNumber
   high-above u v w = rw row-key (sym (more (high-less (k .high) (k .middle) (k .low) h m l u v w)))
 
-  pub middle-below : k .high ≤ h → h ≤ k .high → m < k .middle → l < 18446744073709551616 → true ≡ ltb (keyAt t i) (keyNumber k)
+  middle-below : h ≡ k .high → m < k .middle → l < 18446744073709551616 → true ≡ ltb (keyAt t i) (keyNumber k)
   unfolding keyNumber
-  middle-below u u′ v w = rw row-key (sym (lt-ltb _ _ (middle-less h m l (k .high) (k .middle) (k .low) (omega arith) v w)))
+  middle-below u v w = rw row-key (sym (lt-ltb _ _ (middle-less h m l (k .high) (k .middle) (k .low) u v w)))
 
-  pub middle-above : k .high ≤ h → h ≤ k .high → k .middle < m → k .low < 18446744073709551616 → false ≡ ltb (keyAt t i) (keyNumber k)
+  middle-above : h ≡ k .high → k .middle < m → k .low < 18446744073709551616 → false ≡ ltb (keyAt t i) (keyNumber k)
   unfolding keyNumber
-  middle-above u u′ v w =
-      rw row-key (sym (more (middle-less (k .high) (k .middle) (k .low) h m l (omega arith) v w)))
+  middle-above u v w = rw row-key (sym (more (middle-less (k .high) (k .middle) (k .low) h m l (sym u) v w)))
 
-  pub low-below : k .high ≤ h → h ≤ k .high → k .middle ≤ m → m ≤ k .middle → ltb l (k .low) ≡ ltb (keyAt t i) (keyNumber k)
+  -- the first word that differs decides
+  pub high-decides : (h ≡ k .high → ⊥) → m < 18446744073709551616 → l < 18446744073709551616 → k .middle < 18446744073709551616 → k .low < 18446744073709551616
+      → ltb h (k .high) ≡ ltb (keyAt t i) (keyNumber k)
+  high-decides d w x y z = three h (k .high) (λ u. lt-ltb h (k .high) u ∙ high-below u w x) (λ u. absurd (d u)) (λ u. more u ∙ high-above u y z)
+
+  pub middle-decides : h ≡ k .high → (m ≡ k .middle → ⊥) → l < 18446744073709551616 → k .low < 18446744073709551616 → ltb m (k .middle) ≡ ltb (keyAt t i) (keyNumber k)
+  middle-decides e d x z = three m (k .middle) (λ u. lt-ltb m (k .middle) u ∙ middle-below e u x) (λ u. absurd (d u)) (λ u. more u ∙ middle-above e u z)
+
+  pub low-decides : h ≡ k .high → m ≡ k .middle → ltb l (k .low) ≡ ltb (keyAt t i) (keyNumber k)
   unfolding keyNumber
-  low-below u u′ v v′ = rw row-key (last-less h m l (k .high) (k .middle) (k .low) (omega arith) (omega arith))
+  low-decides u v = rw row-key (last-less h m l (k .high) (k .middle) (k .low) u v)
 
   pub high-differs : (h ≡ k .high → ⊥) → m < 18446744073709551616 → l < 18446744073709551616 → k .middle < 18446744073709551616 → k .low < 18446744073709551616
       → false ≡ eqb (keyAt t i) (keyNumber k)

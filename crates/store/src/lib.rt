@@ -204,25 +204,19 @@ pub fn word_at(table: &[u64], i: usize) -> u64
     part(table, i, 3)
 }
 
-// Is the key of row i below this one?
+// Is the key of row i below this one? Word by word: the first word that differs decides, and the others are not read.
 fn is_below(table: &[u64], i: usize, key: Key) -> bool
     ensures { λ r. ⌜ r ≡ ltb (keyAt (now (table .entry)) i) (keyNumber key) ⌝ }
 {
     let high = part(table, i, 0);
+    if high != key.high {
+        return high < key.high;
+    }
     let middle = part(table, i, 1);
+    if middle != key.middle {
+        return middle < key.middle;
+    }
     let low = part(table, i, 2);
-    if high < key.high {
-        return true;
-    }
-    if key.high < high {
-        return false;
-    }
-    if middle < key.middle {
-        return true;
-    }
-    if key.middle < middle {
-        return false;
-    }
     low < key.low
 }
 
@@ -231,14 +225,14 @@ fn is_at(table: &[u64], i: usize, key: Key) -> bool
     ensures { λ r. ⌜ r ≡ eqb (keyAt (now (table .entry)) i) (keyNumber key) ⌝ }
 {
     let high = part(table, i, 0);
-    let middle = part(table, i, 1);
-    let low = part(table, i, 2);
     if high != key.high {
         return false;
     }
+    let middle = part(table, i, 1);
     if middle != key.middle {
         return false;
     }
+    let low = part(table, i, 2);
     low == key.low
 }
 
