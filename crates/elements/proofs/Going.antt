@@ -3,13 +3,13 @@ use mathlib.Core.Path.{_≡_, refl, sym, _∙_, ap, subst, subst₂}
 use mathlib.Core.Bool.{Bool, true, false, not}
 use mathlib.Core.Logic.{inl, inr}
 use mathlib.Core.List.{List, [], _∷_, _++_, append-assoc}
-use Prim.Native.Nat.{ℕ, suc, _+_, _-_, _<_, _≤_}
+use Prim.Native.Nat.{ℕ, zero, suc, _+_, _-_, _<_, _≤_}
 use native.Mathlib.Omega.{arith}
 use native.Mathlib.Numerals.{add-one}
 use lib.ListN.{length, take, drop, getD, length-take, length-drop}
 use lib.Seq.{take-suc, drop-cons}
 use lib.IntN.{pos, _+ℤ_, _-ℤ_}
-use lib.Signed.{_≤ℤ_, ltZ}
+use lib.Signed.{_≤ℤ_, ltZ, leZ}
 use Rattle.rules.specs.declared.Refusal.{Refusal}
 use Rattle.rules.specs.Limits.{indexLimit}
 use Rattle.rational.specs.Integer.{up}
@@ -23,14 +23,14 @@ use Rattle.elements.specs.declared.Step.{Step}
 use Rattle.elements.specs.declared.Step.the-variants.{At, Done, Refused}
 use Rattle.elements.specs.Elements.{Walked, finished, reaches, followed, Behind}
 use Rattle.elements.specs.Levels.{Level, hereOf, deeper, atNumber, runFrom}
-use Rattle.elements.specs.Held.{wordBase, StepsUp, held, no-level}
+use Rattle.elements.specs.Held.{wordBase, StepsUp, held, one-more, no-level}
 use Rattle.elements.specs.Steps.{SmallRuns, runsOf, runOf, scopeIn, entriesIn, Shows, TurnedBy, Lowered, LoweredBy, turnsLeft, TurnsAre, AfterIs, NextIs}
 use Rattle.elements.proofs.Levels.{first-none, Next, next-of, element-length}
-use Rattle.elements.proofs.Numbers.{not-true, not-false}
+use Rattle.elements.proofs.Numbers.{not-true, not-false, next-stands}
 use Rattle.elements.proofs.Ranked.{ahead-less, rank-first, rank-inner}
 use Rattle.elements.proofs.Held.{length-few}
 use Rattle.elements.proofs.Bound.{scope-more, runs-length, runs-cut, runs-at, runs-before, small-take, small-drop, next-run, next-small, next-upper, next-number}
-use Rattle.elements.proofs.Entering.{shows-as, deeper-at, deeper-refused, deeper-done, run-last}
+use Rattle.elements.proofs.Entering.{shows-as, deeper-at, deeper-refused, deeper-done, inside-none, run-last, turns-start, turns-at}
 
 tail-of : {A : Type 0} {a b : A} {l k : List A} → a ∷ l ≡ b ∷ k → l ≡ k
 tail-of e = cc
@@ -182,3 +182,25 @@ next-is ns ts ds given level h r i = record {
       i .is w s us u (subst (λ c. Behind (entriesIn w level c (nothingBound w) us) (runsOf w h) u) all b);
   falls = lowered-falls h r (i .lowered);
 }
+
+-- ---- the innermost run goes on
+
+module _ (ns ts ds : List ℕ) (given level : ℕ) (h : HeldHere) (n : ℕ) (e : n ≡ length (held h)) where
+  -- what comes next inside m runs comes next inside none
+  outwards : (g : HeldHere) (m : ℕ) → m ≤ n → AfterIs ns ts ds given level m h (At g) → AfterIs ns ts ds given level 0 h (At g)
+  outwards g zero f i = i
+  outwards g (suc m) f i = outwards g m (omega arith) (after-at ns ts ds given level m h n e (omega arith) (At g) (rw add-one i) g refl)
+
+  pub next-on : 0 < n → (l : HeldLevel) → l ≡ getD (held h) (n - 1) no-level → (y : Bool) → y ≡ ltZ (l .number) (l .upper) → y ≡ true
+      → (q : HeldLevel) → StepsUp l q → (o : HeldHere) → held o ≡ take (n - 1) (held h) → (g : HeldHere) → held g ≡ one-more (held o) q
+      → NextIs ns ts ds given level h (At g)
+  next-on f l c y a b q d o k g x =
+      let m : ℕ = n - 1 in
+      let more : ltZ (l .number) (l .upper) ≡ true = sym a ∙ b in
+      let not-last : not y ≡ false = rw b in
+      let stands : true ≡ leZ (q .number) (q .upper) = rw (next-number l q y a not-last d, next-upper l q y a not-last d) (sym (next-stands (l .number) (l .upper) more)) in
+      let inside = inside-none ns ts ds given level (n - m - 1) (q .behind) g (omega arith) in
+      let turns = turns-at ns ts ds given level (n - m - 1) o q q (turns-start ns ts ds given level (n - m - 1) o q) true stands refl g x (At g) inside g refl in
+      let none = after-none ns ts ds given level (m + 1) h n e (omega arith) in
+      let after = after-turns ns ts ds given level m h n e (omega arith) Done none l c refl y a not-last q d o k (At g) turns in
+      next-is ns ts ds given level h (At g) (outwards g m (omega arith) after)

@@ -9,7 +9,7 @@ use lib.Signed.{_≤ℤ_, mag, ltZ, leZ}
 use mir.Syntax.{w64}
 use mir.Val.{SFits, toZ, ofZ}
 use Rattle.rational.specs.Integer.{up, down}
-use Rattle.rational.proofs.Integer.{add-parts, neg-up, neg-down, le-of-parts}
+use Rattle.rational.proofs.Integer.{add-parts, neg-up, neg-down, le-of-parts, le-leZ}
 use Rattle.value.proofs.Integers.{back, mag-le}
 use Rattle.evaluator.proofs.steps.Runs.{parts-size}
 use Rattle.elements.specs.declared.here.Level.{Level}
@@ -50,6 +50,10 @@ above a b e = le-of-parts _ _ (omega (arith, greater a b e, add-parts b (pos 1))
 
 pub last : (a b : ℤ) → ltZ a b ≡ false → (b +ℤ pos 1) ≤ℤ (a +ℤ pos 1)
 last a b e = le-of-parts _ _ (omega (arith, not-less a b e, add-parts b (pos 1), add-parts a (pos 1)))
+
+-- the next number is not above the limit
+pub next-stands : (a b : ℤ) → ltZ a b ≡ true → leZ (a +ℤ pos 1) b ≡ true
+next-stands a b e = le-leZ {a = a +ℤ pos 1} {b = b} (le-of-parts _ _ (omega (arith, less a b e, add-parts a (pos 1))))
 
 -- the difference of two numbers, by their parts
 pub difference : (a b : ℤ) → up (b -ℤ a) ≡ up b + down a - (down b + up a)

@@ -32,10 +32,19 @@ pub fn first(
     inside(names, tokens, table, cx, count, at, Here::none())
 }
 
-// The element after an element.
+// The element after an element. Where the innermost run has a number more, that is all that changes.
 pub fn next(names: &[u64], tokens: &[u64], table: &[u64], cx: Context, here: Here) -> Step
     ensures { λ r. ⌜ NextIs (now (names .entry)) (now (tokens .entry)) (now (table .entry)) (cx .given) (cx .level) here r ⌝ }
 {
+    let n = here.length();
+    if 0 < n {
+        let l = here.at(n - 1);
+        if l.has_more() {
+            let outer = here.cut(n - 1);
+            let on = outer.with(l.up());
+            return Step::At(on);
+        }
+    }
     after(names, tokens, table, cx, 0, here)
 }
 
