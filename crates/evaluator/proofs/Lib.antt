@@ -6,4 +6,5 @@ pub mod Primaries
 pub mod Loops
 pub mod Turns
 pub mod Lists
+mod Alone
 pub mod WalkedOver

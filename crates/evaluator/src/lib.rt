@@ -20,6 +20,7 @@ use tokens::sorts;
 use value::Value;
 ghost use Prim.Native.Nat.{_<_};
 ghost use Rattle.rules.specs.Limits.{tokenLimit, nestingLimit};
+ghost use Rattle.evaluator.specs.Alone.{NameAlone, TokenAlone, SingleIs};
 ghost use Rattle.evaluator.specs.Cycle.{insideIn, formulaIn, primaryIn, termIn, factorsIn, summandsIn, partIn, sumIn, limitIn, limitsWalk, entryIn, boundsIn, Values, Continues, Wholes, LimitsAre, EntryIs, BoundsAre, SubscriptsAre, BodyIs, WithinIs, NamedIs, DatumIs};
 
 // What a formula is read under: how many rows of data are given, how many names are visible, how many brackets may still open,
@@ -299,10 +300,103 @@ fn limit(names: &[u64], tokens: &[u64], table: &[u64], cx: Context, at: usize, p
     values::whole(v, p, a)
 }
 
+// ---- formulas of one token, which most limits and subscripts are: valued at once, outside the cycle
+
+// A value and the position behind what was read, or that this is no such formula.
+enum Single {
+    Value(Value, usize),
+    Nothing,
+}
+
+// The value of a name that stands alone: a bound index, or an integer or a real without subscripts.
+fn name_alone(table: &[u64], cx: Context, at: usize, name: Listed, p: u64) -> Single
+    ensures { λ r. ⌜ NameAlone (now (table .entry)) (cx .given) (cx .level) (cx .scope) at name p r ⌝ }
+{
+    let Listed::Name(i, sort, count, start) = name else {
+        return Single::Nothing;
+    };
+    if cx.level <= i {
+        return Single::Nothing;
+    }
+    if sort == sorts::INDEX {
+        let scope = cx.scope;
+        let bound = values::index_value(scope, i, p, at);
+        let Answer::Value(v, a) = bound else {
+            return Single::Nothing;
+        };
+        return Single::Value(v, a);
+    }
+    if count != 0 {
+        return Single::Nothing;
+    }
+    if (sort == sorts::INTEGER) | (sort == sorts::REAL) {
+        let none = Element::none();
+        let known = values::known(table, cx.given, i, none, p, at);
+        let Answer::Value(v, a) = known else {
+            return Single::Nothing;
+        };
+        return Single::Value(v, a);
+    }
+    Single::Nothing
+}
+
+// The value of a primary of one token: a literal, or a name that stands alone.
+fn token_alone(names: &[u64], tokens: &[u64], table: &[u64], cx: Context, at: usize) -> Single
+    ensures { λ r. ⌜ TokenAlone (now (names .entry)) (now (tokens .entry)) (now (table .entry)) (cx .given) (cx .level) (cx .scope) at r ⌝ }
+{
+    let token = tokens::token_at(tokens, at);
+    match token {
+        Seen::Token(k, p, x, next) => {
+            if (k == kinds::WHOLE) | (k == kinds::POINTED) {
+                return Single::Value(values::literal(x), next);
+            }
+            if k == kinds::NAME {
+                let name = steps::names::name_at(names, tokens, at);
+                return name_alone(table, cx, next, name, p);
+            }
+            Single::Nothing
+        }
+        Seen::Refused(n, p) => Single::Nothing,
+    }
+}
+
+// The value of a formula of one token inside a bracket, and the position behind the sign that ends it.
+fn formula_alone(names: &[u64], tokens: &[u64], table: &[u64], cx: Context, at: usize) -> Single
+    ensures { λ r. ⌜ SingleIs (cx .nest) (now (names .entry)) (now (tokens .entry)) (now (table .entry)) (cx .given) (cx .level) (cx .scope) at r ⌝ }
+{
+    if cx.nest == 0 {
+        return Single::Nothing;
+    }
+    let one = token_alone(names, tokens, table, cx, at);
+    let Single::Value(v, a) = one else {
+        return Single::Nothing;
+    };
+    let behind = tokens::token_at(tokens, a);
+    match behind {
+        Seen::Token(k, p, x, b) => {
+            if k == marks::TIMES as u64 {
+                return Single::Nothing;
+            }
+            if (k == marks::PLUS as u64) | (k == marks::MINUS as u64) {
+                return Single::Nothing;
+            }
+            Single::Value(v, b)
+        }
+        Seen::Refused(n, p) => Single::Nothing,
+    }
+}
+
 // A formula inside a bracket, and the sign behind it.
 fn part(names: &[u64], tokens: &[u64], table: &[u64], cx: Context, at: usize) -> Answer
     ensures { λ r. ⌜ Values (partIn (cx .nest)) (now (names .entry)) (now (tokens .entry)) (now (table .entry)) (cx .given) (cx .level) (cx .scope) at r ⌝ }
 {
+    let one = formula_alone(names, tokens, table, cx, at);
+    match one {
+        Single::Value(v, a) => {
+            return Answer::Value(v, a);
+        }
+        Single::Nothing => {}
+    }
     let r = inside(names, tokens, table, cx, at);
     let Answer::Value(v, a) = r else {
         return r;

@@ -7,6 +7,7 @@ use Rattle.evaluator.proofs.Laws.{inside-full, inside-formula, part-ref
 use Rattle.evaluator.proofs.Entries.{bounds-wrong, bounds-low, bounds-high, bounds-both, entry-low, entry-bounds}
 use Rattle.evaluator.proofs.Sums.{sum-head, sum-limits, sum-run, sum-body}
 use Rattle.evaluator.proofs.Names.{named-unknown, named-late, named-index, named-refused, named-formula, named-datum, named-other, datum-subscripts, datum-outside, datum-known}
+use Rattle.evaluator.proofs.Alone.{part-single}
 use Rattle.evaluator.proofs.Primaries.{primary-wrong, primary-sum, primary-part, primary-name, primary-literal, primary-other}
 use Rattle.evaluator.proofs.Loops.{factors-start, factors-none, factors-wrong, factors-end, factors-refused, factors-unfit, factors-on, summands-start, summands-none, summands-wrong, summands-end, summands-refused, summands-unfit, summands-on, LoopOn}
 use Rattle.evaluator.proofs.Turns.{turns-start, body-end, body-refused, body-unfit, turns-on, TurnsOn}
@@ -70,6 +71,7 @@ use Rattle.evaluator.proofs.steps.names.index_number.Reads as index-num
 use Rattle.evaluator.proofs.steps.names.name_at.Reads as name-at-reads
 use Rattle.evaluator.proofs.steps.passing.behind_bracket.Reads as behind-bracket-reads
 use Rattle.evaluator.proofs.steps.passing.sign.Reads as sign-reads
+use Rattle.evaluator.proofs.formula_alone.Reads as formula-alone-reads
 use Rattle.evaluator.proofs.steps.passing.skip.Reads as skip-reads
 use Rattle.evaluator.proofs.steps.scope.Scope.none.Reads as scope-Scope-none-reads
 use Rattle.evaluator.proofs.steps.values.bind_nth.Reads as bind-nth-reads
@@ -510,15 +512,19 @@ pub +body+both-limits+bounds+datum+entry+factors+formula+inside+limit+named+part
     (λ c. search named-other depth 9)  -- named-returns-6
     (λ c. search named-unknown depth 5))  -- named-returns-7
     (λ t. part-lts.spec
-    (inside-below t, inside.Post, skip-reads.Asked, skip-reads.Learnt)
+    (formula-alone-reads.Asked, formula-alone-reads.Learnt, inside-below t, inside.Post, skip-reads.Asked, skip-reads.Learnt)
     (part-at t)
     part.Post
+    (λ c κs. search needs)  -- part-formula-alone-requires
+    (λ c. search needs)  -- part-enum-known-one
+    (λ c. search part-single depth 7)  -- part-returns
+    (λ c. search needs)  -- part-enum-told
     (λ c κs. omega arith)  -- part-inside-requires
     (λ c. search needs)  -- part-enum-known-r
-    (λ c. search needs)  -- part-enum-told
-    (λ c. search part-refused depth 6)  -- part-returns
+    (λ c. search needs)  -- part-enum-told-2
+    (λ c. search part-refused depth 6)  -- part-returns-2
     (λ c κs. search needs)  -- part-skip-requires
-    (λ c. search part-skip depth 7))  -- part-returns-2
+    (λ c. search part-skip depth 7))  -- part-returns-3
     (λ t. primary-lts.spec (
       token-at-reads.Asked,
       token-at-reads.Learnt,
