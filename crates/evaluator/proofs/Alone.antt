@@ -28,8 +28,9 @@ use Rattle.evaluator.specs.declared.Passed.the-variants as passed
 use Rattle.evaluator.specs.declared.Single.{Single}
 use Rattle.evaluator.specs.declared.Single.the-variants as single
 use Rattle.evaluator.specs.Steps.Names.{numberPart, listedOf}
-use Rattle.evaluator.specs.Steps.Values.{signedValue, boundAnswer, knownAnswer}
-use Rattle.evaluator.specs.Cycle.{partIn, Values, NamedIs, WithinIs, seenBy, nothingBound, tokensAt}
+use Rattle.evaluator.specs.Steps.Values.{signedValue, boundAnswer, KnownEarly}
+use Rattle.evaluator.specs.Tables.{World}
+use Rattle.evaluator.specs.Cycle.{partIn, Values, NamedIs, DatumIs, WithinIs, seenBy, nothingBound, tokensAt}
 use Rattle.evaluator.specs.Alone.{NameValue, NameAlone, TokenValue, TokenAlone, SingleIs}
 use Rattle.evaluator.proofs.steps.Passed.{skips-seen, leads-none}
 use Rattle.evaluator.proofs.Laws.{term-rest, formula-rest, inside-formula, part-skip}
@@ -51,14 +52,17 @@ module _ (ds : List ℕ) (given level : ℕ) (sc : Held) (at : ℕ) (x : Listed)
   pub alone-index : k ≡ 0 → r ≡ boundAnswer p at sc i → NameValue ds given level sc at x p v a
   alone-index z b = record { is = λ ns ts n. subst (NamedIs n p ns ts ds given level sc at x) f (named-index ns ts ds given level sc n p at x i k c q e h r z b) }
 
-  pub alone-datum : c ≡ 0 → (eqb k 1 || eqb k 2) ≡ true → (l : Element) → listOf l ≡ [] → r ≡ knownAnswer ds given i (listOf l) p at → NameValue ds given level sc at x p v a
-  alone-datum z t l o b = record {
-    is = λ ns ts n.
-        let none = subscripts-point n p c ns ts ds given level sc at l o z in
-        let test = within-none ns ts ds given i q l p o in
-        let datum = datum-known ns ts ds given level sc n i c q p at (numbers.Element l at) none l at refl passed.Inside test refl r b in
-        subst (NamedIs n p ns ts ds given level sc at x) f (named-datum ns ts ds given level sc n p at x i k c q e h r t datum);
-  }
+  pub alone-datum : c ≡ 0 → (eqb k 1 || eqb k 2) ≡ true → (l : Element) → listOf l ≡ [] → KnownEarly ds given i (listOf l) p at r → NameValue ds given level sc at x p v a
+  alone-datum z t l o b = record { is = λ ns ts n. subst (NamedIs n p ns ts ds given level sc at x) f (named-datum ns ts ds given level sc n p at x i k c q e h r t (datum ns ts n)) }
+    where
+      here : (ns ts : List ℕ) (n : ℕ) → World ns ts ds given → DatumIs n i c q p ns ts ds given level sc at r
+      here ns ts n w =
+          let none = subscripts-point n p c ns ts ds given level sc at l o z in
+          let test = within-none ns ts ds given i q l p o in
+          datum-known ns ts ds given level sc n i c q p at (numbers.Element l at) none l at refl passed.Inside test refl r (b .is (w .tables .stored .sorted))
+
+      datum : (ns ts : List ℕ) (n : ℕ) → DatumIs n i c q p ns ts ds given level sc at r
+      datum ns ts n = record { is = λ w. here ns ts n w .is w; valid = λ w. here ns ts n w .valid w }
 
 -- ---- a token
 

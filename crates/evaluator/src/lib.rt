@@ -331,7 +331,7 @@ fn name_alone(table: &[u64], cx: Context, at: usize, name: Listed, p: u64) -> Si
     }
     if (sort == sorts::INTEGER) | (sort == sorts::REAL) {
         let none = Element::none();
-        let known = values::known(table, cx.given, i, none, p, at);
+        let known = values::known_early(table, cx.given, i, none, p, at);
         let Answer::Value(v, a) = known else {
             return Single::Nothing;
         };

@@ -341,6 +341,13 @@ module _ (t : List ℕ) (n k : ℕ) where
       go (Taken i) g = record { within = λ j f. let w : i ≡ j = cc in omega (arith, g .0); is-row = λ s. sym (row-at t n k s i (g .0) (g .1)) }
       go (Free at) g = record { within = λ j f. absurd (let w : _≡_ {A = ℕ} 0 1 = cc in omega arith); is-row = λ s. sym (row-none t n k (free-none t n k at s (g .0) (g .1))) }
 
+  -- the answers of `find_early`: a row that has the key, in a sorted table the only one
+  pub finds-early : (i : ℕ) → i < n → (r : Bool) → r ≡ eqb (keyAt t i) k → r ≡ true → Finds t n k (At i)
+  finds-early i h r e f = record { within = λ j g. let w : i ≡ j = cc in omega arith; is-row = λ s. sym (row-at t n k s i h (eqb-true (keyAt t i) k (sym e ∙ f))) }
+
+  pub finds-sorted : (f : Found) → Finds t n k f → Sorted t n → f ≡ foundRow t n k
+  finds-sorted f g s = g .is-row s ∙ sym (finds-row (foundRow t n k) refl .is-row s)
+
   -- in a sorted table the word there is the one that the search from the front finds
   pub found-word : Sorted t n → wordIn t (foundRow t n k) ≡ lookup t n k
   unfolding lookup

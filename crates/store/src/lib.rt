@@ -9,7 +9,7 @@ ghost use lib.Dec.{ltb, eqb};
 ghost use lib.IntN.{pos};
 ghost use Rattle.store.specs.Element.{listOf, extended};
 ghost use Rattle.store.specs.Key.{digitOf, digitAt, nameDigit, paired, keyNumber, keyOf, withDigit, nameOf, elementOf};
-ghost use Rattle.store.specs.Table.{keyAt, wordAt, partAt, rankOf, placeOf, foundRow, rowSet, appended, Moved, Inserted};
+ghost use Rattle.store.specs.Table.{keyAt, wordAt, partAt, rankOf, placeOf, foundRow, rowSet, appended, Moved, Inserted, Finds};
 ghost use Rattle.store.specs.Packed.{packed, unpacked};
 
 // At most four whole numbers: the first `count` of a, b, c, d.
@@ -274,6 +274,26 @@ pub fn find(table: &[u64], n: usize, key: Key) -> Found
         Place::Taken(i) => Found::At(i),
         Place::Free(_) => Found::Nothing,
     }
+}
+
+// How many rows `find_early` tries one by one.
+const EARLY: usize = 8;
+
+// The same in a sorted table, for a key that is likely to have one of the first rows: these are tried one by one.
+pub fn find_early(table: &[u64], n: usize, key: Key) -> Found
+    ensures { λ r. ⌜ Finds (now (table .entry)) n (keyNumber key) r ⌝ }
+{
+    let mut i = 0;
+    while i < EARLY {
+        if n <= i {
+            return find(table, n, key);
+        }
+        if is_at(table, i, key) {
+            return Found::At(i);
+        }
+        i += 1;
+    }
+    find(table, n, key)
 }
 
 fn set_row(table: &mut [u64], i: usize, key: Key, word: u64)

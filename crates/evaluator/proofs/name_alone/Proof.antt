@@ -19,7 +19,7 @@ name-alone-spec =
     (λ c. search alone-index depth 12)  -- returns-4
     (λ c. search needs)  -- returns-5
     (λ c κs. search needs)  -- none-requires
-    (λ c κs. search needs)  -- known-requires
+    (λ c κs. search needs)  -- known-early-requires
     (λ c. search needs)  -- enum-known-known
     (λ c. search needs)  -- enum-told-3
     (λ c. search needs)  -- returns-6

@@ -23,9 +23,9 @@ use Rattle.store.specs.declared.Found.the-variants as found
 use Rattle.store.specs.declared.Key.{Key}
 use Rattle.store.specs.Element.{listOf, extended}
 use Rattle.store.specs.Key.{keyNumber, keyOf}
-use Rattle.store.specs.Table.{Sorted, wordAt, wordIn, lookup, foundRow}
+use Rattle.store.specs.Table.{Sorted, wordAt, wordIn, lookup, foundRow, Finds}
 use Rattle.store.specs.Packed.{unpacked}
-use Rattle.store.proofs.Halving.{found-word}
+use Rattle.store.proofs.Halving.{found-word, finds-sorted}
 use Rattle.language.specs.Scope.{boundTo}
 use Rattle.evaluator.specs.declared.steps.scope.Scope.{Scope as Held}
 use Rattle.evaluator.specs.declared.steps.scope.Bound.{Bound}
@@ -35,7 +35,7 @@ use Rattle.evaluator.specs.declared.steps.values.Answer.the-variants as 
 use Rattle.evaluator.specs.declared.steps.values.Limits.{Limits}
 use Rattle.evaluator.specs.declared.steps.values.Bounds.{Bounds}
 use Rattle.evaluator.specs.Steps.Scopes.{bindingsOf, boundOption}
-use Rattle.evaluator.specs.Steps.Values.{fittedAt, signedValue, wholeBy, wholeAnswer, boundBy, boundAnswer, wordAnswer, knownAnswer}
+use Rattle.evaluator.specs.Steps.Values.{fittedAt, signedValue, wholeBy, wholeAnswer, boundBy, boundAnswer, wordAnswer, knownAnswer, KnownEarly}
 
 -- ---- values
 
@@ -108,3 +108,11 @@ module _ (ds : List ℕ) (rows i p a : ℕ) (ks : List ℤ) (k : Key) (f : Found
 pub known-word : (ds : List ℕ) (rows i p a : ℕ) (ks : List ℤ) → Sorted ds rows → knownAnswer ds rows i ks p a ≡ wordAnswer p a (lookup ds rows (keyOf i ks))
 unfolding knownAnswer
 known-word ds rows i p a ks s = ap (wordAnswer p a) (found-word ds rows (keyOf i ks) s)
+
+-- found early: in a sorted table the same row
+module _ (ds : List ℕ) (rows i p a : ℕ) (ks : List ℤ) (k : Key) (f : Found) (h : keyNumber k ≡ keyOf i ks) (g : Finds ds rows (keyNumber k) f) where
+  pub early-no : f ≡ found.Nothing → KnownEarly ds rows i ks p a (answer.Refused Missing p)
+  early-no e = record { is = λ s. known-no ds rows i p a ks k f h (finds-sorted ds rows (keyNumber k) f g s) e }
+
+  pub early-yes : (j w : ℕ) (v : Value) → f ≡ found.At j → w ≡ wordAt ds j → v ≡ unpacked w → KnownEarly ds rows i ks p a (answer.Value v a)
+  early-yes j w v e x y = record { is = λ s. known-yes ds rows i p a ks k f h (finds-sorted ds rows (keyNumber k) f g s) j w v e x y }

@@ -17,7 +17,7 @@ use Rattle.value.specs.declared.Whole.{Whole}
 use Rattle.value.specs.declared.Whole.the-variants.{Number, NotWhole as noNumber}
 use Rattle.value.specs.Decimal.{inRange, negate, wholeOf, ofWhole}
 use Rattle.store.specs.Key.{keyOf}
-use Rattle.store.specs.Table.{wordIn, foundRow}
+use Rattle.store.specs.Table.{Sorted, wordIn, foundRow}
 use Rattle.store.specs.Packed.{unpacked}
 use Rattle.language.specs.Outcome.{Outcome, done, refused}
 use Rattle.language.specs.Ranges.{upFrom}
@@ -130,3 +130,7 @@ wordAnswer p a none = answer.Refused Missing p
 -- the datum of a name and an element, found by halving
 unfoldable pub knownAnswer : List ℕ → ℕ → ℕ → List ℤ → ℕ → ℕ → Answer
 knownAnswer ds rows i ks p a = wordAnswer p a (wordIn ds (foundRow ds rows (keyOf i ks)))
+
+-- the same in a sorted table
+pub record KnownEarly (ds : List ℕ) (rows i : ℕ) (ks : List ℤ) (p a : ℕ) (r : Answer) : Type 0 where
+  pub is : Sorted ds rows → r ≡ knownAnswer ds rows i ks p a

@@ -14,7 +14,7 @@ ghost use Rattle.rational.specs.Integer.{up};
 ghost use Rattle.value.specs.Decimal.{zeroValue, productOf, sumOf, ifInRange};
 ghost use Rattle.store.specs.Element.{listOf, extended};
 ghost use Rattle.evaluator.specs.Steps.Scopes.{bindingsOf, boundMore};
-ghost use Rattle.evaluator.specs.Steps.Values.{fittedAt, signedValue, wholeAnswer, boundAnswer, SmallSpan, countOf, runAnswer, numberIn, Tests, knownAnswer};
+ghost use Rattle.evaluator.specs.Steps.Values.{fittedAt, signedValue, wholeAnswer, boundAnswer, SmallSpan, countOf, runAnswer, numberIn, Tests, knownAnswer, KnownEarly};
 
 // A value and the position behind it, or a refusal and its place.
 pub enum Answer {
@@ -254,6 +254,17 @@ pub fn known(table: &[u64], rows: usize, i: usize, e: Element, p: u64, at: usize
 {
     let key = store::key_of(i, e);
     match store::find(table, rows, key) {
+        store::Found::At(j) => Answer::Value(store::unpack(store::word_at(table, j)), at),
+        store::Found::Nothing => Answer::Refused(rules::Refusal::Missing, p),
+    }
+}
+
+// The same in a sorted table, for a datum that is likely to have one of the first rows, as one without subscripts is.
+pub fn known_early(table: &[u64], rows: usize, i: usize, e: Element, p: u64, at: usize) -> Answer
+    ensures { λ r. ⌜ KnownEarly (now (table .entry)) rows i (listOf e) p at r ⌝ }
+{
+    let key = store::key_of(i, e);
+    match store::find_early(table, rows, key) {
         store::Found::At(j) => Answer::Value(store::unpack(store::word_at(table, j)), at),
         store::Found::Nothing => Answer::Refused(rules::Refusal::Missing, p),
     }
