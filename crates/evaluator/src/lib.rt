@@ -20,7 +20,7 @@ use tokens::sorts;
 use value::Value;
 ghost use Prim.Native.Nat.{_<_};
 ghost use Rattle.rules.specs.Limits.{tokenLimit, nestingLimit};
-ghost use Rattle.evaluator.specs.Alone.{NameAlone, TokenAlone, SingleIs};
+ghost use Rattle.evaluator.specs.Alone.{NameAlone, TokenAlone, SingleIs, DatumAlone, TokenFixed, FormulaFixed, EntryFixed, WithinFixed};
 ghost use Rattle.evaluator.specs.Cycle.{insideIn, formulaIn, primaryIn, termIn, factorsIn, summandsIn, partIn, sumIn, limitIn, limitsWalk, entryIn, boundsIn, Values, Continues, Wholes, LimitsAre, EntryIs, BoundsAre, SubscriptsAre, BodyIs, WithinIs, NamedIs, DatumIs};
 
 // What a formula is read under: how many rows of data are given, how many names are visible, how many brackets may still open,
@@ -567,6 +567,145 @@ fn bounds(names: &[u64], tokens: &[u64], table: &[u64], cx: Context, at: usize, 
     }
 }
 
+// ---- domain tests by limits of one token, which most declared limits are: read at once, outside the cycle, with nothing bound
+
+// The two limits of an entry and the position behind it, or that they are no such limits.
+enum Fixed {
+    Limits(Limits, usize),
+    Nothing,
+}
+
+// A domain test, or that the domain has other limits.
+enum Tried {
+    Test(Passed),
+    Nothing,
+}
+
+// The value of an integer or a real that stands alone, the same whatever is bound.
+fn datum_alone(table: &[u64], given: usize, level: usize, at: usize, name: Listed, p: u64) -> Single
+    ensures { λ r. ⌜ DatumAlone (now (table .entry)) given level at name p r ⌝ }
+{
+    let Listed::Name(i, sort, count, start) = name else {
+        return Single::Nothing;
+    };
+    if level <= i {
+        return Single::Nothing;
+    }
+    if count != 0 {
+        return Single::Nothing;
+    }
+    if (sort == sorts::INTEGER) | (sort == sorts::REAL) {
+        let none = Element::none();
+        let known = values::known_early(table, given, i, none, p, at);
+        let Answer::Value(v, a) = known else {
+            return Single::Nothing;
+        };
+        return Single::Value(v, a);
+    }
+    Single::Nothing
+}
+
+// The value of a literal, or of an integer or a real that stands alone.
+fn token_fixed(names: &[u64], tokens: &[u64], table: &[u64], given: usize, level: usize, at: usize) -> Single
+    ensures { λ r. ⌜ TokenFixed (now (names .entry)) (now (tokens .entry)) (now (table .entry)) given level at r ⌝ }
+{
+    let token = tokens::token_at(tokens, at);
+    match token {
+        Seen::Token(k, p, x, next) => {
+            if (k == kinds::WHOLE) | (k == kinds::POINTED) {
+                return Single::Value(values::literal(x), next);
+            }
+            if k == kinds::NAME {
+                let name = steps::names::name_at(names, tokens, at);
+                return datum_alone(table, given, level, next, name, p);
+            }
+            Single::Nothing
+        }
+        Seen::Refused(n, p) => Single::Nothing,
+    }
+}
+
+// The value of such a token that is a formula, and the position behind the sign that ends it.
+fn formula_fixed(names: &[u64], tokens: &[u64], table: &[u64], given: usize, level: usize, at: usize) -> Single
+    ensures { λ r. ⌜ FormulaFixed (now (names .entry)) (now (tokens .entry)) (now (table .entry)) given level at r ⌝ }
+{
+    let one = token_fixed(names, tokens, table, given, level, at);
+    let Single::Value(v, a) = one else {
+        return Single::Nothing;
+    };
+    let behind = tokens::token_at(tokens, a);
+    match behind {
+        Seen::Token(k, p, x, b) => {
+            if k == marks::TIMES as u64 {
+                return Single::Nothing;
+            }
+            if (k == marks::PLUS as u64) | (k == marks::MINUS as u64) {
+                return Single::Nothing;
+            }
+            Single::Value(v, b)
+        }
+        Seen::Refused(n, p) => Single::Nothing,
+    }
+}
+
+// The limits of an entry, both such formulas and whole.
+fn entry_fixed(names: &[u64], tokens: &[u64], table: &[u64], given: usize, level: usize, at: usize) -> Fixed
+    ensures { λ r. ⌜ EntryFixed (now (names .entry)) (now (tokens .entry)) (now (table .entry)) given level at r ⌝ }
+{
+    let low = formula_fixed(names, tokens, table, given, level, at);
+    let Single::Value(v, a) = low else {
+        return Fixed::Nothing;
+    };
+    let index = tokens::token_at(tokens, a);
+    let Seen::Token(k, p, x, b) = index else {
+        return Fixed::Nothing;
+    };
+    let lower = values::whole(v, p, b);
+    let Answer::Value(u, c) = lower else {
+        return Fixed::Nothing;
+    };
+    let d = passing::skip(tokens, c);
+    let high = formula_fixed(names, tokens, table, given, level, d);
+    let Single::Value(w, f) = high else {
+        return Fixed::Nothing;
+    };
+    let upper = values::whole(w, p, f);
+    let Answer::Value(y, g) = upper else {
+        return Fixed::Nothing;
+    };
+    Fixed::Limits(values::limits_of(u, y), g)
+}
+
+// The domain test by such limits.
+fn within_fixed(
+    names: &[u64],
+    tokens: &[u64],
+    table: &[u64],
+    given: usize,
+    level: usize,
+    at: usize,
+    e: Element,
+    p: u64,
+) -> Tried
+    ensures { λ r. ⌜ WithinFixed (now (names .entry)) (now (tokens .entry)) (now (table .entry)) given level at e p r ⌝ }
+{
+    let n = e.length();
+    let mut a = at;
+    let mut j = 0;
+    while j < n {
+        let entry = entry_fixed(names, tokens, table, given, level, a);
+        let Fixed::Limits(l, b) = entry else {
+            return Tried::Nothing;
+        };
+        if !values::lies(e.at(j), l) {
+            return Tried::Test(Passed::Refused(rules::Refusal::Outside, p));
+        }
+        a = b;
+        j += 1;
+    }
+    Tried::Test(Passed::Inside)
+}
+
 // The domain test of an element for a name read at p, with the names before its declaration: position by position, the declared
 // limits read as they are reached.
 pub fn within(
@@ -581,6 +720,13 @@ pub fn within(
 ) -> Passed
     ensures { λ r. ⌜ WithinIs (now (names .entry)) (now (tokens .entry)) (now (table .entry)) given level at e p r ⌝ }
 {
+    let quick = within_fixed(names, tokens, table, given, level, at, e, p);
+    match quick {
+        Tried::Test(r) => {
+            return r;
+        }
+        Tried::Nothing => {}
+    }
     let n = e.length();
     let mut scope = Scope::none();
     let mut a = at;

@@ -7,7 +7,7 @@ use Rattle.evaluator.proofs.Laws.{inside-full, inside-formula, part-ref
 use Rattle.evaluator.proofs.Entries.{bounds-wrong, bounds-low, bounds-high, bounds-both, entry-low, entry-bounds}
 use Rattle.evaluator.proofs.Sums.{sum-head, sum-limits, sum-run, sum-body}
 use Rattle.evaluator.proofs.Names.{named-unknown, named-late, named-index, named-refused, named-formula, named-datum, named-other, datum-subscripts, datum-outside, datum-known}
-use Rattle.evaluator.proofs.Alone.{part-single}
+use Rattle.evaluator.proofs.Alone.{part-single, within-tried}
 use Rattle.evaluator.proofs.Primaries.{primary-wrong, primary-sum, primary-part, primary-name, primary-literal, primary-other}
 use Rattle.evaluator.proofs.Loops.{factors-start, factors-none, factors-wrong, factors-end, factors-refused, factors-unfit, factors-on, summands-start, summands-none, summands-wrong, summands-end, summands-refused, summands-unfit, summands-on, LoopOn}
 use Rattle.evaluator.proofs.Turns.{turns-start, body-end, body-refused, body-unfit, turns-on, TurnsOn}
@@ -72,6 +72,7 @@ use Rattle.evaluator.proofs.steps.names.name_at.Reads as name-at-reads
 use Rattle.evaluator.proofs.steps.passing.behind_bracket.Reads as behind-bracket-reads
 use Rattle.evaluator.proofs.steps.passing.sign.Reads as sign-reads
 use Rattle.evaluator.proofs.formula_alone.Reads as formula-alone-reads
+use Rattle.evaluator.proofs.within_fixed.Reads as within-fixed-reads
 use Rattle.evaluator.proofs.steps.passing.skip.Reads as skip-reads
 use Rattle.evaluator.proofs.steps.scope.Scope.none.Reads as scope-Scope-none-reads
 use Rattle.evaluator.proofs.steps.values.bind_nth.Reads as bind-nth-reads
@@ -653,6 +654,8 @@ pub +body+both-limits+bounds+datum+entry+factors+formula+inside+limit+named+part
     (λ c κs. omega arith)  -- term-factors-requires
     (λ c. search term-rest depth 7))  -- term-returns-2
     λ t. within-lts.spec (
+      within-fixed-reads.Asked,
+      within-fixed-reads.Learnt,
       length-reads.Asked,
       length-reads.Learnt,
       scope-Scope-none-reads.Asked,
@@ -666,6 +669,10 @@ pub +body+both-limits+bounds+datum+entry+factors+formula+inside+limit+named+part
     within.Post
     within-Inv-loop
     within-μ-loop
+    (λ c κs. search needs)  -- within-within-fixed-requires
+    (λ c. search needs)  -- within-enum-known-quick
+    (λ c. search within-tried depth 8)  -- within-returns
+    (λ c. search needs)  -- within-enum-told
     (λ c κs. search needs)  -- within-length-requires
     (λ c κs. search needs)  -- within-none-requires
     (λ c. search within-start depth 6)  -- within-loop-holds
@@ -674,10 +681,10 @@ pub +body+both-limits+bounds+datum+entry+factors+formula+inside+limit+named+part
     (λ c κs. search needs)  -- within-test-requires
     (λ c. search needs)  -- within-enum-known-test
     (λ c. search needs)  -- within-enum-known-test-2
-    (λ c. search within-outside depth 10)  -- within-returns
+    (λ c. search within-outside depth 10)  -- within-returns-2
     (λ c. search needs)  -- within-enum-known-next-2
-    (λ c. search within-entry depth 9)  -- within-returns-2
+    (λ c. search within-entry depth 9)  -- within-returns-3
     (λ c. omega (arith, c .before .before .before .before .before .before .before .before .loop-test .taken, c .before .before .before .before .before .before .before .before .before .before .before .length .ok))  -- within-add-j
     (λ c. omega (arith, c .before .before .before .before .before .before .before .before .loop-test .taken))  -- within-loop-less
     (λ c. search (within-on, c .before .before .before .before .before .before .before .before .before .loop .inv, c .before .before .before .before .before .before .before .before .loop-test .taken, c .before .before .before .before .before .before .before .before .before .before .before .length .ensures) depth 10)  -- within-loop-again
-    (λ c. search within-end depth 7)  -- within-returns-3
+    (λ c. search within-end depth 7)  -- within-returns-4

@@ -27,7 +27,7 @@ use Rattle.evaluator.specs.declared.steps.values.Runs.{Runs}
 use Rattle.evaluator.specs.declared.steps.values.Runs.the-variants as runs
 use Rattle.evaluator.specs.declared.steps.values.Tested.the-variants as tested
 use Rattle.evaluator.specs.Steps.Scopes.{bindingsOf, boundMore, scopeOf}
-use Rattle.evaluator.specs.Steps.Values.{limitsIn, SmallLimits, SmallSpan, countOf, runAnswer, RunIs, numberIn, Tests}
+use Rattle.evaluator.specs.Steps.Values.{insideLimits, limitsIn, SmallLimits, SmallSpan, countOf, runAnswer, RunIs, numberIn, Tests}
 
 -- a number as it is read back
 abbrev pub seen : ℤ → ℤ
@@ -272,6 +272,13 @@ module _ (l : Limits) (j : ℕ) where
   nth-bound s i k t n e g = g ∙ ap (λ z. boundMore i z (bindingsOf s)) (back {z = k} n ∙ e)
 
 -- ---- the domain test of one number
+
+module _ (l : Limits) (k : ℤ) (m : mag k < 2 ^ 63) (f : mag (l .lower) < 2 ^ 63) where
+  pub lies-below : ltZ (seen k) (seen (l .lower)) ≡ true → false ≡ insideLimits l k
+  lies-below h = let d = lt-not-le k (l .lower) (rw (back {z = k} m, back {z = l .lower} f) at h) in rw d refl
+
+  pub lies-above : ltZ (seen k) (seen (l .lower)) ≡ false → mag (l .upper) < 2 ^ 63 → leZ (seen k) (seen (l .upper)) ≡ insideLimits l k
+  lies-above h g = let d = not-lt-le k (l .lower) (rw (back {z = k} m, back {z = l .lower} f) at h) in rw (back {z = k} m, back {z = l .upper} g, d) refl
 
 module _ (s : Held) (ks : List ℤ) (j : ℕ) (b : Bounds) (p : ℕ) (k : ℤ) (e : k ≡ getD ks j (pos 0)) (m : mag k < 2 ^ 63) (f : mag (b .limits .lower) < 2 ^ 63) where
   pub test-low : ltZ (seen k) (seen (b .limits .lower)) ≡ true → Tests s ks j b p (tested.Refused Outside p)

@@ -14,7 +14,7 @@ ghost use Rattle.rational.specs.Integer.{up};
 ghost use Rattle.value.specs.Decimal.{zeroValue, productOf, sumOf, ifInRange};
 ghost use Rattle.store.specs.Element.{listOf, extended};
 ghost use Rattle.evaluator.specs.Steps.Scopes.{bindingsOf, boundMore};
-ghost use Rattle.evaluator.specs.Steps.Values.{fittedAt, signedValue, wholeAnswer, boundAnswer, SmallSpan, countOf, runAnswer, numberIn, Tests, knownAnswer, KnownEarly};
+ghost use Rattle.evaluator.specs.Steps.Values.{fittedAt, signedValue, wholeAnswer, boundAnswer, SmallSpan, countOf, runAnswer, numberIn, insideLimits, Tests, knownAnswer, KnownEarly};
 
 // A value and the position behind it, or a refusal and its place.
 pub enum Answer {
@@ -229,6 +229,16 @@ pub fn bind_nth(sc: Scope, i: usize, l: Limits, j: usize) -> Scope
 {
     let k = nth_number(l, j);
     sc.bind(i, k)
+}
+
+// Does a number lie between two limits?
+pub fn lies(k: i64, l: Limits) -> bool
+    ensures { λ r. ⌜ r ≡ insideLimits l k ⌝ }
+{
+    if k < l.lower {
+        return false;
+    }
+    k <= l.upper
 }
 
 // Does the j-th subscript lie between the limits? Then it is bound; else the name read at p is refused.
