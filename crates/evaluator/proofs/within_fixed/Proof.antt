@@ -1,6 +1,5 @@
 -- `within_fixed` meets its contract.
 use Prim.Native.Nat.{_-_}
-use native.Mathlib.Omega.{arith}
 use borrow.Author.Needs.{needs}
 use Rattle.evaluator.proofs.Alone.{FixedOn, fixed-start, fixed-end, fixed-outside, fixed-on}
 use Rattle.evaluator.proofs.within_fixed.Statement.{statement}

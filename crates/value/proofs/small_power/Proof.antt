@@ -1,5 +1,5 @@
 -- `value::small_power` meets its contract: ten equations, one for each arm; the last arm is reached at 9 only.
-use mathlib.Core.Path.{_≡_, refl}
+use mathlib.Core.Path.{_≡_}
 use Prim.Native.Nat.{ℕ, suc, _^_, _≤_}
 use native.Mathlib.Omega.{arith}
 use Rattle.value.proofs.small_power.Statement.{statement}
