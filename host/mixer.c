@@ -1,4 +1,4 @@
-/* A small host, as a mixer controller's program would be: it calls the generator with two buffers and tests every answer.
+/* A small host, as a mixer controller's program would be: it calls each entry point with two buffers and tests every answer.
    It prints a line for each group of calls, and ends with status 1 at the first answer that is not as it must be. */
 #include "recipe.h"
 
@@ -29,6 +29,41 @@ static const char listing[] =
     "col\t2\t3\t-4\n"
     "end\n";
 
+static const char export[] =
+    "NAME MODEL\n"
+    "ROWS\n"
+    " N OBJ\n"
+    " L R1\n"
+    " E R2\n"
+    "COLUMNS\n"
+    " C1 R1 -1\n"
+    " C1 R2 1\n"
+    " C1 OBJ 3.1\n"
+    " C2 R1 2\n"
+    " C2 R2 1\n"
+    " C2 OBJ 4\n"
+    "RHS\n"
+    " MODEL R1 -0.5\n"
+    " MODEL R2 1\n"
+    "BOUNDS\n"
+    " LO MODEL C1 0\n"
+    " PL MODEL C1\n"
+    " LO MODEL C2 0\n"
+    " UP MODEL C2 0.75\n"
+    "ENDATA\n";
+
+static const char lines[] =
+    "row\t1\tL\t-0.5\n"
+    "row\t2\tE\t1\n"
+    "var\t1\tC\t0\tinf\n"
+    "var\t2\tC\t0\t0.75\n"
+    "col\t1\t1\t-1\n"
+    "col\t1\t2\t1\n"
+    "col\t1\t3\t-3.1\n"
+    "col\t2\t1\t2\n"
+    "col\t2\t2\t1\n"
+    "col\t2\t3\t-4\n";
+
 /* The text of each refusal in two parts: the place is where the second begins. */
 static const struct {
     uint32_t number;
@@ -45,7 +80,12 @@ static const struct {
     {RECIPE_MISSING, "OPEN {a} integer n; continuous x; MINIMIZE: x {c} x <= 1 INIT {d} n + 2 ", "+ 3 CLOSE"},
 };
 
-static uint8_t text[20000], kept[20000], out[RECIPE_BUFFER + 1];
+typedef struct recipe_answer entry(const uint8_t *, size_t, uint8_t *, size_t);
+
+/* One MiB, since the reader of exports has no limit on its text. */
+#define LONGEST (1 << 20)
+
+static uint8_t text[LONGEST], kept[LONGEST], out[RECIPE_BUFFER + 1];
 
 static void fail(const char *what)
 {
@@ -54,7 +94,7 @@ static void fail(const char *what)
 }
 
 /* Calls with a buffer of n bytes that is lent full and has a guard behind it, and tests all that an answer promises. */
-static struct recipe_answer call(size_t length, size_t n, uint32_t number, size_t place, const char *wanted)
+static void call(entry *point, size_t length, size_t n, uint32_t number, size_t place, const char *wanted)
 {
     size_t i, size = strlen(wanted);
     struct recipe_answer a;
@@ -62,19 +102,31 @@ static struct recipe_answer call(size_t length, size_t n, uint32_t number, size_
     memset(out, 0xaa, n);
     out[n] = 0x55;
     memcpy(kept, text, length);
-    a = recipe_generate(text, length, out, n);
+    a = point(text, length, out, n);
     if (a.number != number || a.place != place || a.length != size)
         fail("number, place or length");
     if (memcmp(out, wanted, size) != 0)
-        fail("the listing");
+        fail("the report");
     for (i = size; i < n; i++)
         if (out[i] != 0)
-            fail("a byte behind the listing");
+            fail("a byte behind the report");
     if (out[n] != 0x55)
         fail("the guard behind the buffer");
     if (memcmp(text, kept, length) != 0)
         fail("the text was changed");
-    return a;
+}
+
+/* A report in buffers of 0 to 400 bytes: refused with its length where the buffer is shorter. */
+static void buffers(entry *point, size_t length, const char *report)
+{
+    size_t n, size = strlen(report);
+
+    for (n = 0; n <= 400; n++) {
+        if (n < size)
+            call(point, length, n, RECIPE_LONG_LISTING, size, "");
+        else
+            call(point, length, n, RECIPE_ACCEPTED, 0, report);
+    }
 }
 
 static size_t put(const char *before, const char *rest)
@@ -86,34 +138,47 @@ int main(void)
 {
     size_t i, length = put(blend, ""), size = strlen(listing);
 
-    call(length, RECIPE_BUFFER, RECIPE_ACCEPTED, 0, listing);
+    call(recipe_generate, length, RECIPE_BUFFER, RECIPE_ACCEPTED, 0, listing);
     printf("blend is accepted: %zu bytes\n", size);
 
-    call(length, size, RECIPE_ACCEPTED, 0, listing);
-    call(length, size - 1, RECIPE_LONG_LISTING, size, "");
+    call(recipe_generate, length, size, RECIPE_ACCEPTED, 0, listing);
+    call(recipe_generate, length, size - 1, RECIPE_LONG_LISTING, size, "");
     printf("a buffer one byte short: refused %d at %zu\n", RECIPE_LONG_LISTING, size);
 
-    for (i = 0; i <= 400; i++) {
-        if (i < size)
-            call(length, i, RECIPE_LONG_LISTING, size, "");
-        else
-            call(length, i, RECIPE_ACCEPTED, 0, listing);
-    }
+    buffers(recipe_generate, length, listing);
     printf("buffers of 0 to 400 bytes\n");
 
     memset(text, ' ', RECIPE_TEXT_LIMIT + 1);
-    call(RECIPE_TEXT_LIMIT + 1, RECIPE_BUFFER, RECIPE_LONG_TEXT, RECIPE_TEXT_LIMIT, "");
+    call(recipe_generate, RECIPE_TEXT_LIMIT + 1, RECIPE_BUFFER, RECIPE_LONG_TEXT, RECIPE_TEXT_LIMIT, "");
+    call(recipe_export, RECIPE_TEXT_LIMIT + 1, RECIPE_BUFFER, RECIPE_LONG_TEXT, RECIPE_TEXT_LIMIT, "");
     printf("refused %d at %d\n", RECIPE_LONG_TEXT, RECIPE_TEXT_LIMIT);
     for (i = 0; i < sizeof refusals / sizeof *refusals; i++) {
         size_t place = strlen(refusals[i].before);
         length = put(refusals[i].before, refusals[i].rest);
-        call(length, RECIPE_BUFFER, refusals[i].number, place, "");
-        call(length, 0, refusals[i].number, place, "");
+        call(recipe_generate, length, RECIPE_BUFFER, refusals[i].number, place, "");
+        call(recipe_generate, length, 0, refusals[i].number, place, "");
+        call(recipe_export, length, RECIPE_BUFFER, refusals[i].number, place, "");
+        call(recipe_export, length, 0, refusals[i].number, place, "");
         printf("refused %u at %zu\n", (unsigned)refusals[i].number, place);
     }
 
+    /* An export is made in one buffer; read back, it is the text of the next call. */
     length = put(blend, "");
-    call(length, RECIPE_BUFFER, RECIPE_ACCEPTED, 0, listing);
+    call(recipe_export, length, RECIPE_BUFFER, RECIPE_ACCEPTED, 0, export);
+    buffers(recipe_export, length, export);
+    length = strlen(export);
+    printf("%sblend is exported: %zu bytes\n", (const char *)out, length);
+    memcpy(text, out, length);
+    call(recipe_read_export, length, RECIPE_BUFFER, RECIPE_ACCEPTED, 0, lines);
+    buffers(recipe_read_export, length, lines);
+    printf("%sread back: %zu bytes\n", (const char *)out, strlen(lines));
+    call(recipe_read_export, length - 1, RECIPE_BUFFER, RECIPE_MISPLACED, 0, "");
+    memset(text, ' ', LONGEST);
+    call(recipe_read_export, LONGEST, RECIPE_BUFFER, RECIPE_MISPLACED, 0, "");
+    printf("no export: refused %d at 0\n", RECIPE_MISPLACED);
+
+    length = put(blend, "");
+    call(recipe_generate, length, RECIPE_BUFFER, RECIPE_ACCEPTED, 0, listing);
     printf("blend again: nothing was kept\n");
     return 0;
 }

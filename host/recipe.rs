@@ -1,4 +1,4 @@
-//! The entry point as a Rust program declares it: what recipe.h says to C. The tests and the times use it.
+//! The entry points as a Rust program declares them: what recipe.h says to C. The tests and the times use it.
 
 /// Number, place and length of an answer, as `struct recipe_answer`.
 #[repr(C)]
@@ -10,6 +10,20 @@ pub struct Answer {
 
 extern "C" {
     pub fn recipe_generate(
+        text: *const u8,
+        text_length: usize,
+        out: *mut u8,
+        out_length: usize,
+    ) -> Answer;
+
+    pub fn recipe_export(
+        text: *const u8,
+        text_length: usize,
+        out: *mut u8,
+        out_length: usize,
+    ) -> Answer;
+
+    pub fn recipe_read_export(
         text: *const u8,
         text_length: usize,
         out: *mut u8,

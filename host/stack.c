@@ -1,8 +1,8 @@
 /* Measures the stack that a call needs: it calls in threads whose stacks are found by halving, each in a process of its own.
    The texts are document 01's case, and two that nest as deep as the language allows, with all 64 names: declared formulas, each
    the subscript of a subscript and so on, twelve deep, around the one before; and declared domains, each with such a limit around
-   the name before. Subscripts need more stack than parentheses, and as much as sums. It prints bytes for each, and ends with status 1
-   if one is above RECIPE_STACK. */
+   the name before. Subscripts need more stack than parentheses, and as much as sums. Each is listed and exported; the reader of
+   exports is given the export of document 01's case. It prints bytes for each, and ends with status 1 if one is above RECIPE_STACK. */
 #include "recipe.h"
 
 #include <limits.h>
@@ -17,9 +17,12 @@
 #define NAMES 61
 #define BRACKETS 12
 
+typedef struct recipe_answer entry(const uint8_t *, size_t, uint8_t *, size_t);
+
 static char text[RECIPE_TEXT_LIMIT + 1];
 static uint8_t out[RECIPE_BUFFER];
 static size_t length;
+static entry *point;
 
 static void add(const char *piece)
 {
@@ -54,6 +57,17 @@ static void blend(void)
     add("OPEN {blend} index i; integer n; real p[i] (1 <= i <= n); continuous x[i] (1 <= i <= n);"
         "MINIMIZE: S(i, 1, n, p[i] * x[i]) {mass} S(i, 1, n, x[i]) = 1 {lime} x[1] - 2 * x[2] >= 0.5 {top} x[2] <= 0.75 "
         "INIT {today} n + 2 p[i] + 3.10 + 4 CLOSE");
+}
+
+/* The export of blend. */
+static void exported(void)
+{
+    struct recipe_answer a;
+    blend();
+    a = recipe_export((const uint8_t *)text, length, out, sizeof out - 1);
+    length = 0;
+    if (a.number == RECIPE_ACCEPTED)
+        add((const char *)out);
 }
 
 static void formulas(void)
@@ -94,7 +108,7 @@ static void domains(void)
 
 static void *call(void *unused)
 {
-    struct recipe_answer a = recipe_generate((const uint8_t *)text, length, out, sizeof out);
+    struct recipe_answer a = point((const uint8_t *)text, length, out, sizeof out);
     (void)unused;
     _exit(a.number == RECIPE_ACCEPTED ? 0 : 2);
 }
@@ -120,9 +134,10 @@ static int enough(size_t stack)
     return WIFEXITED(status) && WEXITSTATUS(status) == 0;
 }
 
-static int measure(const char *name, void (*write)(void))
+static int measure(const char *name, entry *called, void (*write)(void))
 {
     size_t low = 16384, high = 64 << 20;
+    point = called;
     length = 0;
     write();
     while (high - low > 1024) {
@@ -139,5 +154,8 @@ static int measure(const char *name, void (*write)(void))
 int main(void)
 {
     setvbuf(stdout, NULL, _IONBF, 0);
-    return measure("blend", blend) | measure("formulas", formulas) | measure("domains", domains);
+    return measure("blend", recipe_generate, blend) | measure("formulas", recipe_generate, formulas) |
+           measure("domains", recipe_generate, domains) | measure("the export of blend", recipe_export, blend) |
+           measure("the export of formulas", recipe_export, formulas) | measure("the export of domains", recipe_export, domains) |
+           measure("the reader of exports", recipe_read_export, exported);
 }

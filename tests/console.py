@@ -22,7 +22,7 @@ def generator(tested):
 
 def furnish(folder, program):
     """Gives the folder what is at the root of the repository, with this program as the one that is built."""
-    for name in ('recipe', 'where'):
+    for name in ('recipe', 'where', 'solve'):
         shutil.copy(ROOT / name, folder)
     shutil.copytree(ROOT / 'shell', folder / 'shell')
     (folder / 'examples').symlink_to(ROOT / 'examples')

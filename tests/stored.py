@@ -5,6 +5,7 @@ import sys
 
 ROOT = pathlib.Path(__file__).resolve().parents[1]
 BUFFER = 65536  # the longest output buffer, and the longest text, that a program of frames takes
+LETTERS = {'list': 'L', 'export': 'E', 'read': 'R'}  # of the entry points
 
 
 def cases():
@@ -12,10 +13,16 @@ def cases():
         yield from map(json.loads, path.read_text(encoding='ascii').splitlines())
 
 
-def frame(text, buffer):
+def op(case):
+    """The entry point of a case."""
+    return case.get('op', 'list')
+
+
+def frame(case):
     """A case as cases::frames takes it. Each character of a text stands for the byte with its code."""
+    text, buffer = case['text'], case['buffer']
     assert len(text) <= BUFFER and buffer <= BUFFER, 'a case is longer than the programs take'
-    return f'\n{len(text):05d} {buffer:05d}\n{text}'.encode('latin-1')
+    return f'\n{LETTERS[op(case)]}{len(text):05d} {buffer:05d}\n{text}'.encode('latin-1')
 
 
 def write_or_check(crate, stdin, stdout):

@@ -1,4 +1,4 @@
-//! Random model texts: mostly right ones, written by the grammar, and changes that break them.
+//! Random model texts: mostly right ones, written by the grammar, and changes that break them. Exports likewise.
 //!
 //! Runs are short and few names depend on each other, since a text may ask for as many steps as it writes.
 
@@ -654,6 +654,148 @@ pub fn changed(random: &mut Random, text: &[u8]) -> Vec<u8> {
                 ];
                 let word = format!(" {} ", random.of(&words));
                 text.splice(at..at, word.into_bytes());
+            }
+        }
+    }
+    text
+}
+
+/// The export of a random list, written line by line, and whether it has no more rows and variables than allowed.
+pub fn export(random: &mut Random) -> (Vec<u8>, bool) {
+    let (rows, variables) = (size(random), size(random));
+    let (less, whole) = (random.below(rows + 1), random.below(variables + 1));
+    let mut text = "NAME MODEL\nROWS\n N OBJ\n".to_string();
+    for row in 1..=rows {
+        let kind = if row <= less { "L" } else { "E" };
+        text += &format!(" {kind} R{row}\n");
+    }
+    text += "COLUMNS\n";
+    for variable in 1..=variables {
+        if variable == 1 && whole > 0 {
+            text += " M 'MARKER' 'INTORG'\n";
+        }
+        // A column has some five coefficients at most.
+        let mut row = 1 + random.below(2);
+        while row <= rows {
+            let value = value(random);
+            if value != "0" {
+                text += &format!(" C{variable} R{row} {value}\n");
+            }
+            row += 1 + random.below(1 + rows / 3);
+        }
+        text += &format!(" C{variable} OBJ {}\n", value(random));
+        if variable == whole {
+            text += " M 'MARKER' 'INTEND'\n";
+        }
+    }
+    text += "RHS\n";
+    for row in 1..=rows {
+        text += &format!(" MODEL R{row} {}\n", value(random));
+    }
+    text += "BOUNDS\n";
+    for variable in 1..=variables {
+        text += &format!(" LO MODEL C{variable} {}\n", value(random));
+        text += &if random.chance(50) {
+            format!(" PL MODEL C{variable}\n")
+        } else {
+            format!(" UP MODEL C{variable} {}\n", value(random))
+        };
+    }
+    text += "ENDATA\n";
+    (text.into_bytes(), rows <= 512 && variables <= 512)
+}
+
+/// How many rows or variables: mostly few, rarely as many as allowed or more.
+fn size(random: &mut Random) -> usize {
+    match random.below(200) {
+        0 => 510 + random.below(5),
+        1..=20 => random.below(60),
+        _ => random.below(7),
+    }
+}
+
+/// A value that fits, as it is printed: of up to nine digits and six decimals.
+fn value(random: &mut Random) -> String {
+    let digits = 1 + random.below(9);
+    let size = if random.chance(5) {
+        999_999_999
+    } else {
+        random.below(10usize.pow(digits as u32))
+    };
+    let decimals = random.below(7);
+    let number = format!("{size:0width$}", width = decimals + 1);
+    let (whole, rest) = number.split_at(number.len() - decimals);
+    let rest = rest.trim_end_matches('0');
+    let sign = if size > 0 && random.chance(40) {
+        "-"
+    } else {
+        ""
+    };
+    let point = if rest.is_empty() { "" } else { "." };
+    format!("{sign}{whole}{point}{rest}")
+}
+
+/// An export with a change or two: a byte changed, deleted or inserted, the end cut off, a field replaced, a line swapped with
+/// another, doubled or left out.
+pub fn changed_export(random: &mut Random, text: &[u8]) -> Vec<u8> {
+    let mut text = text.to_vec();
+    for _ in 0..1 + random.below(2) {
+        if text.is_empty() {
+            break;
+        }
+        let at = random.below(text.len());
+        match random.below(8) {
+            0 => text[at] = random.below(256) as u8,
+            1 => {
+                text.remove(at);
+            }
+            2 => {
+                let bytes = b" \n-.0123456789+RC\r\t";
+                text.insert(at, bytes[random.below(bytes.len())]);
+            }
+            3 => text.truncate(at),
+            4 => {
+                let ends_field = |b: &u8| b" \n".contains(b);
+                let start = text[..at].iter().rposition(ends_field).map_or(0, |k| k + 1);
+                let end = text[at..].iter().position(ends_field);
+                let end = end.map_or(text.len(), |k| at + k);
+                let fields = [
+                    "0",
+                    "-0",
+                    "1",
+                    "-1",
+                    "0.5",
+                    "1.50",
+                    "999999999",
+                    "1000000000",
+                    "0.0000001",
+                    "",
+                    "C1",
+                    "C2",
+                    "R1",
+                    "R2",
+                    "OBJ",
+                    "L",
+                    "E",
+                    "LO",
+                    "UP",
+                    "PL",
+                ];
+                let field = random.of(&fields);
+                text.splice(start..end, field.bytes());
+            }
+            change => {
+                let mut lines: Vec<&[u8]> = text.split_inclusive(|b| *b == b'\n').collect();
+                let line = random.below(lines.len());
+                let other = random.below(lines.len());
+                match change {
+                    5 => lines.swap(line, other),
+                    6 => lines.insert(line, lines[line]),
+                    _ => {
+                        lines.remove(line);
+                    }
+                }
+                text = lines.concat();
             }
         }
     }

@@ -1,13 +1,14 @@
 //! Runs the cases of the files named and compares number, place, length and every byte
 //! of the buffer. A case is one JSON object on a line, of strings and whole numbers; a
-//! character of its text or listing stands for the byte of that number.
+//! character of its text or output stands for the byte of that number. Its `op` is the
+//! entry point: `list` (also where none is given), `export` or `read`.
 
 mod generator;
 mod json;
 
 use std::process::ExitCode;
 
-use generator::{generate, Answer};
+use generator::{export, generate, read_export, Answer};
 use json::{object, Json};
 
 fn main() -> ExitCode {
@@ -55,17 +56,23 @@ fn check(line: &[u8]) -> Result<(), String> {
         _ => Err(format!("no number {key}")),
     };
     let name = String::from_utf8_lossy(string("name")?);
-    let listing = string("listing")?;
+    let entry = match string("op").map(Vec::as_slice) {
+        Err(_) | Ok(b"list") => generate,
+        Ok(b"export") => export,
+        Ok(b"read") => read_export,
+        Ok(_) => return Err(format!("{name}: no such op")),
+    };
+    let output = string("output")?;
     let wanted = Answer {
         number: number("number")? as u32,
         place: number("place")?,
-        length: listing.len(),
+        length: output.len(),
     };
     // The buffer is lent full, so that bytes left unwritten are seen.
     let mut out = vec![0xaa; number("buffer")?];
-    let mut wanted_out = listing.clone();
+    let mut wanted_out = output.clone();
     wanted_out.resize(out.len(), 0);
-    let answer = generate(string("text")?, &mut out);
+    let answer = entry(string("text")?, &mut out);
     if answer != wanted {
         return Err(format!("{name}: {answer:?}, not {wanted:?}"));
     }

@@ -1,12 +1,18 @@
 //! A second generator for the recipe modelling language, written from document 01 and
 //! its readings alone. It is meant to be compared with the first one, so it favours
-//! plain steps over clever ones, in the order of that document.
+//! plain steps over clever ones, in the order of that document. What document 02 asks
+//! for stands in files of its own: the export and its reader in export.rs.
+
+#[path = "export.rs"]
+mod export;
+
+pub use export::{export, read_export};
 
 use std::cmp::Ordering;
 use std::collections::HashMap;
 use std::ops::RangeInclusive;
 
-/// Number 0, place 0 and the listing's length; or a refusal, its place and length 0.
+/// Number 0, place 0 and the report's length; or a refusal, its place and length 0.
 #[derive(Clone, Copy, Debug, PartialEq, Eq)]
 pub struct Answer {
     pub number: u32,
@@ -17,8 +23,23 @@ pub struct Answer {
 /// Writes the listing of the model `text` to `out`, with zero bytes behind it, or fills
 /// `out` with zeros if the model is refused.
 pub fn generate(text: &[u8], out: &mut [u8]) -> Answer {
+    answer(report(text, |program| program.print()), out)
+}
+
+/// What `print` makes of an accepted model.
+fn report(text: &[u8], print: fn(&Program) -> Vec<u8>) -> Outcome<Vec<u8>> {
+    if text.len() > TEXT_LIMIT {
+        return refuse(1, TEXT_LIMIT);
+    }
+    let model = Parser::new(text).model()?;
+    let program = Program::build(&model)?;
+    Ok(print(&program))
+}
+
+/// Puts a report into the buffer, unless it is longer: then it is refused with its own length.
+fn answer(report: Outcome<Vec<u8>>, out: &mut [u8]) -> Answer {
     out.fill(0);
-    let (number, place, length) = match listing(text) {
+    let (number, place, length) = match report {
         Err(refusal) => (refusal.number, refusal.place, 0),
         Ok(lines) => match out.get_mut(..lines.len()) {
             Some(part) => {
@@ -33,15 +54,6 @@ pub fn generate(text: &[u8], out: &mut [u8]) -> Answer {
         place,
         length,
     }
-}
-
-fn listing(text: &[u8]) -> Outcome<Vec<u8>> {
-    if text.len() > TEXT_LIMIT {
-        return refuse(1, TEXT_LIMIT);
-    }
-    let model = Parser::new(text).model()?;
-    let program = Program::build(&model)?;
-    Ok(program.print())
 }
 
 const TEXT_LIMIT: usize = 16_384;

@@ -18,7 +18,12 @@ use Rattle.listing.specs.Shown.{shownNatural}
 use Rattle.listing.proofs.Showing.{shown-most, whole-is, natural-read, natural-none}
 use Rattle.listing.proofs.Writing.{field-then, line-end, written-from}
 use Rattle.cases.proofs.frames.Laws.{part-length}
-use Rattle.cases.specs.Told.{oneOf, nonzeroOf, told}
+use Rattle.language.specs.Answer.{respond}
+use Rattle.generator.specs.declared.Answer.{Answer}
+use Rattle.generator.specs.declared.Entry.{Entry}
+use Rattle.generator.specs.Contract.{Gives, Calls}
+use Rattle.generator.proofs.Entries.{entry-map}
+use Rattle.cases.specs.Told.{oneOf, nonzeroOf, told, Runs}
 
 -- ---- a number
 
@@ -79,3 +84,8 @@ filled-part k m b h = part-length k (replicate 65536 b) (rw (length-replicate 65
 
 pub out-part : (k m : ℕ) (l : List ℕ) → k ≡ min m (length l) → k ≡ length (take k l)
 out-part k m l h = part-length k l (omega arith)
+
+-- ---- the output of a case
+
+pub runs-is : (e : Entry) (text out : List ℕ) (a : Answer) (out′ : List ℕ) → Calls e text out a out′ → Runs e text out out′
+runs-is e text out a out′ c = record { bytes = entry-map e text (length out) (λ o. Gives (length out) o a out′) (λ o. out′ ≡ respond (length out) o .buffer) (λ o g. g .bytes) (c .of) }

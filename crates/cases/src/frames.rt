@@ -1,13 +1,14 @@
-// How a test program is given its cases: each case is a frame of its standard input, which is a line feed, five digits with the
-// text's length, a space, five digits with the length of the output buffer, a line feed, and the text.
+// How a test program is given its cases: each case is a frame of its standard input, which is a line feed, a letter for the entry point,
+// five digits with the text's length, a space, five digits with the length of the output buffer, a line feed, and the text.
+use generator::Entry;
 ghost use mathlib.Core.Path.{_≡_};
 ghost use Prim.Native.Nat.{_≤_};
 ghost use lib.ListN.{length};
-ghost use Rattle.cases.specs.Frames.Frames.{digitOf, fiveOf, Within};
+ghost use Rattle.cases.specs.Frames.Frames.{digitOf, fiveOf, entryOf, Within};
 
-// The lengths of a text that was given and of its output buffer.
+// The entry point of a case, and the lengths of its text and of its output buffer.
 pub enum Given {
-    Text(usize, usize),
+    Text(Entry, usize, usize),
     Nothing,
 }
 
@@ -29,17 +30,30 @@ fn five(a: u8, b: u8, c: u8, d: u8, e: u8) -> usize
     digit(a) * 10000 + digit(b) * 1000 + digit(c) * 100 + digit(d) * 10 + digit(e)
 }
 
+// `E` is the export, `R` the reader of an export; every other letter, and `L`, is the listing.
+fn entry(b: u8) -> Entry
+    ensures { λ r. ⌜ r ≡ entryOf b ⌝ }
+{
+    if b == b'E' {
+        return Entry::Export;
+    }
+    if b == b'R' {
+        return Entry::Read;
+    }
+    Entry::List
+}
+
 // Takes the next text into the start of a buffer. No contract can say what is read.
 pub fn take(buffer: &mut [u8]) -> Given
     ensures { λ r. ⌜ Within r (length (now (buffer .exit))) ⌝ }
 {
-    let mut head = [0u8; 13];
+    let mut head = [0u8; 14];
     let got = io::read_full(0, &mut head);
-    if got < 13 {
+    if got < 14 {
         return Given::Nothing;
     }
-    let n = five(head[1], head[2], head[3], head[4], head[5]);
-    let k = five(head[7], head[8], head[9], head[10], head[11]);
+    let n = five(head[2], head[3], head[4], head[5], head[6]);
+    let k = five(head[8], head[9], head[10], head[11], head[12]);
     if buffer.len() < n {
         return Given::Nothing;
     }
@@ -47,5 +61,5 @@ pub fn take(buffer: &mut [u8]) -> Given
     if taken < n {
         return Given::Nothing;
     }
-    Given::Text(n, k)
+    Given::Text(entry(head[1]), n, k)
 }

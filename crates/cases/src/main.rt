@@ -1,19 +1,19 @@
-// Runs the stored cases through the entry point, and writes for each its answer: a line of number, place, length and the count
-// of bytes behind the listing that are not zero, parted by tabs; and then the listing. tests/cases/make writes the input, in
+// Runs the stored cases through the entry points, and writes for each its answer: a line of number, place, length and the count
+// of bytes behind the report that are not zero, parted by tabs; and then the report. tests/cases/make writes the input, in
 // frames, and what must come out, from the stored cases.
 mod frames;
 
 use frames::Given;
 use generator::Answer;
+use generator::Entry;
 ghost use mathlib.Core.Path.{_≡_};
 ghost use mathlib.Core.List.{[], _∷_};
 ghost use Prim.Native.Nat.{_+_, _<_, _≤_, _^_};
 ghost use lib.ListN.{length};
 ghost use Rattle.rules.specs.Characters.{tab};
 ghost use Rattle.value.specs.Printed.{Written};
-ghost use Rattle.language.specs.Answer.{answer};
 ghost use Rattle.listing.specs.Shown.{shownNatural};
-ghost use Rattle.cases.specs.Told.{oneOf, nonzeroOf, told};
+ghost use Rattle.cases.specs.Told.{oneOf, nonzeroOf, told, Runs};
 
 // ---- a line, written as the lines of a listing are
 
@@ -79,7 +79,7 @@ fn nonzero(bytes: &[u8]) -> usize
 
 // ---- all cases
 
-// Writes an answer and its listing; whether they were written. No contract can say what is written: `line` says what it is.
+// Writes an answer and its report; whether they were written. No contract can say what is written: `line` says what it is.
 fn tell(a: Answer, out: &[u8]) -> bool {
     let number = a.number;
     let length = a.length;
@@ -92,10 +92,10 @@ fn tell(a: Answer, out: &[u8]) -> bool {
 }
 
 // Writes the answer for a text and an output buffer, whose bytes are the definition's.
-fn run(text: &[u8], out: &mut [u8]) -> bool
-    ensures { λ _. ⌜ now (out .exit) ≡ answer (now (text .entry)) (length (now (out .entry))) .buffer ⌝ }
+fn run(entry: Entry, text: &[u8], out: &mut [u8]) -> bool
+    ensures { λ _. ⌜ Runs entry (now (text .entry)) (now (out .entry)) (now (out .exit)) ⌝ }
 {
-    let a = generator::recipe_generate(text, out);
+    let a = generator::call(entry, text, out);
     tell(a, out)
 }
 
@@ -103,12 +103,12 @@ fn run(text: &[u8], out: &mut [u8]) -> bool
 fn turn() -> bool {
     let mut buffer = io::large_buffer();
     let given = frames::take(&mut buffer);
-    let Given::Text(n, k) = given else {
+    let Given::Text(entry, n, k) = given else {
         return false;
     };
     let mut out = [170u8; 65536];
     let k = listing::rest_from(65536, k);
-    run(&buffer[..n], &mut out[..k])
+    run(entry, &buffer[..n], &mut out[..k])
 }
 
 // A proved loop has to end, and nothing says that the input does: so it counts its turns down.

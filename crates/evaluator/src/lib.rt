@@ -606,7 +606,14 @@ fn datum_alone(table: &[u64], given: usize, level: usize, at: usize, name: Liste
 }
 
 // The value of a literal, or of an integer or a real that stands alone.
-fn token_fixed(names: &[u64], tokens: &[u64], table: &[u64], given: usize, level: usize, at: usize) -> Single
+fn token_fixed(
+    names: &[u64],
+    tokens: &[u64],
+    table: &[u64],
+    given: usize,
+    level: usize,
+    at: usize,
+) -> Single
     ensures { λ r. ⌜ TokenFixed (now (names .entry)) (now (tokens .entry)) (now (table .entry)) given level at r ⌝ }
 {
     let token = tokens::token_at(tokens, at);
@@ -626,7 +633,14 @@ fn token_fixed(names: &[u64], tokens: &[u64], table: &[u64], given: usize, level
 }
 
 // The value of such a token that is a formula, and the position behind the sign that ends it.
-fn formula_fixed(names: &[u64], tokens: &[u64], table: &[u64], given: usize, level: usize, at: usize) -> Single
+fn formula_fixed(
+    names: &[u64],
+    tokens: &[u64],
+    table: &[u64],
+    given: usize,
+    level: usize,
+    at: usize,
+) -> Single
     ensures { λ r. ⌜ FormulaFixed (now (names .entry)) (now (tokens .entry)) (now (table .entry)) given level at r ⌝ }
 {
     let one = token_fixed(names, tokens, table, given, level, at);
@@ -649,7 +663,14 @@ fn formula_fixed(names: &[u64], tokens: &[u64], table: &[u64], given: usize, lev
 }
 
 // The limits of an entry, both such formulas and whole.
-fn entry_fixed(names: &[u64], tokens: &[u64], table: &[u64], given: usize, level: usize, at: usize) -> Fixed
+fn entry_fixed(
+    names: &[u64],
+    tokens: &[u64],
+    table: &[u64],
+    given: usize,
+    level: usize,
+    at: usize,
+) -> Fixed
     ensures { λ r. ⌜ EntryFixed (now (names .entry)) (now (tokens .entry)) (now (table .entry)) given level at r ⌝ }
 {
     let low = formula_fixed(names, tokens, table, given, level, at);

@@ -1,2 +1,4 @@
 pub mod Answers
 pub mod Listings
+pub mod Exports
+pub mod Entries

@@ -1,4 +1,4 @@
--- From the tables of a text to its listing.
+-- From the tables of a text to its report.
 use mathlib.Core.Path.{_≡_, refl, sym, _∙_, ap, subst, subst₂}
 use mathlib.Core.Bool.{Bool, true, false, cond}
 use mathlib.Core.List.{List}
@@ -36,13 +36,15 @@ use Rattle.rows.specs.declared.Filled.{Filled}
 use Rattle.problem.specs.declared.Problem.{Problem}
 use Rattle.problem.specs.declared.Problem.the-variants as problem
 use Rattle.problem.specs.Problem.{Poses, Generating, GeneratesAs}
-use Rattle.listing.specs.declared.sheet.Sizes.{Sizes}
+use Rattle.rows.specs.declared.Sizes.{Sizes}
 use Rattle.listing.specs.Sheet.Shown.{Shown}
 use Rattle.listing.specs.Sheet.Shown as sheet
 use Rattle.listing.proofs.sheet.Texts.{visible-inside}
 use Rattle.generator.specs.declared.Generated.{Generated}
 use Rattle.generator.specs.declared.Generated.the-variants as generated
-use Rattle.generator.specs.Generated.{Lists, behindBrace, ListsModel, ListsIn, Generates}
+use Rattle.generator.specs.declared.Report.{Report}
+use Rattle.generator.specs.declared.Report.the-variants as report
+use Rattle.generator.specs.Generated.{reported, Prints, behindBrace, Writes, PrintsModel, PrintsIn, Generates}
 
 -- ---- a text that was read is not too long
 
@@ -80,11 +82,14 @@ pub brace-outside : (p : ℕ) → 16384 ≤ p → 0 ≡ behindBrace p
 unfolding behindBrace byteLimit
 brace-outside p h = ap (λ b. cond b (p + 1) 0) (sym (le-ltb p 16384 h))
 
--- ---- parts of tables
+-- ---- what is written from the tables
 
-pub listed-rows : (s ns ts cs xs t bs : List ℕ) (c : List ℤ) (z : Sizes) (title q bytes n k : ℕ) (p : ℕ) → k ≡ n * 5 → q ≡ behindBrace p → (out : List ℕ) (r : ℕ) (out′ : List ℕ)
-    → sheet.Lists s ns ts (take k cs) xs t bs c z title q bytes out r out′ → sheet.Lists s ns ts (rowsOf n cs) xs t bs c z title (behindBrace p) bytes out r out′
-listed-rows s ns ts cs xs t bs c z title q bytes n k p e f out r out′ h = subst₂ (λ k q. sheet.Lists s ns ts (take k cs) xs t bs c z title q bytes out r out′) e f h
+pub written-listing : (s ns ts cs xs t bs : List ℕ) (c : List ℤ) (z : Sizes) (title q bytes n k : ℕ) (p : ℕ) → k ≡ n * 5 → q ≡ behindBrace p → (out : List ℕ) (r : ℕ) (out′ : List ℕ)
+    → sheet.Lists s ns ts (take k cs) xs t bs c z title q bytes out r out′ → (f : Report) → f ≡ report.Listing → Writes f s ns ts (rowsOf n cs) xs t bs c z title (behindBrace p) bytes out r out′
+unfolding listingOf
+written-listing s ns ts cs xs t bs c z title q bytes n k p e i out r out′ h f w =
+    let l = subst₂ (λ k q. sheet.Lists s ns ts (take k cs) xs t bs c z title q bytes out r out′) e i h in
+    rw w (record { report = λ x y g d. subst (λ b. Written out 0 b r out′) (lines-shown (linesOf x y) (d .proper)) (l .lines x y d) })
 
 -- ---- what is accepted
 
@@ -127,22 +132,22 @@ module _ (s ts ns cs ds : List ℕ) (r : Tables) (few : r .constraints ≤ 64) (
         unbound = λ k. ap (λ l. getD l k 0) unstated ∙ zeros-at 1024 k;
       }
 
-  module _ (xs t bs′ : List ℕ) (c : List ℤ) (out out′ : List ℕ) where
+  module _ (k : Report) (xs t bs′ : List ℕ) (c : List ℤ) (out out′ : List ℕ) where
     made-refused : (n : Refusal) (q : ℕ) → GeneratesAs (rowsOf (r .names) ns) ts ds (r .given) (r .objective) (r .minimize) cs (r .constraints) bs (problem.Refused n q) xs t bs′ c
-        → Lists (accepted s) out (generated.Refused n q) out′
+        → Prints (reported k (accepted s)) out (generated.Refused n q) out′
     made-refused n q g = go (generate m) refl (g .is _ m poses)
       where
-        go : (o : Outcome Lp) → generate m ≡ o → Generating o (m .structure .constraints) (problem.Refused n q) xs t bs′ c → Lists (accepted s) out (generated.Refused n q) out′
-        go (done p) i k = absurd k
-        go (refused n′ q′) i k = subst (λ o. Lists o out (generated.Refused n q) out′) (sym (problem-refused s m reads n′ q′ i)) k
+        go : (o : Outcome Lp) → generate m ≡ o → Generating o (m .structure .constraints) (problem.Refused n q) xs t bs′ c → Prints (reported k (accepted s)) out (generated.Refused n q) out′
+        go (done p) i w = absurd w
+        go (refused n′ q′) i w = subst (λ o. Prints (reported k o) out (generated.Refused n q) out′) (sym (problem-refused s m reads n′ q′ i)) w
 
-    made-listed : (a n : ℕ) (f : Filled) → GeneratesAs (rowsOf (r .names) ns) ts ds (r .given) (r .objective) (r .minimize) cs (r .constraints) bs (problem.Of a n f) xs t bs′ c → (k : ℕ)
-        → sheet.Lists s (rowsOf (r .names) ns) ts (rowsOf (r .constraints) cs) xs t bs′ c (record { discrete = a; variables = n; less = f .less; equal = f .equal }) (r .title) (behindBrace (r .section)) (r .bytes) out k out′
-        → Lists (accepted s) out (generated.Listed k) out′
-    unfolding listingOf linesOf
-    made-listed a n f g k l = go (generate m) refl (g .is _ m poses)
+    made-printed : (a n : ℕ) (f : Filled) → GeneratesAs (rowsOf (r .names) ns) ts ds (r .given) (r .objective) (r .minimize) cs (r .constraints) bs (problem.Of a n f) xs t bs′ c → (size : ℕ)
+        → Writes k s (rowsOf (r .names) ns) ts (rowsOf (r .constraints) cs) xs t bs′ c (record { discrete = a; variables = n; less = f .less; equal = f .equal }) (r .title) (behindBrace (r .section)) (r .bytes) out size out′
+        → Prints (reported k (accepted s)) out (generated.Printed size) out′
+    unfolding linesOf
+    made-printed a n f g size l = go (generate m) refl (g .is _ m poses)
       where
-        go : (o : Outcome Lp) → generate m ≡ o → Generating o (m .structure .constraints) (problem.Of a n f) xs t bs′ c → Lists (accepted s) out (generated.Listed k) out′
+        go : (o : Outcome Lp) → generate m ≡ o → Generating o (m .structure .constraints) (problem.Of a n f) xs t bs′ c → Prints (reported k (accepted s)) out (generated.Printed size) out′
         go (refused n′ q′) i w = absurd w
         go (done p) i w =
             let acc = problem-accepted s m reads p i in
@@ -167,36 +172,32 @@ module _ (s ts ns cs ds : List ℕ) (r : Tables) (few : r .constraints ≤ 64) (
               bounds = w .bounds;
               proper = proper;
             } in
-            subst (λ o. Lists o out (generated.Listed k) out′) (sym acc) (subst (λ z. Written out 0 z k out′) (lines-shown (linesOf m p) proper) (l .lines m p shown))
+            subst (λ o. Prints (reported k o) out (generated.Printed size) out′) (sym acc) (l .report m p i shown)
 
 -- the same, of the rows of the names alone
-module _ (s ns ts cs ds : List ℕ) (r : Tables) (few : r .constraints ≤ 64) (bs : List ℕ) (x : Problem) (xs t bs′ : List ℕ) (c : List ℤ) (g : GeneratesAs ns ts ds (r .given) (r .objective) (r .minimize) cs (r .constraints) bs x xs t bs′ c) (out out′ : List ℕ) where
+module _ (k : Report) (s ns ts cs ds : List ℕ) (r : Tables) (few : r .constraints ≤ 64) (bs : List ℕ) (x : Problem) (xs t bs′ : List ℕ) (c : List ℤ) (g : GeneratesAs ns ts ds (r .given) (r .objective) (r .minimize) cs (r .constraints) bs x xs t bs′ c) (out out′ : List ℕ) where
   generates-as : (y : Problem) → x ≡ y → (t₀ : List ℕ) → ns ≡ rowsOf (r .names) t₀
       → GeneratesAs (rowsOf (r .names) t₀) ts ds (r .given) (r .objective) (r .minimize) cs (r .constraints) bs y xs t bs′ c
   generates-as y e t₀ i = subst₂ (λ l y. GeneratesAs l ts ds (r .given) (r .objective) (r .minimize) cs (r .constraints) bs y xs t bs′ c) i e g
 
-  pub list-refused : (n : Refusal) (q : ℕ) → x ≡ problem.Refused n q → ListsIn s ns ts cs ds r bs out (generated.Refused n q) out′
-  list-refused n q e = record { lists = λ unstated. record { lists = λ m reads t₀ i h. made-refused s ts t₀ cs ds r few bs unstated m reads h xs t bs′ c out out′ n q (generates-as (problem.Refused n q) e t₀ i) } }
+  pub print-refused : (n : Refusal) (q : ℕ) → x ≡ problem.Refused n q → PrintsIn k s ns ts cs ds r bs out (generated.Refused n q) out′
+  print-refused n q e = record { prints = λ unstated. record { prints = λ m reads t₀ i h. made-refused s ts t₀ cs ds r few bs unstated m reads h k xs t bs′ c out out′ n q (generates-as (problem.Refused n q) e t₀ i) } }
 
-  pub list-done : (a n : ℕ) (f : Filled) → x ≡ problem.Of a n f → (k : ℕ)
-      → sheet.Lists s ns ts (rowsOf (r .constraints) cs) xs t bs′ c (record { discrete = a; variables = n; less = f .less; equal = f .equal }) (r .title) (behindBrace (r .section)) (r .bytes) out k out′
-      → ListsIn s ns ts cs ds r bs out (generated.Listed k) out′
-  list-done a n f e k l = record {
-    lists = λ unstated. record {
-      lists = λ m reads t₀ i h. made-listed s ts t₀ cs ds r few bs unstated m reads h xs t bs′ c out out′ a n f (generates-as (problem.Of a n f) e t₀ i) k
-          (subst (λ z. sheet.Lists s z ts (rowsOf (r .constraints) cs) xs t bs′ c (record { discrete = a; variables = n; less = f .less; equal = f .equal }) (r .title) (behindBrace (r .section)) (r .bytes) out k out′) i l);
+  pub print-done : (a n : ℕ) (f : Filled) → x ≡ problem.Of a n f → (size : ℕ)
+      → Writes k s ns ts (rowsOf (r .constraints) cs) xs t bs′ c (record { discrete = a; variables = n; less = f .less; equal = f .equal }) (r .title) (behindBrace (r .section)) (r .bytes) out size out′
+      → PrintsIn k s ns ts cs ds r bs out (generated.Printed size) out′
+  print-done a n f e size l = record {
+    prints = λ unstated. record {
+      prints = λ m reads t₀ i h. made-printed s ts t₀ cs ds r few bs unstated m reads h k xs t bs′ c out out′ a n f (generates-as (problem.Of a n f) e t₀ i) size
+          (subst (λ z. Writes k s z ts (rowsOf (r .constraints) cs) xs t bs′ c (record { discrete = a; variables = n; less = f .less; equal = f .equal }) (r .title) (behindBrace (r .section)) (r .bytes) out size out′) i l);
     };
   }
 
--- in a table of zeros no bound is stated
-pub listed-in : (s ns ts cs ds : List ℕ) (r : Tables) (bs : List ℕ) → bs ≡ replicate 1024 0 → (out : List ℕ) (g : Generated) (out′ : List ℕ) → ListsIn s ns ts cs ds r bs out g out′ → ListsModel s ns ts cs ds r out g out′
-listed-in s ns ts cs ds r bs z out g out′ h = h .lists z
+-- ---- the report of a text
 
--- ---- the listing of a text
+module _ (k : Report) (s : List ℕ) (r : Tables) (ts ns cs ds : List ℕ) (h : ReadAs s r ts ns cs ds) (out : List ℕ) where
+  pub text-unread : (n : Refusal) (q : ℕ) → r .end ≡ end.Refused n q → (out′ : List ℕ) → Generates k s out (generated.Refused n q) out′
+  text-unread n q e out′ = record { prints = subst (λ o. Prints (reported k o) out (generated.Refused n q) out′) (sym (accepted-refused s n q (text-refused s r ts ns cs ds h n q e))) (refl, refl) }
 
-module _ (s : List ℕ) (r : Tables) (ts ns cs ds : List ℕ) (h : ReadAs s r ts ns cs ds) (out : List ℕ) where
-  pub text-unread : (n : Refusal) (q : ℕ) → r .end ≡ end.Refused n q → (out′ : List ℕ) → Generates s out (generated.Refused n q) out′
-  text-unread n q e out′ = record { lists = subst (λ o. Lists o out (generated.Refused n q) out′) (sym (accepted-refused s n q (text-refused s r ts ns cs ds h n q e))) (refl, refl) }
-
-  pub text-listed : r .end ≡ end.Read → (g : Generated) (out′ : List ℕ) → ListsModel s (rowsOf (r .names) ns) (take (r .tokens) ts) cs ds r out g out′ → Generates s out g out′
-  text-listed e g out′ l = let a = text-read s r ts ns cs ds h e in record { lists = l .lists (a .model) (a .reads) ns refl (a .tells) }
+  pub text-printed : r .end ≡ end.Read → (g : Generated) (out′ : List ℕ) → PrintsModel k s (rowsOf (r .names) ns) (take (r .tokens) ts) cs ds r out g out′ → Generates k s out g out′
+  text-printed e g out′ l = let a = text-read s r ts ns cs ds h e in record { prints = l .prints (a .model) (a .reads) ns refl (a .tells) }

@@ -14,7 +14,7 @@ use Rattle.lexer.specs.Text.{Token, tokens}
 use Rattle.language.specs.Outcome.{Outcome, done, refused}
 use Rattle.language.proofs.Outcome.{after, after-check, done-injective}
 use Rattle.language.specs.Listing.{linesOf, bytesOfAll}
-use Rattle.language.specs.Answer.{Answer, accepted, listingOf, listing, respond, answer}
+use Rattle.language.specs.Answer.{Answer, accepted, listingOf, fitted, printing, listing, respond, answer}
 use Rattle.language.proofs.Answer.{accepted-of}
 use Rattle.language.specs.Proper.{Proper}
 use Rattle.language.specs.Syntax.{Structure}
@@ -66,7 +66,7 @@ data-of text m e =
     record { portions = c .portions; writes = c .writes; supplied = supplied (m .given .store) (w .writes) (c .writes) (c .in-order) }
 
 pub kept : Statement
-unfolding answer listing listingOf respond
+unfolding answer listing printing fitted listingOf respond
 kept text n e = go (listing text n) refl e
   where
     go : (o : Outcome (List ℕ)) → listing text n ≡ o → (respond n o) .number ≡ 0 → Demand3 text n

@@ -24,13 +24,20 @@ accepted text = do
 unfoldable pub listingOf : Accepted → List ℕ
 listingOf a = bytesOfAll (linesOf (a .model) (a .problem))
 
--- the listing of a text for a buffer of n bytes, or its refusal: last 11, whose place is the listing's length
-unfoldable pub listing : List ℕ → ℕ → Outcome (List ℕ)
-listing text n = do
-  a ← accepted text
-  let bytes = listingOf a
+-- a report in a buffer of n bytes: 11, at the report's own length, where it does not fit (decision 49)
+unfoldable pub fitted : ℕ → List ℕ → Outcome (List ℕ)
+fitted n bytes = do
   _ ← check LongListing (length bytes) (leb (length bytes) n)
   done bytes
+
+-- a report of an accepted text, or the text's refusal
+unfoldable pub printing : (Accepted → List ℕ) → List ℕ → ℕ → Outcome (List ℕ)
+printing report text n = do
+  a ← accepted text
+  fitted n (report a)
+
+unfoldable pub listing : List ℕ → ℕ → Outcome (List ℕ)
+listing text n = printing listingOf text n
 
 -- what a call gives, and the buffer after it
 pub record Answer : Type 0 where

@@ -1,5 +1,6 @@
 -- How long what is written of a line is, so that a caller's sum of lengths fits.
 use mathlib.Core.Path.{_≡_, refl, ap}
+use mathlib.Core.Bool.{Bool}
 use mathlib.Core.List.{List, [], _∷_, map}
 use mathlib.Core.Option.{Option, none, some}
 use Prim.Native.Nat.{ℕ, suc, _+_, _*_, _≤_}
@@ -11,6 +12,7 @@ use Rattle.value.specs.Decimal.{ofWhole}
 use Rattle.language.specs.Listing.{Line, lpLine, rowLine, varLine, colLine, endLine, fields}
 use Rattle.language.proofs.Parts.{wordOf}
 use Rattle.listing.specs.Shown.{shownWhole, shownNatural, shownUpper, shownFields, shownLine}
+use Rattle.listing.specs.Bare.{bareRow, bareVariable}
 use Rattle.listing.proofs.Showing.{shown-most}
 
 -- a tab, the field and what follows it; the line feed
@@ -57,3 +59,11 @@ line-most k = rw (length-append (wordOf k) (fields (shownFields k))) (go k)
     go (varLine n d l u s e) = simp field-length (omega (arith, natural-most n, shown-most l, upper-most u, wholes-most e))
     go (colLine j i v) = simp (field-length, end-length) (omega (arith, natural-most j, natural-most i, shown-most v))
     go endLine = simp end-length (omega arith)
+
+pub row-most : (n : ℕ) (q : Bool) (v : Value) → length (bareRow n q v) ≤ 128
+unfolding bareRow
+row-most n q v = simp (length-append, field-length, end-length) (omega (arith, natural-most n, shown-most v))
+
+pub variable-most : (n : ℕ) (d : Bool) (v : Value) (u : Option Value) → length (bareVariable n d v u) ≤ 128
+unfolding bareVariable
+variable-most n d v u = simp (length-append, field-length, end-length) (omega (arith, natural-most n, shown-most v, upper-most u))

@@ -20,10 +20,10 @@ use Rattle.value.proofs.Ranges.{range-places}
 use Rattle.value.proofs.Writing.{length-digits, sign-short, shown-printed, shown-none}
 use Rattle.lexer.specs.View.{partOf}
 use Rattle.language.proofs.Figures.{natural-whole}
-use Rattle.listing.specs.declared.Upper.{Upper}
-use Rattle.listing.specs.declared.Upper.the-variants.{None, At}
+use Rattle.rows.specs.declared.Upper.{Upper}
+use Rattle.rows.specs.declared.Upper.the-variants.{None, At}
 use Rattle.listing.specs.Shown.{shownWhole, shownNatural, shownUpper}
-use Rattle.listing.specs.Upper.{bound}
+use Rattle.rows.specs.Upper.{bound}
 
 -- ---- lengths
 

@@ -1,6 +1,7 @@
 -- Laws of writing: a text piece by piece, a line field by field, and the rest of an output.
 use mathlib.Core.Path.{_≡_, refl, sym, _∙_}
-use mathlib.Core.Bool.{Bool, true, false}
+use mathlib.Core.Bool.{Bool, true, false, cond}
+use mathlib.Core.Option.{Option}
 use mathlib.Core.List.{List, [], _∷_, _++_, map, append-nil}
 use Prim.Native.Nat.{ℕ, suc, _+_, _-_, _<_, _≤_, min}
 use native.Mathlib.Omega.{arith}
@@ -12,12 +13,14 @@ use lib.ListN.{length, take, drop, getD, set, replicate, length-set, drop-of-len
 use lib.Seq.{sets, set-out, take-length, take-nil, drop-nil, drop-length, drop-cons}
 use lib.IntN.{ℤ, pos}
 use borrow.Rule.Slice.PartMut.{putMid}
-use Rattle.rules.specs.Characters.{bytes, tab, lineFeed}
-use Rattle.value.specs.Printed.{Written}
+use Rattle.rules.specs.Characters.{code, bytes, tab, lineFeed}
+use Rattle.value.specs.declared.Value.{Value}
+use Rattle.value.specs.Printed.{shown, Written}
 use Rattle.value.proofs.Writing.{written-none, written-then, written-rest}
 use Rattle.language.specs.Listing.{Line, endLine, fields}
 use Rattle.language.proofs.Parts.{wordOf}
-use Rattle.listing.specs.Shown.{shownNatural, shownFields, shownLine, shownRefused}
+use Rattle.listing.specs.Shown.{shownNatural, shownUpper, shownFields, shownLine, shownRefused}
+use Rattle.listing.specs.Bare.{bareRow, bareVariable}
 
 -- ---- a text, piece by piece
 
@@ -67,6 +70,16 @@ pub refused-then : (n p : ℕ) {l : List ℕ} {r : ℕ} {l′ : List ℕ} {r′ 
     → Written l 0 (bytes "refused") r l′ → Written l′ r (fields (shownNatural n ∷ shownNatural p ∷ [])) r′ l″ → Written l 0 (shownRefused n p) r′ l″
 unfolding shownRefused
 refused-then n p w v = written-then _ _ _ _ _ _ _ _ w v
+
+pub row-then : (n : ℕ) (q : Bool) (v : Value) {l : List ℕ} {r : ℕ} {l′ : List ℕ} {r′ : ℕ} {l″ : List ℕ}
+    → Written l 0 (bytes "row") r l′ → Written l′ r (fields (shownNatural n ∷ (cond q (code "E") (code "L") ∷ []) ∷ shown v ∷ [])) r′ l″ → Written l 0 (bareRow n q v) r′ l″
+unfolding bareRow
+row-then n q v w x = written-then _ _ _ _ _ _ _ _ w x
+
+pub variable-then : (n : ℕ) (d : Bool) (v : Value) (u : Option Value) {l : List ℕ} {r : ℕ} {l′ : List ℕ} {r′ : ℕ} {l″ : List ℕ}
+    → Written l 0 (bytes "var") r l′ → Written l′ r (fields (shownNatural n ∷ (cond d (code "D") (code "C") ∷ []) ∷ shown v ∷ shownUpper u ∷ [])) r′ l″ → Written l 0 (bareVariable n d v u) r′ l″
+unfolding bareVariable
+variable-then n d v u w x = written-then _ _ _ _ _ _ _ _ w x
 
 -- index value i, and the last
 module _ (f : ℤ → List ℕ) (e : List ℤ) (i : ℕ) {l : List ℕ} {at : ℕ} {text l′ : List ℕ} {at′ r : ℕ} {l″ : List ℕ} where

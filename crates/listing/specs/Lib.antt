@@ -1,3 +1,3 @@
 pub mod Shown
-pub mod Upper
+pub mod Bare
 pub mod Sheet

@@ -1,6 +1,7 @@
 // The lines of a listing. Each is written from the first byte of the part of the output that is lent to its writer, as far as
 // the part reaches; a writer gives the line's length, whether or not the part reaches that far.
 // Every public function is total: nothing stands for a number or a value that is out of range.
+pub mod bare;
 pub mod sheet;
 
 ghost use mathlib.Core.Path.{_≡_};
@@ -14,13 +15,7 @@ ghost use Rattle.value.specs.Printed.{shown, Written};
 ghost use Rattle.store.specs.Element.{listOf};
 ghost use Rattle.language.specs.Listing.{lpLine, rowLine, varLine, colLine, endLine, fields};
 ghost use Rattle.listing.specs.Shown.{shownWhole, shownNatural, shownUpper, shownLine, shownRefused};
-ghost use Rattle.listing.specs.Upper.{bound};
-
-// A variable's upper bound.
-pub enum Upper {
-    None,
-    At(value::Value),
-}
+ghost use Rattle.rows.specs.Upper.{bound};
 
 // ---- bytes at a place, which may lie past the output's end. No place overflows: a text is shorter than 2^63 bytes, and what
 // stands before and after it in a line is short
@@ -48,6 +43,13 @@ fn put_text(out: &mut [u8], at: usize, t: &[u8]) -> usize
         i += 1;
     }
     next
+}
+
+// A text from the first byte on.
+pub fn text(t: &[u8], out: &mut [u8]) -> usize
+    ensures { λ r. ⌜ Written (now (out .entry)) 0 (now (t .entry)) r (now (out .exit)) ⌝ }
+{
+    put_text(out, 0, t)
 }
 
 // Where the rest of an output of n bytes begins that is lent from a place on: at that place, or past the end at the end.
@@ -118,13 +120,13 @@ fn number_field(out: &mut [u8], at: usize, n: usize) -> usize
     put(out, at, b'\t')
 }
 
-fn upper_field(out: &mut [u8], at: usize, upper: Upper) -> usize
+fn upper_field(out: &mut [u8], at: usize, upper: rows::Upper) -> usize
     requires { ⌜ at < 2 ^ 31 ⌝ }
     ensures { λ r. ⌜ (Written (now (out .entry)) at (tab ∷ shownUpper (bound upper)) r (now (out .exit))) × (r ≤ at + 32) ⌝ }
 {
     match upper {
-        Upper::None => text_field(out, at, b"inf"),
-        Upper::At(v) => value_field(out, at, v),
+        rows::Upper::None => text_field(out, at, b"inf"),
+        rows::Upper::At(v) => value_field(out, at, v),
     }
 }
 
@@ -188,7 +190,7 @@ pub fn variable(
     number: usize,
     discrete: bool,
     lower: value::Value,
-    upper: Upper,
+    upper: rows::Upper,
     name: &[u8],
     e: store::Element,
     out: &mut [u8],

@@ -4,51 +4,25 @@ use constraints::layout;
 use evaluator::steps::names;
 ghost use mathlib.Core.Path.{_≡_};
 ghost use Prim.Native.Nat.{_+_, _<_, _≤_, _^_};
-ghost use lib.ListN.{length, getD};
+ghost use lib.ListN.{length};
 ghost use Rattle.value.specs.Printed.{Written};
 ghost use Rattle.lexer.specs.View.{partOf};
 ghost use Rattle.language.specs.Listing.{lpLine, colLine, endLine};
 ghost use Rattle.listing.specs.Shown.{shownLine, shownLines};
-ghost use Rattle.listing.specs.Upper.{bound};
-ghost use Rattle.listing.specs.Sheet.Columns.{slotAt, countAt, valueOf, cellLines, columnFrom, columnsFrom};
-ghost use Rattle.listing.specs.Sheet.Strings.{nameAt, stringAt, titleOf, lowerIn, upperIn, within};
+ghost use Rattle.rows.specs.Read.{valueOf};
+ghost use Rattle.listing.specs.Sheet.Columns.{cellLines, columnFrom, columnsFrom};
+ghost use Rattle.listing.specs.Sheet.Strings.{nameAt, stringAt, titleOf, within};
 ghost use Rattle.listing.specs.Sheet.Told.{RowTold, VariableTold, Writes, WritesAll};
 ghost use Rattle.listing.specs.Sheet.Shown.{Lists};
 
-// The numbers of a problem's variables, with the discrete ones among them, and of its rows of either kind.
-pub struct Sizes {
-    pub discrete: usize,
-    pub variables: usize,
-    pub less: usize,
-    pub equal: usize,
-}
-
 // Whether a text of n bytes and a problem of these sizes are within the limits.
-fn is_within(n: usize, sizes: Sizes) -> bool
+fn is_within(n: usize, sizes: rows::Sizes) -> bool
     ensures { λ r. ⌜ r ≡ within n sizes ⌝ }
 {
-    let less = sizes.less;
-    let equal = sizes.equal;
-    let variables = sizes.variables;
-    if rules::ROW_LIMIT < less {
-        return false;
-    }
-    (n <= rules::BYTE_LIMIT)
-        & (variables <= rules::VARIABLE_LIMIT)
-        & (equal <= rules::ROW_LIMIT - less)
+    (n <= rules::BYTE_LIMIT) & rows::is_within(sizes)
 }
 
 // ---- words, names and strings
-
-// Word k of a table, 0 where there is none.
-fn word(table: &[u64], k: usize) -> u64
-    ensures { λ r. ⌜ r ≡ getD (now (table .entry)) k 0 ⌝ }
-{
-    if k < table.len() {
-        return table[k];
-    }
-    0
-}
 
 // The name of a number.
 fn name_of<'a>(text: &'a [u8], names: &[u64], i: usize) -> &'a [u8]
@@ -63,7 +37,7 @@ fn name_of<'a>(text: &'a [u8], names: &[u64], i: usize) -> &'a [u8]
 fn string_at<'a>(text: &'a [u8], tokens: &[u64], at: usize) -> &'a [u8]
     ensures { λ r. ⌜ now r ≡ stringAt (now (text .entry)) (now (tokens .entry)) at ⌝ }
 {
-    let w = word(tokens, at);
+    let w = rows::word(tokens, at);
     let place = w / tokens::PLACE_UNIT % tokens::PLACES;
     let bytes = w % tokens::PLACE_UNIT;
     lexer::part(text, place as usize + 1, bytes as usize)
@@ -81,7 +55,7 @@ fn title_of<'a>(text: &'a [u8], tokens: &[u64], constraints: &[u64], i: usize) -
 fn first_line(
     text: &[u8],
     tokens: &[u64],
-    sizes: Sizes,
+    sizes: rows::Sizes,
     title: usize,
     data_place: u64,
     data_bytes: u64,
@@ -127,7 +101,7 @@ fn row_line(
     requires { ⌜ (length (now text) ≤ 16384) × (i < 512) × (at < 2 ^ 40) ⌝ }
     ensures { λ r. ⌜ Writes (RowTold (now (text .entry)) (now (tokens .entry)) (now (constraints .entry)) (now (rows .entry)) less i) (now (out .entry)) at r (now (out .exit)) ⌝ }
 {
-    let k = slot(less, i);
+    let k = rows::slot(less, i);
     let right = store::unpack(store::word_at(rows, k));
     let title = title_of(text, tokens, constraints, store::name_at(rows, k));
     let e = store::element_at(rows, k);
@@ -160,24 +134,6 @@ fn row_lines(
 
 // ---- variables
 
-fn lower_of(w: u64) -> value::Value
-    ensures { λ r. ⌜ r ≡ lowerIn w ⌝ }
-{
-    if w == 0 {
-        return value::of_whole(0);
-    }
-    store::unpack(w)
-}
-
-fn upper_of(w: u64) -> super::Upper
-    ensures { λ r. ⌜ bound r ≡ upperIn w ⌝ }
-{
-    if w == 0 {
-        return super::Upper::None;
-    }
-    super::Upper::At(store::unpack(w))
-}
-
 fn variable_line(
     text: &[u8],
     names: &[u64],
@@ -191,8 +147,8 @@ fn variable_line(
     requires { ⌜ (length (now text) ≤ 16384) × (j < 512) × (at < 2 ^ 40) ⌝ }
     ensures { λ r. ⌜ Writes (VariableTold (now (text .entry)) (now (names .entry)) (now (variables .entry)) (now (bounds .entry)) discrete j) (now (out .entry)) at r (now (out .exit)) ⌝ }
 {
-    let lower = lower_of(word(bounds, j * 2));
-    let upper = upper_of(word(bounds, j * 2 + 1));
+    let lower = rows::lower_of(bounds, j);
+    let upper = rows::upper_of(bounds, j);
     let name = name_of(text, names, store::name_at(variables, j));
     let e = store::element_at(variables, j);
     let from = super::rest_from(out.len(), at);
@@ -224,38 +180,6 @@ fn variable_lines(
 
 // ---- coefficients
 
-// The slot of row i, from 0.
-fn slot(less: usize, i: usize) -> usize
-    requires { ⌜ i < 512 ⌝ }
-    ensures { λ r. ⌜ (r ≡ slotAt less i) × (r < 512) ⌝ }
-{
-    if i < less {
-        return i;
-    }
-    rules::ROW_LIMIT - (i - less + 1)
-}
-
-// The count of variable j in row k of the counts, 0 where the table has none.
-fn count_at(matrix: &[i64], k: usize, j: usize) -> i64
-    requires { ⌜ (k ≤ 512) × (j < 512) ⌝ }
-    ensures { λ r. ⌜ r ≡ countAt (now (matrix .entry)) k j ⌝ }
-{
-    let at = k * rules::VARIABLE_LIMIT + j;
-    if at < matrix.len() {
-        return matrix[at];
-    }
-    0
-}
-
-fn value_of(z: i64) -> value::Value
-    ensures { λ r. ⌜ r ≡ valueOf z ⌝ }
-{
-    match value::of_millionths(z) {
-        value::Fit::Fits(v) => v,
-        value::Fit::TooBig => value::of_whole(0),
-    }
-}
-
 fn column_line(variable: usize, row: usize, v: value::Value, out: &mut [u8], at: usize) -> usize
     requires { ⌜ at < 2 ^ 40 ⌝ }
     ensures { λ r. ⌜ (Written (now (out .entry)) at (shownLine (colLine variable row v)) r (now (out .exit))) × (r ≤ at + 128) ⌝ }
@@ -272,7 +196,7 @@ fn cell(variable: usize, row: usize, z: i64, out: &mut [u8], at: usize) -> usize
     if z == 0 {
         return at;
     }
-    let v = value_of(z);
+    let v = rows::value_of(z);
     if value::is_zero(v) {
         return at;
     }
@@ -287,11 +211,11 @@ fn column(matrix: &[i64], less: usize, rows: usize, j: usize, out: &mut [u8], at
     let mut next = at;
     let mut i = 0;
     while i < rows {
-        let k = slot(less, i);
-        next = cell(j + 1, i + 1, count_at(matrix, k, j), out, next);
+        let k = rows::slot(less, i);
+        next = cell(j + 1, i + 1, rows::count_at(matrix, k, j), out, next);
         i += 1;
     }
-    let v = value_of(count_at(matrix, rules::ROW_LIMIT, j));
+    let v = rows::value_of(rows::count_at(matrix, rules::ROW_LIMIT, j));
     column_line(j + 1, rows + 1, v, out, next)
 }
 
@@ -330,7 +254,7 @@ pub fn write(
     rows: &[u64],
     bounds: &[u64],
     matrix: &[i64],
-    sizes: Sizes,
+    sizes: rows::Sizes,
     title: usize,
     data_place: u64,
     data_bytes: u64,

@@ -1,16 +1,18 @@
 // The rows and bounds of a problem in tables that the caller lends. What they hold is said in specs/Slots.antt and
-// specs/Bounds.antt. Every public function is total.
+// specs/Bounds.antt, and of a whole problem in specs/Held.antt. Every public function is total.
 ghost use mathlib.Core.Path.{_≡_};
 ghost use mathlib.Core.List.{map};
 ghost use Prim.Native.Nat.{_+_};
 ghost use lib.Dec.{ltb};
-ghost use lib.ListN.{length, replicate};
+ghost use lib.ListN.{length, getD, replicate};
 ghost use lib.IntN.{pos};
 ghost use Rattle.rules.specs.Limits.{rowLimit};
 ghost use Rattle.store.specs.Element.{listOf};
 ghost use Rattle.rows.specs.Counts.{opposed};
 ghost use Rattle.rows.specs.Slots.{nextSlot, oneMore, countedAs, Wrote};
-ghost use Rattle.rows.specs.Bounds.{givesWay, statedWord, stateWord, boundStated};
+ghost use Rattle.rows.specs.Bounds.{lowerWord, upperWord, givesWay, statedWord, stateWord, boundStated};
+ghost use Rattle.rows.specs.Upper.{bound};
+ghost use Rattle.rows.specs.Read.{within, slotAt, countAt, valueOf, lowerIn, upperIn};
 
 // ---- rows of counts
 
@@ -172,4 +174,113 @@ pub fn state(bounds: &mut [u64], j: usize, lower: bool, upper: bool, v: value::V
     let k = j * 2;
     state_word(bounds, k, lower, true, v);
     state_word(bounds, k + 1, upper, false, v);
+}
+
+// ---- a problem's sizes, and what is read of its tables
+
+// The numbers of a problem's variables, with the discrete ones among them, and of its rows of either kind.
+pub struct Sizes {
+    pub discrete: usize,
+    pub variables: usize,
+    pub less: usize,
+    pub equal: usize,
+}
+
+// Are there at most as many variables and rows as the tables have room for?
+pub fn is_within(sizes: Sizes) -> bool
+    ensures { λ r. ⌜ r ≡ within sizes ⌝ }
+{
+    let less = sizes.less;
+    let equal = sizes.equal;
+    let variables = sizes.variables;
+    if rules::ROW_LIMIT < less {
+        return false;
+    }
+    (variables <= rules::VARIABLE_LIMIT) & (equal <= rules::ROW_LIMIT - less)
+}
+
+// Word k of a table, 0 where there is none.
+pub fn word(table: &[u64], k: usize) -> u64
+    ensures { λ r. ⌜ r ≡ getD (now (table .entry)) k 0 ⌝ }
+{
+    if k < table.len() {
+        return table[k];
+    }
+    0
+}
+
+// The slot of row i, from 0, of which the first `less` are those of `<=` and `>=`.
+pub fn slot(less: usize, i: usize) -> usize
+    ensures { λ r. ⌜ r ≡ slotAt less i ⌝ }
+{
+    if i < less {
+        return i;
+    }
+    let k = i - less;
+    if k < rules::ROW_LIMIT {
+        return rules::ROW_LIMIT - 1 - k;
+    }
+    0
+}
+
+// The count of variable j in row k of the counts, 0 where the table has none.
+pub fn count_at(counts: &[i64], k: usize, j: usize) -> i64
+    ensures { λ r. ⌜ r ≡ countAt (now (counts .entry)) k j ⌝ }
+{
+    let n = counts.len();
+    if n / rules::VARIABLE_LIMIT < k {
+        return 0;
+    }
+    if n <= j {
+        return 0;
+    }
+    let at = k * rules::VARIABLE_LIMIT + j;
+    if at < n {
+        return counts[at];
+    }
+    0
+}
+
+// The value of a count of millionths; 0 where it does not fit.
+pub fn value_of(z: i64) -> value::Value
+    ensures { λ r. ⌜ r ≡ valueOf z ⌝ }
+{
+    match value::of_millionths(z) {
+        value::Fit::Fits(v) => v,
+        value::Fit::TooBig => value::of_whole(0),
+    }
+}
+
+// A variable's upper bound.
+pub enum Upper {
+    None,
+    At(value::Value),
+}
+
+// The lower bound of variable j, from 0: that which is stated, or 0.
+pub fn lower_of(bounds: &[u64], j: usize) -> value::Value
+    ensures { λ r. ⌜ r ≡ lowerIn (lowerWord (now (bounds .entry)) j) ⌝ }
+{
+    if bounds.len() <= j {
+        return value::of_whole(0);
+    }
+    let w = word(bounds, j * 2);
+    if w == 0 {
+        return value::of_whole(0);
+    }
+    store::unpack(w)
+}
+
+// The upper bound of variable j, from 0: that which is stated, or none.
+pub fn upper_of(bounds: &[u64], j: usize) -> Upper
+    ensures { λ r. ⌜ bound r ≡ upperIn (upperWord (now (bounds .entry)) j) ⌝ }
+{
+    if bounds.len() <= j {
+        return Upper::None;
+    }
+    let w = word(bounds, j * 2 + 1);
+    if w == 0 {
+        return Upper::None;
+    }
+    Upper::At(store::unpack(w))
 }

@@ -95,24 +95,25 @@ bounds-are i q v w l e = rw e refl
 
 -- ---- data
 
-module _ (ds : List ℕ) (rows i p a : ℕ) (ks : List ℤ) (k : Key) (f : Found) (h : keyNumber k ≡ keyOf i ks) (g : f ≡ foundRow ds rows (keyNumber k)) where
-  pub known-no : f ≡ found.Nothing → answer.Refused Missing p ≡ knownAnswer ds rows i ks p a
-  unfolding knownAnswer wordAnswer wordIn
-  known-no e = rw (← h, ← g, e) refl
+module _ (ds : List ℕ) (p a : ℕ) (f : Found) where
+  pub datum-no : f ≡ found.Nothing → answer.Refused Missing p ≡ wordAnswer p a (wordIn ds f)
+  unfolding wordAnswer wordIn
+  datum-no e = rw e
 
-  pub known-yes : (j w : ℕ) (v : Value) → f ≡ found.At j → w ≡ wordAt ds j → v ≡ unpacked w → answer.Value v a ≡ knownAnswer ds rows i ks p a
-  unfolding knownAnswer wordAnswer wordIn
-  known-yes j w v e x y = rw (← h, ← g, e, y, x) refl
+  pub datum-yes : (j w : ℕ) (v : Value) → f ≡ found.At j → w ≡ wordAt ds j → v ≡ unpacked w → answer.Value v a ≡ wordAnswer p a (wordIn ds f)
+  unfolding wordAnswer wordIn
+  datum-yes j w v e x y = rw (e, y, x)
+
+module _ (ds : List ℕ) (rows i p a : ℕ) (ks : List ℤ) (k : Key) (f : Found) (h : keyNumber k ≡ keyOf i ks) (r : Answer) (d : r ≡ wordAnswer p a (wordIn ds f)) where
+  pub known-is : f ≡ foundRow ds rows (keyNumber k) → r ≡ knownAnswer ds rows i ks p a
+  unfolding knownAnswer
+  known-is g = d ∙ ap (λ f. wordAnswer p a (wordIn ds f)) g ∙ ap (λ n. wordAnswer p a (wordIn ds (foundRow ds rows n))) h
+
+  -- found early: in a sorted table the same row
+  pub early-is : Finds ds rows (keyNumber k) f → KnownEarly ds rows i ks p a r
+  early-is g = record { is = λ s. known-is (finds-sorted ds rows (keyNumber k) f g s) }
 
 -- in a sorted table, the word that the search from the front finds
 pub known-word : (ds : List ℕ) (rows i p a : ℕ) (ks : List ℤ) → Sorted ds rows → knownAnswer ds rows i ks p a ≡ wordAnswer p a (lookup ds rows (keyOf i ks))
 unfolding knownAnswer
 known-word ds rows i p a ks s = ap (wordAnswer p a) (found-word ds rows (keyOf i ks) s)
-
--- found early: in a sorted table the same row
-module _ (ds : List ℕ) (rows i p a : ℕ) (ks : List ℤ) (k : Key) (f : Found) (h : keyNumber k ≡ keyOf i ks) (g : Finds ds rows (keyNumber k) f) where
-  pub early-no : f ≡ found.Nothing → KnownEarly ds rows i ks p a (answer.Refused Missing p)
-  early-no e = record { is = λ s. known-no ds rows i p a ks k f h (finds-sorted ds rows (keyNumber k) f g s) e }
-
-  pub early-yes : (j w : ℕ) (v : Value) → f ≡ found.At j → w ≡ wordAt ds j → v ≡ unpacked w → KnownEarly ds rows i ks p a (answer.Value v a)
-  early-yes j w v e x y = record { is = λ s. known-yes ds rows i p a ks k f h (finds-sorted ds rows (keyNumber k) f g s) j w v e x y }

@@ -14,7 +14,8 @@ ghost use Rattle.rational.specs.Integer.{up};
 ghost use Rattle.value.specs.Decimal.{zeroValue, productOf, sumOf, ifInRange};
 ghost use Rattle.store.specs.Element.{listOf, extended};
 ghost use Rattle.evaluator.specs.Steps.Scopes.{bindingsOf, boundMore};
-ghost use Rattle.evaluator.specs.Steps.Values.{fittedAt, signedValue, wholeAnswer, boundAnswer, SmallSpan, countOf, runAnswer, numberIn, insideLimits, Tests, knownAnswer, KnownEarly};
+ghost use Rattle.evaluator.specs.Steps.Values.{fittedAt, signedValue, wholeAnswer, boundAnswer, SmallSpan, countOf, runAnswer, numberIn, insideLimits, Tests, wordAnswer, knownAnswer, KnownEarly};
+ghost use Rattle.store.specs.Table.{wordIn};
 
 // A value and the position behind it, or a refusal and its place.
 pub enum Answer {
@@ -258,15 +259,22 @@ pub fn test(sc: Scope, e: Element, j: usize, b: Bounds, p: u64) -> Tested
 
 // ---- data
 
+// The datum in the row that was found, or the refusal at p.
+fn datum(table: &[u64], found: store::Found, p: u64, at: usize) -> Answer
+    ensures { λ r. ⌜ r ≡ wordAnswer p at (wordIn (now (table .entry)) found) ⌝ }
+{
+    match found {
+        store::Found::At(j) => Answer::Value(store::unpack(store::word_at(table, j)), at),
+        store::Found::Nothing => Answer::Refused(rules::Refusal::Missing, p),
+    }
+}
+
 // The datum of a name and an element, read at p. The table is searched by halving, sorted or not.
 pub fn known(table: &[u64], rows: usize, i: usize, e: Element, p: u64, at: usize) -> Answer
     ensures { λ r. ⌜ r ≡ knownAnswer (now (table .entry)) rows i (listOf e) p at ⌝ }
 {
     let key = store::key_of(i, e);
-    match store::find(table, rows, key) {
-        store::Found::At(j) => Answer::Value(store::unpack(store::word_at(table, j)), at),
-        store::Found::Nothing => Answer::Refused(rules::Refusal::Missing, p),
-    }
+    datum(table, store::find(table, rows, key), p, at)
 }
 
 // The same in a sorted table, for a datum that is likely to have one of the first rows, as one without subscripts is.
@@ -274,8 +282,5 @@ pub fn known_early(table: &[u64], rows: usize, i: usize, e: Element, p: u64, at:
     ensures { λ r. ⌜ KnownEarly (now (table .entry)) rows i (listOf e) p at r ⌝ }
 {
     let key = store::key_of(i, e);
-    match store::find_early(table, rows, key) {
-        store::Found::At(j) => Answer::Value(store::unpack(store::word_at(table, j)), at),
-        store::Found::Nothing => Answer::Refused(rules::Refusal::Missing, p),
-    }
+    datum(table, store::find_early(table, rows, key), p, at)
 }

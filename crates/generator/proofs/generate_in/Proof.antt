@@ -1,6 +1,6 @@
 -- `generator::generate_in` meets its contract.
 use borrow.Author.Needs.{needs}
-use Rattle.generator.proofs.Listings.{text-unread, text-listed}
+use Rattle.generator.proofs.Listings.{text-unread, text-printed}
 use Rattle.generator.proofs.generate_in.Statement.{statement}
 use Rattle.generator.proofs.generate_in.Tie as tie
 
@@ -13,5 +13,5 @@ generate-in-spec =
     (λ c κs. search needs)  -- part-requires
     (λ c. search needs)  -- enum-known-end
     (λ c. search needs)  -- same-length
-    (λ c. search text-listed depth 8)  -- returns
+    (λ c. search text-printed depth 8)  -- returns
     (λ c. search text-unread depth 8))  -- returns-2

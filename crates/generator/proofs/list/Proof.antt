@@ -10,4 +10,4 @@ list-spec =
     (tie.spec
     (λ c κs. search needs)  -- list-in-requires
     (λ c. search needs)  -- same-length
-    (λ c. c .before .before .list-in .ensures .lists refl))  -- returns
+    (λ c. c .before .before .list-in .ensures .prints refl))  -- returns

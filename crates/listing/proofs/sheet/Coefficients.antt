@@ -12,7 +12,8 @@ use Rattle.listing.specs.Shown.{shownLine, shownLines}
 use Rattle.listing.proofs.Writing.{Left, left-all, left-more}
 use Rattle.listing.proofs.Lines.{lines-append, lines-end}
 use Rattle.rows.specs.Slots.{objectiveRow}
-use Rattle.listing.specs.Sheet.Columns.{slotAt, countAt, valueOf, cellLines, columnFrom, columnsFrom}
+use Rattle.rows.specs.Read.{slotAt, countAt, valueOf}
+use Rattle.listing.specs.Sheet.Columns.{cellLines, columnFrom, columnsFrom}
 use Rattle.listing.proofs.sheet.Cells.{one-line}
 
 -- lines written, others left

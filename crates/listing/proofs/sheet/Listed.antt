@@ -2,13 +2,13 @@
 use mathlib.Core.Path.{_≡_, refl, sym, _∙_, ap, subst}
 use mathlib.Core.Bool.{Bool, true, false, not}
 use mathlib.Core.List.{List, [], _∷_, _++_, append-assoc}
-use Prim.Native.Nat.{ℕ, suc, _+_, _<_}
+use Prim.Native.Nat.{ℕ, suc, _+_, _<_, _≤_}
 use native.Mathlib.Omega.{arith}
 use native.Mathlib.Numerals.{add-one}
 use borrow.Author.Tests.{not-true}
 use lib.ListN.{length, length-append}
 use lib.IntN.{ℤ}
-use Rattle.rules.specs.Limits.{byteLimit, variableLimit, rowLimit}
+use Rattle.rules.specs.Limits.{rowLimit}
 use Rattle.value.specs.Printed.{Written}
 use Rattle.value.proofs.Writing.{written-then}
 use Rattle.lexer.specs.View.{partOf}
@@ -28,8 +28,12 @@ use Rattle.store.specs.Packed.{unpacked}
 use Rattle.store.specs.Entries.{variableKey}
 use Rattle.rows.specs.Slots.{objectiveRow, Slot}
 use Rattle.rows.specs.Bounds.{lowerWord, upperWord}
-use Rattle.listing.specs.declared.sheet.Sizes.{Sizes}
-use Rattle.listing.specs.Sheet.Columns.{slotAt, columnsFrom}
+use Rattle.rows.specs.declared.Sizes.{Sizes}
+use Rattle.rows.specs.Read.{slotAt}
+use Rattle.rows.specs.Held.{Held}
+use Rattle.rows.proofs.Reading as reading
+use Rattle.rows.proofs.Held.{slot-held, value-told, word-back, lower-told, upper-told}
+use Rattle.listing.specs.Sheet.Columns.{columnsFrom}
 use Rattle.listing.specs.Sheet.Strings.{stringAt, within}
 use Rattle.listing.specs.Sheet.Told.{RowTold, VariableTold, Told, WritesAll}
 use Rattle.rows.specs.Problems.{KeyedVariable, FromConstraint}
@@ -37,8 +41,8 @@ use Rattle.listing.specs.Sheet.Shown.{Shown, Lists}
 use Rattle.listing.proofs.sheet.Cells.{one-line}
 use Rattle.listing.proofs.sheet.Words.{yes-within}
 use Rattle.listing.proofs.sheet.Texts.{spelled-part, name-told, string-told, title-told}
-use Rattle.listing.proofs.sheet.Slots.{slot-held, rows-length, allRowLines, line-at, value-told, Column, columns-told}
-use Rattle.listing.proofs.sheet.Variables.{word-back, lower-told, upper-told, variables-length, undeclared, variable-at}
+use Rattle.listing.proofs.sheet.Slots.{rows-length, allRowLines, line-at, Column, columns-told}
+use Rattle.listing.proofs.sheet.Variables.{variables-length, undeclared, variable-at}
 
 -- ---- lines after lines
 
@@ -149,10 +153,22 @@ module _ {s ns ts cs vs rs bs : List ℕ} {m : List ℤ} {z : Sizes} {at place b
   coefficients-told : columnsFrom m (z .less) (z .less + z .equal) (z .variables) 0 ≡ columnLines
   coefficients-told = rw (← counts, h .numbered .count) (columns-told m (z .less) (p .objective) (lesses ++ equals) (length (p .variables)) 0 (λ n b. column n (omega arith)))
 
+  -- the tables without names and strings
+  pub shown-held : p .discrete ≤ length (p .variables) → Held rs bs m z p
+  shown-held a =
+      record {
+        discrete = h .discrete;
+        variables = h .numbered .count;
+        among = a;
+        few = h .few;
+        rows = h .rowsHeld;
+        objective = h .objective;
+        stated = h .bounds;
+      }
+
   -- ---- all of them written
   pub all-within : within (length s) z ≡ true
-  unfolding byteLimit variableLimit rowLimit
-  all-within = yes-within (length s) z (h .short) (omega (arith, h .numbered .count, h .few)) (h .rowsHeld .room)
+  all-within = yes-within (length s) z (h .short) (reading.yes-within z (omega (arith, h .numbered .count, h .few)) (h .rowsHeld .room))
 
   pub all-written : {l : List ℕ} {r₁ : ℕ} {l₁ : List ℕ} {r₂ : ℕ} {l₂ : List ℕ} {r₃ : ℕ} {l₃ : List ℕ} {r₄ : ℕ} {l₄ : List ℕ} {r₅ : ℕ} {l₅ : List ℕ}
       → Written l 0 (shownLine (lpLine (z .discrete) (z .variables) (z .less) (z .less + z .equal) (stringAt s ts at) (partOf s place bytes))) r₁ l₁

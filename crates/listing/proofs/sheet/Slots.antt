@@ -1,44 +1,25 @@
--- Laws of the rows of a problem in their slots: the row of a number, its line and its coefficients.
+-- Laws of the lines of rows and of coefficients.
 use mathlib.Core.Path.{_≡_, refl, sym, _∙_, ap, subst}
 use mathlib.Core.Bool.{Bool, true, false, cond}
 use mathlib.Core.Logic.{inl, inr}
 use mathlib.Core.List.{List, [], _∷_, _++_}
-use Prim.Native.Nat.{ℕ, zero, suc, _+_, _-_, _*_, _<_, _≤_}
+use Prim.Native.Nat.{ℕ, zero, suc, _+_, _<_}
 use native.Mathlib.Omega.{arith}
 use native.Mathlib.Numerals.{add-one}
-use borrow.Author.Tests.{lt-ltb, le-ltb, le-leb, lt-leb}
+use borrow.Author.Tests.{le-leb, lt-leb}
 use lib.Dec.{leb}
 use lib.ListN.{length, getD}
-use lib.Seq.{getD-take, getD-drop}
-use lib.IntN.{ℤ, pos}
-use Rattle.rules.specs.Limits.{variableLimit, rowLimit}
+use lib.IntN.{ℤ}
+use Rattle.rules.specs.Limits.{rowLimit}
 use Rattle.value.specs.declared.Value.{Value}
 use Rattle.value.specs.Decimal.{zeroValue, isZero}
-use Rattle.value.specs.Gathering.{ofMillionths}
 use Rattle.language.specs.Listed.{At}
 use Rattle.language.proofs.Listed.{Split, at-length, at-append, at-left, at-right}
-use Rattle.language.specs.Numbering.{Variable, Row, Entry, keep, lessRow, equalRow}
+use Rattle.language.specs.Numbering.{Row, Entry}
 use Rattle.language.specs.Listing.{Line, rowLine, colLine, rightOf, coefficientsOf, rowLines, columnLines, colLines}
-use Rattle.rows.specs.Counts.{RowOf}
-use Rattle.rows.specs.Slots.{countsAt, objectiveRow, Slot, RowsHeld}
-use Rattle.listing.specs.Sheet.Columns.{slotAt, countAt, fitted, valueOf, cellLines, columnFrom, columnsFrom}
-
--- ---- slots
-
--- the row of number i, from 0, of all rows
-pub slot-held : (vs : List Variable) (t : List ℕ) (m : List ℤ) (less equal : ℕ) (es : List Entry) → RowsHeld vs t m less equal es → (i : ℕ) (e : Entry)
-    → At (keep lessRow es ++ keep equalRow es) i e → Slot vs t m (slotAt less i) e
-unfolding slotAt
-slot-held vs t m less equal es h i e a = go (at-append (keep lessRow es) (keep equalRow es) i e a)
-  where
-    go : Split (keep lessRow es) (keep equalRow es) i e → Slot vs t m (slotAt less i) e
-    go (inl b) =
-        let c : i < less = omega (arith, h .lessCount, at-length (keep lessRow es) i e b) in
-        rw (lt-ltb i less c) (h .lessRows i e b)
-    go (inr b) =
-        let c : less ≤ i = omega (arith, h .lessCount, b .1) in
-        let d : i - less ≡ b .0 = omega (arith, h .lessCount, b .1) in
-        rw (le-ltb i less c, d) (h .equalRows (b .0) e (b .2))
+use Rattle.rows.specs.Slots.{objectiveRow}
+use Rattle.rows.specs.Read.{slotAt, countAt, valueOf}
+use Rattle.listing.specs.Sheet.Columns.{cellLines, columnFrom, columnsFrom}
 
 -- ---- the lines of rows
 
@@ -78,15 +59,6 @@ module _ (fs gs : List Entry) where
           (r .0, subst (λ n. At (fs ++ gs) n (r .0)) (sym c) (at-right fs gs (b .0) (r .0) (r .1)), rw (le-leb (length fs) i (omega arith)) (r .2 ∙ ap (λ n. lineOf n true (r .0)) x))
 
 -- ---- coefficients
-
-count-told : (m : List ℤ) (n k j : ℕ) → j < n → getD (countsAt m n k) j (pos 0) ≡ countAt m k j
-unfolding countsAt countAt variableLimit
-count-told m n k j h = getD-take n _ j (pos 0) h ∙ getD-drop (k * 512) m j (pos 0)
-
-pub value-told : (vs : List Variable) (m : List ℤ) (k j : ℕ) (r : Row) → RowOf vs (countsAt m (length vs) k) r → j < length vs → valueOf (countAt m k j) ≡ getD r j zeroValue
-unfolding valueOf fitted
-value-told vs m k j r h b =
-    ap fitted (ap ofMillionths (sym (count-told m (length vs) k j b)) ∙ h .row .same j (omega (arith, h .count)))
 
 cell-then : (j n : ℕ) (v : Value) (ls : List Line) → cellLines (j + 1) n v ++ ls ≡ elim (isZero v) as (λ _. List Line) [ true ↦ ls | false ↦ colLine (suc j) n v ∷ ls ]
 unfolding cellLines

@@ -1,57 +1,15 @@
--- Laws of the variables of a problem: the line of a number, its bounds and its name.
+-- Laws of the lines of variables.
 use mathlib.Core.Path.{_≡_, refl, sym, _∙_, ap}
-use mathlib.Core.Option.{some}
 use mathlib.Core.List.{List, [], _∷_}
 use Prim.Native.Nat.{ℕ, zero, suc, _+_}
 use native.Mathlib.Omega.{arith}
-use borrow.Author.Tests.{ne-eqb}
 use lib.Dec.{ltb}
 use lib.ListN.{length, getD}
-use Rattle.value.specs.declared.Value.{Value}
-use Rattle.value.specs.Decimal.{Valid, isAtMost}
-use Rattle.language.specs.All.{All}
 use Rattle.language.specs.Listed.{At}
 use Rattle.language.specs.Syntax.{Name}
 use Rattle.language.specs.Syntax
-use Rattle.language.specs.Numbering.{Variable, Entry, Lp, extreme, isAtLeast, largest, smallest, lowerOf, upperOf}
+use Rattle.language.specs.Numbering.{Variable, Lp, lowerOf, upperOf}
 use Rattle.language.specs.Listing.{Line, varLine, varLines}
-use Rattle.language.proofs.ValidProblem.{extreme-valid}
-use Rattle.store.specs.Packed.{packed, unpacked}
-use Rattle.store.proofs.Words.{unpacked-packed}
-use Rattle.rows.specs.Bounds.{lowersOf, uppersOf, keptWord}
-use Rattle.rows.proofs.Bounding.{packed-above}
-use Rattle.listing.specs.Sheet.Strings.{lowerIn, upperIn}
-
--- ---- bounds
-
--- a valid value comes back from its word
-pub word-back : (v : Value) → Valid v → unpacked (packed v) ≡ v
-word-back v h = unpacked-packed v (h .small) (h .places)
-
-lower-back : (l : List Value) → All Valid l → lowerIn (keptWord isAtMost l) ≡ largest l
-unfolding lowerIn keptWord largest
-lower-back [] h = refl
-lower-back (v ∷ l) h =
-    let x = extreme-valid isAtMost v l (h .0) (h .1) in
-    rw (ne-eqb (packed (extreme isAtMost v l)) 0 (packed-above _ x)) (word-back _ x)
-
-upper-back : (l : List Value) → All Valid l → upperIn (keptWord isAtLeast l) ≡ smallest l
-unfolding upperIn keptWord smallest
-upper-back [] h = refl
-upper-back (v ∷ l) h =
-    let x = extreme-valid isAtLeast v l (h .0) (h .1) in
-    rw (ne-eqb (packed (extreme isAtLeast v l)) 0 (packed-above _ x)) (ap some (word-back _ x))
-
-module _ (es : List Entry) (j w : ℕ) where
-  pub lower-told : w ≡ keptWord isAtMost (lowersOf es j) → All Valid (lowersOf es j) → lowerIn w ≡ lowerOf es j
-  unfolding lowerOf lowersOf
-  lower-told e h = rw e (lower-back (lowersOf es j) h)
-
-  pub upper-told : w ≡ keptWord isAtLeast (uppersOf es j) → All Valid (uppersOf es j) → upperIn w ≡ upperOf es j
-  unfolding upperOf uppersOf
-  upper-told e h = rw e (upper-back (uppersOf es j) h)
-
--- ---- lines
 
 pub variables-length : (names : List Name) (p : Lp) (j : ℕ) (vs : List Variable) → length (varLines names p j vs) ≡ length vs
 unfolding varLines

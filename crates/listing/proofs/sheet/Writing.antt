@@ -27,8 +27,8 @@ use Rattle.store.specs.Packed.{unpacked}
 use Rattle.store.proofs.Elements.{length-few}
 use Rattle.store.proofs.Back.{name-back, element-back}
 use Rattle.rows.specs.Bounds.{lowerWord, upperWord}
-use Rattle.listing.specs.Sheet.Columns.{slotAt}
-use Rattle.listing.specs.Sheet.Strings.{nameAt, titleOf, lowerIn, upperIn}
+use Rattle.rows.specs.Read.{slotAt, lowerIn, upperIn}
+use Rattle.listing.specs.Sheet.Strings.{nameAt, titleOf}
 use Rattle.listing.specs.Sheet.Told.{RowTold, VariableTold, Told, Writes, WritesAll}
 use Rattle.listing.proofs.sheet.Words.{name-most, title-most}
 
@@ -60,16 +60,14 @@ module _ (l : List ℕ) (at from : ℕ) (f : from ≡ min at (length l)) {n : �
             written-from l at from (shownLine z) n p f (rw same written);
       }
 
-  pub variable-written : (s ns vs bs : List ℕ) (discrete j a b name : ℕ) (lower : Value) (upper : Option Value) (spelled : List ℕ) (e : Element) → length s ≤ 16384 → a ≡ lowerWord bs j
-      → b ≡ upperWord bs j → lower ≡ lowerIn a → upper ≡ upperIn b → name ≡ nameOf (keyAt vs j) → spelled ≡ nameAt s ns name → listOf e ≡ elementOf (keyAt vs j)
+  pub variable-written : (s ns vs bs : List ℕ) (discrete j name : ℕ) (lower : Value) (upper : Option Value) (spelled : List ℕ) (e : Element) → length s ≤ 16384
+      → lower ≡ lowerIn (lowerWord bs j) → upper ≡ upperIn (upperWord bs j) → name ≡ nameOf (keyAt vs j) → spelled ≡ nameAt s ns name → listOf e ≡ elementOf (keyAt vs j)
       → Written (take (length l - from) (drop from l)) 0 (shownLine (varLine (j + 1) (ltb j discrete) lower upper spelled (listOf e))) n p
       → Writes (VariableTold s ns vs bs discrete j) l at (at + n) (putMid from (length l - from) l p)
-  variable-written s ns vs bs discrete j a b name lower upper spelled e h ea eb el eu d g x written =
+  variable-written s ns vs bs discrete j name lower upper spelled e h low high d g x written =
       record {
         most = let y = variable-short _ _ _ _ _ _ written (rw g (omega (arith, name-most s ns name))) in omega arith;
         line = λ z t.
-            let low : lower ≡ lowerIn (lowerWord bs j) = el ∙ ap lowerIn ea in
-            let high : upper ≡ upperIn (upperWord bs j) = eu ∙ ap upperIn eb in
             let named : spelled ≡ nameAt s ns (t .name) = g ∙ ap (nameAt s ns) (d ∙ name-back (keyAt vs j) (t .name) (t .element) (t .keyed) (t .key)) in
             let same : z ≡ varLine (j + 1) (ltb j discrete) lower upper spelled (listOf e) = t .is ∙ cc (low, high, named, x ∙ element-back (keyAt vs j) (t .name) (t .element) (t .keyed) (t .key)) in
             written-from l at from (shownLine z) n p f (rw same written);

@@ -1,33 +1,13 @@
 -- The lines of coefficients, as the table of counts tells them.
 use mathlib.Core.Bool.{cond}
 use mathlib.Core.List.{List, [], _∷_, _++_}
-use Prim.Native.Nat.{ℕ, zero, suc, _+_, _-_, _*_}
-use lib.Dec.{ltb}
-use lib.ListN.{getD}
-use lib.IntN.{ℤ, pos}
+use Prim.Native.Nat.{ℕ, zero, suc, _+_}
+use lib.IntN.{ℤ}
 use Rattle.value.specs.declared.Value.{Value}
-use Rattle.value.specs.declared.Fit.{Fit}
-use Rattle.value.specs.declared.Fit.the-variants.{Fits, TooBig}
-use Rattle.value.specs.Decimal.{zeroValue, isZero}
-use Rattle.value.specs.Gathering.{ofMillionths}
+use Rattle.value.specs.Decimal.{isZero}
 use Rattle.language.specs.Listing.{Line, colLine}
-use Rattle.rows.specs.Slots.{lessSlot, equalSlot, objectiveRow}
-
--- the slot of row i, from 0, of which the first `less` are those of `<=` and `>=`
-unfoldable pub slotAt : ℕ → ℕ → ℕ
-slotAt less i = cond (ltb i less) (lessSlot i) (equalSlot (i - less))
-
--- the count of variable j in row k of the counts
-unfoldable pub countAt : List ℤ → ℕ → ℕ → ℤ
-countAt m k j = getD m (k * 512 + j) (pos 0)
-
--- a value that fits; 0 for one that does not
-unfoldable pub fitted : Fit → Value
-fitted (Fits v) = v
-fitted TooBig = zeroValue
-
-unfoldable pub valueOf : ℤ → Value
-valueOf z = fitted (ofMillionths z)
+use Rattle.rows.specs.Slots.{objectiveRow}
+use Rattle.rows.specs.Read.{slotAt, countAt, valueOf}
 
 -- a coefficient's line; none for zero
 unfoldable pub cellLines : ℕ → ℕ → Value → List Line

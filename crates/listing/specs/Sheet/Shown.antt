@@ -19,7 +19,7 @@ use Rattle.listing.specs.Shown.{shownLines}
 use Rattle.rows.specs.Slots.{RowsHeld, ObjectiveHeld}
 use Rattle.rows.specs.Bounds.{BoundsHeld}
 use Rattle.rows.specs.Problems.{KeyedVariable, FromConstraint}
-use Rattle.listing.specs.declared.sheet.Sizes.{Sizes}
+use Rattle.rows.specs.declared.Sizes.{Sizes}
 
 -- the text, its names, tokens and constraints; the variables, rows and bounds, and the counts of the coefficients
 pub record Shown (s ns ts cs vs rows bs : List ℕ) (m : List ℤ) (sizes : Sizes) (at place bytes : ℕ) (x : Model) (p : Lp) : Type 0 where

@@ -14,8 +14,8 @@ use Rattle.store.specs.Table.{keyAt, wordAt}
 use Rattle.store.specs.Packed.{unpacked}
 use Rattle.store.specs.Entries.{Keyed}
 use Rattle.rows.specs.Bounds.{lowerWord, upperWord}
-use Rattle.listing.specs.Sheet.Columns.{slotAt}
-use Rattle.listing.specs.Sheet.Strings.{nameAt, titleOf, lowerIn, upperIn}
+use Rattle.rows.specs.Read.{slotAt, lowerIn, upperIn}
+use Rattle.listing.specs.Sheet.Strings.{nameAt, titleOf}
 
 -- the line of row i, from 0
 pub record RowTold (s ts cs rows : List ℕ) (less i : ℕ) (k : Line) : Type 0 where

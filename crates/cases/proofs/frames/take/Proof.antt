@@ -29,5 +29,7 @@ take-spec =
     (λ c κs. search needs)  -- read-full-requires-2
     (λ c. search needs)  -- same-length
     (λ c. search needs)  -- returns-3
+    (λ c. search needs)  -- array-read-entry
+    (λ c κs. search needs)  -- entry-requires
     (λ c. search needs)  -- same-length-2
     (λ c. search needs))  -- returns-4

@@ -52,7 +52,7 @@ loop-again c =
     let z = w .before .before in
     let t = z .before .before in
     let v = rw (back (z .count-at .ok)) at (w .cell .ensures .0) in
-    (omega arith, omega arith, column-more _ _ _ _ _ _ _ (t .before .loop .inv .2) (t .loop-test .taken) (z .before .slot .ensures .0) (z .count-at .ensures) v)
+    (omega arith, omega arith, column-more _ _ _ _ _ _ _ (t .before .loop .inv .2) (t .loop-test .taken) (z .before .slot .ensures) (z .count-at .ensures) v)
 
 count-at-requires-2 : tie.Need-count-at-requires-2 Inv-loop μ-loop
 count-at-requires-2 c κs = omega arith

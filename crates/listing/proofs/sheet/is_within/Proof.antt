@@ -1,13 +1,14 @@
 -- `sheet::is_within` meets its contract.
-use Rattle.listing.proofs.sheet.Words.{within-no, within-test}
+use borrow.Author.Needs.{needs}
+use Rattle.listing.proofs.sheet.Words.{within-test}
 use Rattle.listing.proofs.sheet.is_within.Statement.{statement}
 use Rattle.listing.proofs.sheet.is_within.Tie as tie
 
-returns : tie.Need-returns
-returns c = within-no _ _ (c .if1 .taken)
+is-within-requires : tie.Need-is-within-requires
+is-within-requires c κs = search needs
 
-returns-2 : tie.Need-returns-2
-returns-2 c = within-test _ _ (c .if1 .left)
+returns : tie.Need-returns
+returns c = within-test _ _ _ (c .is-within .ensures)
 
 pub is-within-spec : {M : Type 1} → statement M
-is-within-spec = tie.close (tie.spec returns returns-2)
+is-within-spec = tie.close (tie.spec is-within-requires returns)

@@ -65,7 +65,7 @@ returns c =
     let w = u .before in
     let k = w .before in
     let s = k .before .before .before .before .before .before in
-    row-written _ _ _ (f .rest-from .ensures) _ _ _ _ _ _ _ _ _ _ _ _ (s .pre .0) (k .slot .ensures .0) (w .word-at .ensures) (u .unpack .ensures) (n .name-at .ensures) (t .title-of .ensures) (x .element-at .ensures) (d .row .ensures)
+    row-written _ _ _ (f .rest-from .ensures) _ _ _ _ _ _ _ _ _ _ _ _ (s .pre .0) (k .slot .ensures) (w .word-at .ensures) (u .unpack .ensures) (n .name-at .ensures) (t .title-of .ensures) (x .element-at .ensures) (d .row .ensures)
 
 pub row-line-spec : {M : Type 1} → statement M
 row-line-spec =

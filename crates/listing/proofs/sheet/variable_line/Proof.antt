@@ -6,23 +6,8 @@ use Rattle.listing.proofs.sheet.Writing.{variable-short, variable-writt
 use Rattle.listing.proofs.sheet.variable_line.Statement.{statement}
 use Rattle.listing.proofs.sheet.variable_line.Tie as tie
 
-mul-word : tie.Need-mul-word
-mul-word c = search needs
-
-word-requires : tie.Need-word-requires
-word-requires c κs = search needs
-
 lower-of-requires : tie.Need-lower-of-requires
 lower-of-requires c κs = search needs
-
-mul-word-2 : tie.Need-mul-word-2
-mul-word-2 c = search needs
-
-add-word : tie.Need-add-word
-add-word c = search needs
-
-word-requires-2 : tie.Need-word-requires-2
-word-requires-2 c κs = search needs
 
 upper-of-requires : tie.Need-upper-of-requires
 upper-of-requires c κs = search needs
@@ -59,7 +44,7 @@ add-result c =
     let d = c .before .before in
     let t = d .before .before .before .before in
     let n = t .before in
-    let s = n .before .before .before .before .before .before .before .before .before .before in
+    let s = n .before .before .before .before .before .before .before .before in
     let a = s .args in
     omega (arith, variable-short _ _ _ _ _ _ (d .variable .ensures) (rw (t .name-of .ensures) (omega (arith, s .pre .0, name-most (a .text .now) (a .names .now) (n .name-at .result)))))
 
@@ -74,22 +59,15 @@ returns c =
     let t = x .before in
     let n = t .before in
     let u = n .before in
-    let w = u .before in
-    let k = w .before in
-    let v = k .before in
-    let s = v .before .before .before .before .before .before in
-    variable-written _ _ _ (f .rest-from .ensures) _ _ _ _ _ _ _ _ _ _ _ _ _ (s .pre .0) (v .word .ensures) (w .word2 .ensures) (k .lower-of .ensures) (u .upper-of .ensures) (n .name-at .ensures) (t .name-of .ensures) (x .element-at .ensures) (d .variable .ensures)
+    let k = u .before in
+    let s = k .before .before .before .before .before .before in
+    variable-written _ _ _ (f .rest-from .ensures) _ _ _ _ _ _ _ _ _ _ _ (s .pre .0) (k .lower-of .ensures) (u .upper-of .ensures) (n .name-at .ensures) (t .name-of .ensures) (x .element-at .ensures) (d .variable .ensures)
 
 pub variable-line-spec : {M : Type 1} → statement M
 variable-line-spec =
     tie.close
     (tie.spec
-    mul-word
-    word-requires
     lower-of-requires
-    mul-word-2
-    add-word
-    word-requires-2
     upper-of-requires
     name-at-requires
     name-of-requires

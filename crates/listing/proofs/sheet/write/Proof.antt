@@ -24,32 +24,32 @@ limits c = within-yes _ _ (sym (c .before .is-within .ensures) ∙ not-false _ (
 
 add-all : tie.Need-add-all
 add-all c =
-    let e = limits (c .before) in omega (arith, e .bytes, e .variables, e .rows)
+    let e = limits (c .before) in omega (arith, e .bytes, e .sizes .variables, e .sizes .rows)
 
 first-line-requires : tie.Need-first-line-requires
 first-line-requires c κs =
     let e = limits (c .before .before) in
-    (e .bytes, e .rows)
+    (e .bytes, e .sizes .rows)
 
 row-lines-requires : tie.Need-row-lines-requires
 row-lines-requires c κs =
     let e = limits (c .before .before .before .before .before .before) in
-    (e .bytes, e .rows, omega (arith, c .before .before .before .first-line .ensures .1))
+    (e .bytes, e .sizes .rows, omega (arith, c .before .before .before .first-line .ensures .1))
 
 variable-lines-requires : tie.Need-variable-lines-requires
 variable-lines-requires c κs =
     let e = limits (c .before .before .before .before .before .before .before .before .before .before) in
-    (e .bytes, e .variables, omega (arith, e .rows, c .before .before .before .row-lines .ensures .most, c .before .before .before .before .before .before .before .first-line .ensures .1))
+    (e .bytes, e .sizes .variables, omega (arith, e .sizes .rows, c .before .before .before .row-lines .ensures .most, c .before .before .before .before .before .before .before .first-line .ensures .1))
 
 columns-requires : tie.Need-columns-requires
 columns-requires c κs =
     let e = limits (c .before .before .before .before .before .before .before .before .before .before .before .before .before .before) in
-    (e .rows, e .variables, omega (arith, e .rows, e .variables, c .before .before .before .variable-lines .ensures .most, c .before .before .before .before .before .before .before .row-lines .ensures .most, c .before .before .before .before .before .before .before .before .before .before .before .first-line .ensures .1))
+    (e .sizes .rows, e .sizes .variables, omega (arith, e .sizes .rows, e .sizes .variables, c .before .before .before .variable-lines .ensures .most, c .before .before .before .before .before .before .before .row-lines .ensures .most, c .before .before .before .before .before .before .before .before .before .before .before .first-line .ensures .1))
 
 last-line-requires : tie.Need-last-line-requires
 last-line-requires c κs =
     let e = limits (c .before .before .before .before .before .before .before .before .before .before .before .before .before .before .before .before .before .before) in
-    omega (arith, e .rows, e .variables, c .before .before .before .columns .ensures .1, c .before .before .before .before .before .before .before .variable-lines .ensures .most, c .before .before .before .before .before .before .before .before .before .before .before .row-lines .ensures .most, c .before .before .before .before .before .before .before .before .before .before .before .before .before .before .before .first-line .ensures .1)
+    omega (arith, e .sizes .rows, e .sizes .variables, c .before .before .before .columns .ensures .1, c .before .before .before .before .before .before .before .variable-lines .ensures .most, c .before .before .before .before .before .before .before .before .before .before .before .row-lines .ensures .most, c .before .before .before .before .before .before .before .before .before .before .before .before .before .before .before .first-line .ensures .1)
 
 same-length : tie.Need-same-length
 same-length c = search needs

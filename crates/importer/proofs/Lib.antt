@@ -1,0 +1,9 @@
+mod Stripping
+mod Values
+mod Walking
+mod Lines
+mod Rows
+mod Coefficients
+mod Sides
+mod Variables
+mod Whole
