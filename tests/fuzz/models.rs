@@ -253,6 +253,7 @@ impl Writer<'_> {
 
     fn limit(&mut self, limit: Limit, domain: &[(usize, Limit, Limit)]) {
         let token = match limit {
+            Limit::Number(n) if self.random.chance(5) => format!("{n}E0"),
             Limit::Number(n) => n.to_string(),
             Limit::Integer(i) => self.scalars[i].0.clone(),
             Limit::Earlier(j) => INDICES[domain[j].0].to_string(),
@@ -288,10 +289,21 @@ impl Writer<'_> {
     // ---- formulas
 
     fn literal(&mut self) {
-        let literals = if self.random.chance(92) {
-            &["0", "1", "2", "3", "0.5", ".25", "1.50", "100"]
-        } else {
-            &[
+        let literals: &[&str] = match self.random.below(100) {
+            0..=81 => &["0", "1", "2", "3", "0.5", ".25", "1.50", "100"],
+            82..=91 => &[
+                "1E0",
+                "5E-1",
+                "2.0E+00",
+                "25E-2",
+                "10E-1",
+                ".2E1",
+                "0E99",
+                "1.5E+2",
+                "1000000000E-9",
+                "0.0000001E07",
+            ],
+            92..=98 => &[
                 "12.75",
                 "99999",
                 "0.001",
@@ -300,10 +312,27 @@ impl Writer<'_> {
                 "1000",
                 "0.01",
                 "7",
-            ]
+            ],
+            _ => return self.power(),
         };
         let literal = self.random.of(literals);
         self.put(literal);
+    }
+
+    /// A literal with any power of ten, which may not fit, or an `E` with too few or too many digits.
+    fn power(&mut self) {
+        let decimal = self
+            .random
+            .of(&["0", "1", "2.5", ".001", "120", "000000001000000000"]);
+        let sign = self.random.of(&["", "", "+", "-", "-"]);
+        let digits = match self.random.below(20) {
+            0 => String::new(),
+            1 => self.random.below(1000).to_string(),
+            2..=5 => self.random.below(100).to_string(),
+            _ => self.random.below(10).to_string(),
+        };
+        let literal = format!("{decimal}E{sign}{digits}");
+        self.put(&literal);
     }
 
     fn formula(&mut self, depth: usize) {
@@ -381,7 +410,7 @@ impl Writer<'_> {
             } else {
                 let number = self
                     .random
-                    .of(&["1", "1", "1", "2", "1 + 1", "2 * 1", "2.0"]);
+                    .of(&["1", "1", "1", "2", "1 + 1", "2 * 1", "2.0", "10E-1"]);
                 self.put(number);
             }
         }
@@ -535,11 +564,12 @@ impl Writer<'_> {
     fn number(&mut self, whole: bool) {
         let number = if whole {
             self.random.of(&[
-                "+ 1", "+ 2", "+ 1.0", "+ 1", "+ 2", "+ 1", "+ 1", "- 1", "+ 0", "+ 2",
+                "+ 1", "+ 2", "+ 1.0", "+ 1", "+ 2", "+ 1", "+ 10E-1", "- 1", "+ 0", "+ 2E0",
             ])
         } else {
-            self.random
-                .of(&["+ 1", "+ 0.5", "- 2.25", "+ 3.10", "+ 0", "+ 12", "+ 0.01"])
+            self.random.of(&[
+                "+ 1", "+ 0.5", "- 2.25", "+ 3.10", "+ 0", "+ 12", "+ 0.01", "+ 2.5E-3", "- 1.2E1",
+            ])
         };
         self.put(number);
     }
@@ -556,7 +586,10 @@ impl Writer<'_> {
         } else if self.random.chance(25) {
             for element in &elements {
                 self.put(&name.spelling);
-                let entries: Vec<String> = element.iter().map(i64::to_string).collect();
+                let mut entries: Vec<String> = element.iter().map(i64::to_string).collect();
+                if self.random.chance(1) {
+                    entries[0] += "E0";
+                }
                 let entries = format!("[{}]", entries.join(","));
                 self.put(&entries);
                 self.number(whole);
@@ -640,6 +673,11 @@ pub fn changed(random: &mut Random, text: &[u8]) -> Vec<u8> {
                     "7",
                     "99999",
                     "1000000000",
+                    "1E0",
+                    "2.5E-3",
+                    "1E9",
+                    "E",
+                    "E5",
                     "index",
                     "real",
                     "integer",
@@ -652,7 +690,8 @@ pub fn changed(random: &mut Random, text: &[u8]) -> Vec<u8> {
                     "SUM(k,1,257,",
                     " ",
                 ];
-                let word = format!(" {} ", random.of(&words));
+                let blank = random.of(&[" ", " ", " ", ""]);
+                let word = format!("{blank}{}{blank}", random.of(&words));
                 text.splice(at..at, word.into_bytes());
             }
         }
@@ -750,7 +789,7 @@ pub fn changed_export(random: &mut Random, text: &[u8]) -> Vec<u8> {
                 text.remove(at);
             }
             2 => {
-                let bytes = b" \n-.0123456789+RC\r\t";
+                let bytes = b" \n-.0123456789+ERC\r\t";
                 text.insert(at, bytes[random.below(bytes.len())]);
             }
             3 => text.truncate(at),
@@ -766,6 +805,7 @@ pub fn changed_export(random: &mut Random, text: &[u8]) -> Vec<u8> {
                     "-1",
                     "0.5",
                     "1.50",
+                    "1E0",
                     "999999999",
                     "1000000000",
                     "0.0000001",

@@ -236,7 +236,7 @@ fn read_number(name: &[u8]) -> Option<usize> {
 /// A value that fits; its form is seen when it is printed again.
 fn read_value(bytes: &[u8]) -> Option<Value> {
     match bytes {
-        [b'-', literal @ ..] => Some(Value::from_literal(literal)?.negated_if(true)),
-        literal => Value::from_literal(literal),
+        [b'-', decimal @ ..] => Some(Value::from_decimal(decimal, 0)?.negated_if(true)),
+        decimal => Value::from_decimal(decimal, 0),
     }
 }

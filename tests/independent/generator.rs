@@ -1,7 +1,7 @@
-//! A second generator for the recipe modelling language, written from document 01 and
-//! its readings alone. It is meant to be compared with the first one, so it favours
-//! plain steps over clever ones, in the order of that document. What document 02 asks
-//! for stands in files of its own: the export and its reader in export.rs.
+//! A second generator for the recipe modelling language, written from documents 01 and 02
+//! and their readings alone. It is meant to be compared with the first one, so it favours
+//! plain steps over clever ones, in the order of document 01. The export and its reader
+//! (request 101) are in export.rs.
 
 #[path = "export.rs"]
 mod export;
@@ -123,16 +123,29 @@ impl Value {
         fits.then_some(Value { mantissa, scale })
     }
 
-    /// Reads digits, digits.digits or .digits; none if too long or if it does not fit.
+    /// Reads a literal: a decimal, perhaps with a power of ten.
     fn from_literal(bytes: &[u8]) -> Option<Value> {
+        match bytes.iter().position(|&byte| byte == b'E') {
+            Some(end) => Value::from_decimal(&bytes[..end], read_power(&bytes[end + 1..])),
+            None => Value::from_decimal(bytes, 0),
+        }
+    }
+
+    /// Reads digits, digits.digits or .digits and multiplies by that power of ten; none if
+    /// there are too many digits or if the product does not fit.
+    fn from_decimal(bytes: &[u8], power: i64) -> Option<Value> {
         let digits = bytes.iter().filter(|byte| byte.is_ascii_digit());
         if digits.clone().count() > LITERAL_DIGITS {
             return None;
         }
-        let mantissa = digits.fold(0, |sum, byte| sum * 10 + i64::from(byte - b'0'));
+        let mut mantissa = read_digits(digits);
         let point = bytes.iter().position(|&byte| byte == b'.');
-        let scale = point.map_or(0, |point| bytes.len() - point - 1);
-        Value::new(mantissa, scale)
+        let places = point.map_or(0, |point| bytes.len() - point - 1);
+        let power = power - places as i64;
+        for _ in 0..power {
+            mantissa = i64::checked_mul(mantissa, 10)?;
+        }
+        Value::new(mantissa, (-power).max(0) as usize)
     }
 
     fn mantissa_at(self, scale: usize) -> i64 {
@@ -185,6 +198,19 @@ impl PartialOrd for Value {
     fn partial_cmp(&self, other: &Value) -> Option<Ordering> {
         Some(self.cmp(other))
     }
+}
+
+/// Reads an optional sign and one or two digits.
+fn read_power(bytes: &[u8]) -> i64 {
+    match bytes {
+        [b'-', digits @ ..] => -read_power(digits),
+        [b'+', digits @ ..] => read_power(digits),
+        digits => read_digits(digits.iter()),
+    }
+}
+
+fn read_digits<'a>(digits: impl Iterator<Item = &'a u8>) -> i64 {
+    digits.fold(0, |sum, byte| sum * 10 + i64::from(byte - b'0'))
 }
 
 /// Prints a number that is not negative with at least `width` digits.
@@ -367,6 +393,7 @@ impl<'t> Tokens<'t> {
                 if self.byte(end) == b'.' && self.byte(end + 1).is_ascii_digit() {
                     end = self.end_of(end + 1, u8::is_ascii_digit);
                 }
+                end = self.end_of_power(end);
                 match Value::from_literal(&text[place..end]) {
                     Some(literal) => value = literal,
                     None => return refuse(5, place),
@@ -405,6 +432,17 @@ impl<'t> Tokens<'t> {
             bytes: &text[place..end],
             value,
         })
+    }
+
+    /// Where a power of ten ends that begins at `place`: `E`, an optional sign and one or
+    /// two digits. If there is none, `place` itself.
+    fn end_of_power(&self, place: usize) -> usize {
+        let sign = usize::from(matches!(self.byte(place + 1), b'+' | b'-'));
+        let digits = place + 1 + sign;
+        if self.byte(place) != b'E' || !self.byte(digits).is_ascii_digit() {
+            return place;
+        }
+        digits + 1 + usize::from(self.byte(digits + 1).is_ascii_digit())
     }
 
     fn end_of_string(&self, place: usize) -> Outcome<usize> {
@@ -947,7 +985,7 @@ impl<'t> Parser<'t> {
             }
             let negative = self.sign()?.is_some_and(|sign| sign.negative);
             let literal = self.tokens.expect(Kind::Literal)?;
-            if literal.bytes.contains(&b'.') {
+            if literal.bytes.iter().any(|byte| b".E".contains(byte)) {
                 return refuse(3, literal.place);
             }
             *entry = literal.value.negated_if(negative).whole();

@@ -69,6 +69,10 @@ cases =
     ∷ record { asks = formula "SUM(i, 3, 2, i)"; gives = decimal 0 0 }  -- P9
     ∷ record { asks = formula "SUM(i, 1, 256, 1)"; gives = decimal 256 0 }  -- P10
     ∷ record { asks = formula "SUM(i, 1, 257, 1)"; gives = refusal 8 0 }  -- P11
+    -- powers of ten, one that does not fit, and one in a fixed entry (decision 50)
+    ∷ record { asks = formula "2.5E-3 + .5E2"; gives = decimal 500025 4 }
+    ∷ record { asks = formula "i * 1E-7"; gives = refusal 5 4 }
+    ∷ record { asks = model "OPEN {m} index i; real p[i] (1 <= i <= 2); continuous x; MAXIMIZE: x {c} x <= 1 INIT {d} p[1E0] + 1 CLOSE" 65536; gives = refusal 3 91 }
     -- P12: `x - x` as a left side is a row with no `col` for x in it
     ∷ record {
       asks = model "OPEN {m} continuous x; MAXIMIZE: x {c} x - x <= 1 CLOSE" 65536;

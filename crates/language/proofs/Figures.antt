@@ -11,9 +11,8 @@ use Rattle.value.specs.declared.Value.{Value}
 use Rattle.value.specs.declared.Fit.the-variants.{Fits}
 use Rattle.value.specs.Decimal.{Valid, ofWhole}
 use Rattle.value.proofs.Operations.{ofWhole-valid}
-use Rattle.value.specs.Literal.{literalOf, isLiteral, before, after, allDigits}
 use Rattle.value.specs.Printed.{digits, natural, minusSign, places, printed, printedWhole}
-use Rattle.value.proofs.ReadBack.{readBack, read-back, printed-unique}
+use Rattle.value.proofs.ReadBack.{readBack, read-empty, read-back, printed-unique}
 use Rattle.language.specs.Listing.{upperField}
 use Rattle.language.specs.All.{All}
 use Rattle.language.proofs.All.{all-append, all-weaken}
@@ -77,11 +76,10 @@ upper-text (some v) = printed-text v
 
 -- a printed value has a byte, since what is empty is no literal
 pub printed-some : (v : Value) → Valid v → 0 < length (printed v)
-unfolding readBack literalOf isLiteral before after allDigits
 printed-some v h = go (printed v) (read-back v h)
   where
     go : (s : List ℕ) → readBack s ≡ Fits v → 0 < length s
-    go [] e = absurd (let z : _≡_ {A = ℕ} 0 1 = cc in omega arith)
+    go [] e = absurd (let q = read-empty in let z : _≡_ {A = ℕ} 0 1 = cc in omega arith)
     go (b ∷ s) e = omega arith
 
 -- ---- told apart

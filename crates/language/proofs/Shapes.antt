@@ -20,7 +20,7 @@ use Rattle.language.specs.Listed.{In}
 use Rattle.language.proofs.Listed.{in-here, in-later}
 use Rattle.language.specs.All.{All}
 use Rattle.language.proofs.All.{all-left, all-right}
-use Rattle.lexer.specs.Text.{Kind, Token, Step, mark, name, literal, string, end, wrong, step, front, behind, sameBytes, isBlank, isSmall, inName, among, nameStep, isCapital, wordStep, isSign, orderStep, literalKind, valued, pointed, literalStep, noBrace, inString, strange, wellShaped, stringStep, stepAt, isWrong, tokensFrom, uncounted, counted, tokens}
+use Rattle.lexer.specs.Text.{Kind, Token, Step, mark, name, literal, string, end, wrong, step, front, behind, sameBytes, isBlank, isSmall, inName, among, nameStep, isCapital, wordStep, isSign, orderStep, literalKind, valued, pointed, powered, literalStep, noBrace, inString, strange, wellShaped, stringStep, stepAt, isWrong, tokensFrom, uncounted, counted, tokens}
 
 -- ---- shapes
 
@@ -141,12 +141,12 @@ module _ (P : Value → Type 0) (fits : (l : List ℕ) (v : Value) → literalOf
       go TooBig e = tt
 
   literal-fine : (p : ℕ) (w r : List ℕ) → Fine p (literalStep p w r)
-  unfolding literalStep
+  unfolding literalStep powered
   literal-fine p w r = go (pointed r)
     where
-      go : (b : Bool) → Fine p (elim b as (λ _. Step) [ true ↦ valued false p (w ++ (46 ∷ front isDigit (drop 1 r))) | false ↦ valued true p w ])
-      go true = value-fine false p (w ++ (46 ∷ front isDigit (drop 1 r)))
-      go false = value-fine true p w
+      go : (b : Bool) → Fine p (elim b as (λ _. Step) [ true ↦ powered false p (w ++ (46 ∷ front isDigit (drop 1 r))) (behind isDigit (drop 1 r)) | false ↦ powered true p w r ])
+      go true = value-fine _ p _
+      go false = value-fine _ p _
 
   order-fine : (p k : ℕ) (t : List ℕ) → Fine p (orderStep p k t)
   unfolding orderStep

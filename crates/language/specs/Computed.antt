@@ -4,13 +4,13 @@ use mathlib.Core.List.{List, [], _∷_}
 use Prim.Native.Nat.{ℕ}
 use Rattle.value.specs.declared.Value.{Value}
 use Rattle.rules.specs.Characters.{bytes}
-use Rattle.rules.specs.Limits.{byteLimit, tokenLimit, nameLength, stringLength, digitLimit, mantissaLimit, scaleLimit, nameLimit, constraintLimit, dataLimit, variableLimit, rowLimit, nestingLimit, runLimit, indexLimit}
-use Rattle.rational.specs.Fraction.{_⊕_, _⊗_}
+use Rattle.rules.specs.Limits.{byteLimit, tokenLimit, nameLength, stringLength, digitLimit, powerDigits, mantissaLimit, scaleLimit, nameLimit, constraintLimit, dataLimit, variableLimit, rowLimit, nestingLimit, runLimit, indexLimit}
+use Rattle.rational.specs.Fraction.{_⊕_, _⊗_, integer}
 use Rattle.value.specs.Decimal.{tenths, frac, withSign, seek, choose, fitOf, sumOf, productOf, negate, isAtMost, isZero, wholeOf, ofWhole}
-use Rattle.value.specs.Literal.{isDigit, allDigits, digitOf, numberFrom, before, after, isLiteral, literalOf}
+use Rattle.value.specs.Literal.{isDigit, allDigits, digitOf, numberFrom, before, after, isDecimal, decimalNumber, decimalOf, significand, exponent, powerBy, powerOf, scaledBy, raisedBy, literalOf}
 use Rattle.value.specs.Printed.{digits, widthFrom, natural, minusSign, places, printed, printedWhole}
 use Rattle.lexer.specs.Marks.{capitalWords, smallWords}
-use Rattle.lexer.specs.Text.{front, behind, sameBytes, isBlank, isSmall, inName, among, nameStep, isCapital, wordStep, isSign, orderStep, literalKind, valued, pointed, literalStep, noBrace, inString, strange, wellShaped, stringStep, stepAt, isWrong, tokensFrom, uncounted, counted, tokens}
+use Rattle.lexer.specs.Text.{front, behind, sameBytes, isBlank, isSmall, inName, among, nameStep, isCapital, wordStep, isSign, orderStep, literalKind, valued, pointed, signLength, powerSize, powerLength, powered, literalStep, noBrace, inString, strange, wellShaped, stringStep, stepAt, isWrong, tokensFrom, uncounted, counted, tokens}
 use Rattle.language.specs.Reader.{passed, next, look, markOf, nameOf, stringOf, demand, require, expect, bracket, readString, find, found, known, readKnown, isIndex, readIndex}
 use Rattle.language.specs.Formulas.{factors, termOf, summands, readSign, formulaOf, partOf, headOf, sumFormula, formulasOf, subscriptsOf, namedBy, nestedOf, primaryBy, primaryOf, insideAt, formulaAt, entryOf, entriesOf as entriesOf·formulas, domainOf, optionalDomain}
 use Rattle.language.specs.Linear.{headBySort, headByName, headBy, linearTerm, linearTerms, linearOf, plainForm, bodyOf, sigmaAt, linearAt, sideOfTerm, sideOf}
@@ -33,7 +33,7 @@ formulaText text = do
   eval f (scopeOf [])
 
 unfoldable opened : (List ℕ → ℕ → Answer) × (List ℕ → Outcome Value)
-unfolding formulaText byteLimit tokenLimit nameLength stringLength digitLimit mantissaLimit scaleLimit nameLimit constraintLimit dataLimit variableLimit rowLimit nestingLimit runLimit indexLimit _⊕_ _⊗_ tenths frac withSign seek choose fitOf sumOf productOf negate isAtMost isZero wholeOf ofWhole isDigit allDigits digitOf numberFrom before after isLiteral literalOf digits widthFrom natural minusSign places printed printedWhole capitalWords smallWords front behind sameBytes isBlank isSmall inName among nameStep isCapital wordStep isSign orderStep literalKind valued pointed literalStep noBrace inString strange wellShaped stringStep stepAt isWrong tokensFrom uncounted counted tokens passed next look markOf nameOf stringOf demand require expect bracket readString find found known readKnown isIndex readIndex factors termOf summands readSign formulaOf partOf headOf sumFormula formulasOf subscriptsOf namedBy nestedOf primaryBy primaryOf insideAt formulaAt entryOf entriesOf·formulas domainOf optionalDomain headBySort headByName headBy linearTerm linearTerms linearOf plainForm bodyOf sigmaAt linearAt sideOfTerm sideOf newName indicesOf isIn readDue dueOf subscripted indexEntry formulaEntry domainEntry entriesFrom listOf declarations relationOf readRelation constraintOf constraintsOf readGoal structure bind unbound boundTo sameWhole sameElement wholeAt limitsOf lengthOf fresh runOf each eval over stored scopeOf portionBy setAt elementOf positionRun wholeIf accept isGiven givenBy allGiven digitsOf signedEntry entryBy readEntry entriesOf·data marksOf noRepeats allIn rearranges positionOf positionsOf orderFrom readOrder boundOf valueOf readNumber eachRead runs subscriptedPortion portionOf portionsOf readClose dataOf readEnd readData model readModel start asDiscrete asContinuous declared discretes continuouses addVariable addVariables sameVariable numberOf addAt variableAt gather gathered factOf keep rowCount addEntry addEntries picked extreme largest smallest lowerOf upperOf lessRows equalRows rows generate rowLines varLines columnLines colLines linesOf fields upperField bytesOf bytesOfAll accepted listingOf fitted printing listing respond answer
+unfolding formulaText byteLimit tokenLimit nameLength stringLength digitLimit powerDigits mantissaLimit scaleLimit nameLimit constraintLimit dataLimit variableLimit rowLimit nestingLimit runLimit indexLimit _⊕_ _⊗_ integer tenths frac withSign seek choose fitOf sumOf productOf negate isAtMost isZero wholeOf ofWhole isDigit allDigits digitOf numberFrom before after isDecimal decimalNumber decimalOf significand exponent powerBy powerOf scaledBy raisedBy literalOf digits widthFrom natural minusSign places printed printedWhole capitalWords smallWords front behind sameBytes isBlank isSmall inName among nameStep isCapital wordStep isSign orderStep literalKind valued pointed signLength powerSize powerLength powered literalStep noBrace inString strange wellShaped stringStep stepAt isWrong tokensFrom uncounted counted tokens passed next look markOf nameOf stringOf demand require expect bracket readString find found known readKnown isIndex readIndex factors termOf summands readSign formulaOf partOf headOf sumFormula formulasOf subscriptsOf namedBy nestedOf primaryBy primaryOf insideAt formulaAt entryOf entriesOf·formulas domainOf optionalDomain headBySort headByName headBy linearTerm linearTerms linearOf plainForm bodyOf sigmaAt linearAt sideOfTerm sideOf newName indicesOf isIn readDue dueOf subscripted indexEntry formulaEntry domainEntry entriesFrom listOf declarations relationOf readRelation constraintOf constraintsOf readGoal structure bind unbound boundTo sameWhole sameElement wholeAt limitsOf lengthOf fresh runOf each eval over stored scopeOf portionBy setAt elementOf positionRun wholeIf accept isGiven givenBy allGiven digitsOf signedEntry entryBy readEntry entriesOf·data marksOf noRepeats allIn rearranges positionOf positionsOf orderFrom readOrder boundOf valueOf readNumber eachRead runs subscriptedPortion portionOf portionsOf readClose dataOf readEnd readData model readModel start asDiscrete asContinuous declared discretes continuouses addVariable addVariables sameVariable numberOf addAt variableAt gather gathered factOf keep rowCount addEntry addEntries picked extreme largest smallest lowerOf upperOf lessRows equalRows rows generate rowLines varLines columnLines colLines linesOf fields upperField bytesOf bytesOfAll accepted listingOf fitted printing listing respond answer
 opened = (λ text n. answer text n, λ text. formulaText text)
 
 unfoldable pub computed : List ℕ → ℕ → Answer

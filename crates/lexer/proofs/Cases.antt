@@ -9,18 +9,19 @@ use lib.IntN.{pos}
 use lib.ListN.{replicate}
 use Rattle.rules.specs.declared.Refusal.the-variants.{LongText, StrangeByte, Misplaced, BadName, Unfit, Full}
 use Rattle.rules.specs.Characters.{bytes, space}
-use Rattle.rules.specs.Limits.{byteLimit, tokenLimit, nameLength, stringLength, digitLimit, mantissaLimit, scaleLimit}
+use Rattle.rules.specs.Limits.{byteLimit, tokenLimit, nameLength, stringLength, digitLimit, powerDigits, mantissaLimit, scaleLimit}
+use Rattle.rational.specs.Fraction.{_⊗_, integer}
 use Rattle.value.specs.Decimal.{tenths, withSign, seek, choose, fitOf}
-use Rattle.value.specs.Literal.{isDigit, allDigits, digitOf, numberFrom, before, after, isLiteral, literalOf}
+use Rattle.value.specs.Literal.{isDigit, allDigits, digitOf, numberFrom, before, after, isDecimal, decimalNumber, decimalOf, significand, exponent, powerBy, powerOf, scaledBy, raisedBy, literalOf}
 use Rattle.lexer.specs.Marks.{plusSign, minusSign, timesSign, comma, semicolon, colon, equals, atMost, atLeast, opens, closes, opensList, closesList, openWord, closeWord, maximizeWord, minimizeWord, initWord, sumWord, sigmaWord, indexWord, integerWord, realWord, formulaWord, discreteWord, continuousWord, capitalWords, smallWords}
-use Rattle.lexer.specs.Text.{Kind, mark, name, literal, string, end, wrong, Token, front, behind, sameBytes, isBlank, isSmall, inName, among, nameStep, isCapital, wordStep, isSign, orderStep, literalKind, valued, pointed, literalStep, noBrace, inString, strange, wellShaped, stringStep, stepAt, isWrong, tokensFrom, uncounted, counted, tokens}
+use Rattle.lexer.specs.Text.{Kind, mark, name, literal, string, end, wrong, Token, front, behind, sameBytes, isBlank, isSmall, inName, among, nameStep, isCapital, wordStep, isSign, orderStep, literalKind, valued, pointed, signLength, powerSize, powerLength, powered, literalStep, noBrace, inString, strange, wellShaped, stringStep, stepAt, isWrong, tokensFrom, uncounted, counted, tokens}
 
 -- a token of the kind k at p
 infixl 70 _at_
 abbrev _at_ : Kind → ℕ → Token
 k at p = record { kind = k; place = p }
 
--- a literal that is digits only, and one with a point: m / 10^s
+-- a literal that is digits only, and one with a point or a power: m / 10^s
 abbrev whole : ℕ → Kind
 whole m = literal true (record { m = pos m; s = 0 })
 
@@ -75,6 +76,14 @@ cases =
     ∷ case "+1.000000000000000000" (mark plusSign at 0 ∷ wrong Unfit at 1 ∷ [])
     ∷ case "999999999 1000000000" (whole 999999999 at 0 ∷ wrong Unfit at 10 ∷ [])
     ∷ case "0.000001 0.0000001" (decimal 1 6 at 0 ∷ wrong Unfit at 9 ∷ [])
+    -- powers of ten
+    ∷ case "2.5E-3 .5E+02 1E0" (decimal 25 4 at 0 ∷ decimal 50 0 at 7 ∷ decimal 1 0 at 14 ∷ end at 17 ∷ [])
+    ∷ case "0.0000001E1 0E99 1E9" (decimal 1 6 at 0 ∷ decimal 0 0 at 12 ∷ wrong Unfit at 17 ∷ [])
+    ∷ case "2E001" (decimal 2 0 at 0 ∷ whole 1 at 4 ∷ end at 5 ∷ [])
+    ∷ case "2E1.5" (decimal 20 0 at 0 ∷ decimal 5 1 at 3 ∷ end at 5 ∷ [])
+    ∷ case "2E 5" (whole 2 at 0 ∷ wrong Misplaced at 1 ∷ [])
+    ∷ case "2E+" (whole 2 at 0 ∷ wrong Misplaced at 1 ∷ [])
+    ∷ case "x2E3" (name (bytes "x2") at 0 ∷ wrong Misplaced at 2 ∷ [])
     -- strings
     ∷ case "{}" (wrong Misplaced at 0 ∷ [])
     ∷ case "{a}{ ?~}" (string (bytes "a") at 0 ∷ string (bytes " ?~") at 3 ∷ end at 8 ∷ [])
@@ -92,7 +101,7 @@ cases =
     ∷ []
 
 cases-hold : map (λ (c : Case). tokens (c .text)) cases ≡ map (λ (c : Case). c .gives) cases
-unfolding cases byteLimit tokenLimit nameLength stringLength digitLimit mantissaLimit scaleLimit tenths withSign seek choose fitOf isDigit allDigits digitOf numberFrom before after isLiteral literalOf capitalWords smallWords front behind sameBytes isBlank isSmall inName among nameStep isCapital wordStep isSign orderStep literalKind valued pointed literalStep noBrace inString strange wellShaped stringStep stepAt isWrong tokensFrom uncounted counted tokens
+unfolding cases byteLimit tokenLimit nameLength stringLength digitLimit powerDigits mantissaLimit scaleLimit _⊗_ integer tenths withSign seek choose fitOf isDigit allDigits digitOf numberFrom before after isDecimal decimalNumber decimalOf significand exponent powerBy powerOf scaledBy raisedBy literalOf capitalWords smallWords front behind sameBytes isBlank isSmall inName among nameStep isCapital wordStep isSign orderStep literalKind valued pointed signLength powerSize powerLength powered literalStep noBrace inString strange wellShaped stringStep stepAt isWrong tokensFrom uncounted counted tokens
 cases-hold = refl
 
 -- ---- at most two tokens before `INIT` or `CLOSE`

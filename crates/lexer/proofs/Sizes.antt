@@ -6,7 +6,7 @@ use mathlib.Core.List.{List, [], _∷_, _++_}
 use Prim.Native.Nat.{ℕ, suc, _+_, _-_, _<_, _≤_}
 use native.Mathlib.Omega.{arith}
 use lib.Dec.{eqb, leb}
-use lib.ListN.{length, drop, length-drop, length-append}
+use lib.ListN.{length, take, drop, length-take, length-drop, length-append}
 use Rattle.rules.specs.declared.Refusal.{Refusal}
 use Rattle.rules.specs.declared.Refusal.the-variants.{StrangeByte, Misplaced, BadName}
 use Rattle.rules.specs.Limits.{nameLength, stringLength}
@@ -14,7 +14,7 @@ use Rattle.value.specs.declared.Fit.{Fit}
 use Rattle.value.specs.declared.Fit.the-variants.{Fits, TooBig}
 use Rattle.value.specs.Literal.{isDigit, literalOf}
 use Rattle.lexer.specs.Marks.{Word, atMost, atLeast}
-use Rattle.lexer.specs.Text.{Kind, mark, name, string, wrong, sameBytes, among, Step, step, isWrong, isSmall, isCapital, isSign, inName, inString, noBrace, front, behind, pointed, literalKind, valued, nameStep, wordStep, literalStep, strange, wellShaped, stringStep, orderStep, stepAt}
+use Rattle.lexer.specs.Text.{Kind, mark, name, string, wrong, sameBytes, among, Step, step, isWrong, isSmall, isCapital, isSign, inName, inString, noBrace, front, behind, pointed, literalKind, valued, powerLength, powered, nameStep, wordStep, literalStep, strange, wellShaped, stringStep, orderStep, stepAt}
 use Rattle.lexer.specs.View.{isLast}
 use Rattle.lexer.proofs.Runs.{true-false, front-length, front-first, behind-drop}
 
@@ -147,23 +147,40 @@ valued-sized : (w : Bool) (p : ℕ) (l m : List ℕ) → 1 ≤ length m → leng
 unfolding valued
 valued-sized w p l m h g = within l _ p _ (literal-proper w (literalOf m)) h g
 
+-- a decimal d, and r behind it
+powered-sized : (w : Bool) (p : ℕ) (l d r : List ℕ) → 1 ≤ length d → length d + length r ≤ length l → Sized p l (powered w p d r)
+unfolding powered
+powered-sized w p l d r h g =
+    let n = powerLength r in
+    let e : length (d ++ take n r) ≡ length d + length (take n r) = length-append d (take n r) in
+    valued-sized _ p l (d ++ take n r) (omega (arith, e)) (omega (arith, e, length-take n r))
+
 literal-sized : (p b : ℕ) (t : List ℕ) → (isDigit b || pointed (b ∷ t)) ≡ true → Sized p (b ∷ t) (literalStep p (front isDigit (b ∷ t)) (behind isDigit (b ∷ t)))
 unfolding literalStep
 literal-sized p b t e = go (pointed (behind isDigit (b ∷ t))) refl
   where
-    go : (u : Bool) → pointed (behind isDigit (b ∷ t)) ≡ u → Sized p (b ∷ t) (elim u as (λ _. Step) [
-      | true ↦ valued false p (front isDigit (b ∷ t) ++ (46 ∷ front isDigit (drop 1 (behind isDigit (b ∷ t)))))
-      | false ↦ valued true p (front isDigit (b ∷ t))
-    ])
+    w : List ℕ
+    w = front isDigit (b ∷ t)
+
+    r : List ℕ
+    r = behind isDigit (b ∷ t)
+
+    -- the digits behind the point, and what stands behind them
+    f : List ℕ
+    f = front isDigit (drop 1 r)
+
+    a : length r ≡ length (b ∷ t) - length w
+    a = ap length (behind-drop isDigit (b ∷ t)) ∙ length-drop (length w) (b ∷ t)
+
+    o : length (behind isDigit (drop 1 r)) ≡ length (drop 1 r) - length f
+    o = ap length (behind-drop isDigit (drop 1 r)) ∙ length-drop (length f) (drop 1 r)
+
+    go : (u : Bool) → pointed r ≡ u → Sized p (b ∷ t) (elim u as (λ _. Step) [ true ↦ powered false p (w ++ (46 ∷ f)) (behind isDigit (drop 1 r)) | false ↦ powered true p w r ])
     go true h =
-        let w = front isDigit (b ∷ t) in
-        let r = behind isDigit (b ∷ t) in
-        let f = front isDigit (drop 1 r) in
-        let a : length r ≡ length (b ∷ t) - length w = ap length (behind-drop isDigit (b ∷ t)) ∙ length-drop (length w) (b ∷ t) in
         let n : length (w ++ (46 ∷ f)) ≡ length w + suc (length f) = length-append w (46 ∷ f) in
-        valued-sized false p (b ∷ t) _ (omega (arith, n))
-        (omega (arith, n, a, two r h, front-length isDigit (drop 1 r), length-drop 1 r, front-length isDigit (b ∷ t)))
-    go false h = valued-sized true p (b ∷ t) _ (literal-first b t e h) (front-length isDigit (b ∷ t))
+        powered-sized false p (b ∷ t) _ _ (omega (arith, n))
+        (omega (arith, n, a, o, two r h, front-length isDigit (drop 1 r), length-drop 1 r, front-length isDigit (b ∷ t)))
+    go false h = powered-sized true p (b ∷ t) w r (literal-first b t e h) (omega (arith, a, front-length isDigit (b ∷ t)))
 
 -- ---- any token
 

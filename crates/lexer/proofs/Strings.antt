@@ -14,7 +14,7 @@ use Rattle.value.specs.declared.Fit.{Fit}
 use Rattle.value.specs.declared.Fit.the-variants.{Fits, TooBig}
 use Rattle.value.specs.Literal.{isDigit, literalOf}
 use Rattle.lexer.specs.Marks.{Word, atMost, atLeast, capitalWords, smallWords}
-use Rattle.lexer.specs.Text.{Kind, mark, name, literal, string, end, wrong, Token, Step, step, sameBytes, among, isBlank, isSmall, isCapital, isSign, inName, inString, noBrace, front, behind, pointed, literalKind, valued, nameStep, wordStep, literalStep, strange, wellShaped, stringStep, orderStep, stepAt, isWrong, tokensFrom, uncounted, counted, tokens}
+use Rattle.lexer.specs.Text.{Kind, mark, name, literal, string, end, wrong, Token, Step, step, sameBytes, among, isBlank, isSmall, isCapital, isSign, inName, inString, noBrace, front, behind, pointed, literalKind, valued, powered, nameStep, wordStep, literalStep, strange, wellShaped, stringStep, orderStep, stepAt, isWrong, tokensFrom, uncounted, counted, tokens}
 use Rattle.lexer.specs.declared.Source.{Source}
 use Rattle.lexer.specs.View.{comingAt}
 use Rattle.lexer.proofs.Runs.{true-false}
@@ -59,12 +59,13 @@ valued-plain w p l = go (literalOf l)
     go TooBig = refl
 
 literal-plain : (p : ℕ) (w r : List ℕ) → isString (literalStep p w r .token .kind) ≡ false
-unfolding literalStep
+unfolding literalStep powered
 literal-plain p w r = go (pointed r)
   where
-    go : (u : Bool) → isString ((elim u as (λ _. Step) [ true ↦ valued false p (w ++ (46 ∷ front isDigit (drop 1 r))) | false ↦ valued true p w ]) .token .kind) ≡ false
-    go true = valued-plain false p _
-    go false = valued-plain true p w
+    go : (u : Bool)
+        → isString ((elim u as (λ _. Step) [ true ↦ powered false p (w ++ (46 ∷ front isDigit (drop 1 r))) (behind isDigit (drop 1 r)) | false ↦ powered true p w r ]) .token .kind) ≡ false
+    go true = valued-plain _ p _
+    go false = valued-plain _ p _
 
 order-plain : (p k : ℕ) (t : List ℕ) → isString (orderStep p k t .token .kind) ≡ false
 unfolding orderStep

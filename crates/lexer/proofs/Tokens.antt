@@ -7,17 +7,15 @@ use native.Mathlib.Omega.{arith}
 use native.Mathlib.Numerals.{add-one}
 use borrow.Author.Tests.{eq-eqb, ne-eqb, eqb-true, le-leb, lt-leb, leb-true, ltb-true, ltb-false}
 use lib.Dec.{eqb, leb, ltb}
-use lib.ListN.{length, getD, take, drop, drop-of-length-le, length-drop}
-use lib.Seq.{drop-drop, take-add, length-take-le}
+use lib.ListN.{length, getD, take, drop, drop-of-length-le}
+use lib.Seq.{drop-drop, take-add}
 use Rattle.rules.specs.declared.Refusal.the-variants.{StrangeByte, Misplaced, BadName}
 use Rattle.rules.specs.Limits.{nameLength, stringLength}
 use Rattle.value.specs.declared.Fit.{Fit}
-use Rattle.value.specs.declared.Fit.the-variants.{Fits, TooBig}
-use Rattle.value.specs.Literal.{isDigit, literalOf}
-use Rattle.value.proofs.Reading.{literal-valid}
+use Rattle.value.specs.Literal.{isDigit}
 use Rattle.lexer.specs.Marks.{capitalWords, smallWords}
 use Rattle.lexer.specs.Text as Text
-use Rattle.lexer.specs.Text.{mark, name, string, wrong, isSmall, isCapital, isSign, inName, inString, noBrace, front, behind, pointed, step, literalKind, valued, nameStep, wordStep, literalStep, strange, wellShaped, stringStep, orderStep, stepAt}
+use Rattle.lexer.specs.Text.{mark, name, string, wrong, isSmall, isCapital, isSign, inName, inString, noBrace, front, behind, pointed, step, powered, nameStep, wordStep, literalStep, strange, wellShaped, stringStep, orderStep, stepAt}
 use Rattle.lexer.specs.declared.Class.the-variants.{Digit, InName, Capital, NoBrace, InString}
 use Rattle.lexer.specs.declared.Found.{Found}
 use Rattle.lexer.specs.declared.Token.the-variants.{Mark, Name, String, Wrong}
@@ -107,15 +105,6 @@ module _ (s : List ℕ) (at : ℕ) where
 pub found-is : (w : Bool) (v u : Fit) (at n : ℕ) (r : Found) → v ≡ u → r ≡ foundOf w u at n → r ≡ foundOf w v at n
 found-is w v u at n r e h = rw e h
 
--- the value of the literal l
-value-is : (s l : List ℕ) (w : Bool) (v : Fit) (at n : ℕ) (r : Found) → v ≡ literalOf l → n ≡ length l → r ≡ foundOf w v at n → Gives s r (valued w at l)
-unfolding valued literalKind
-value-is s l w v at n r e h g = subst (λ (q : Found). Gives s q (valued w at l)) (sym g) (go v e)
-  where
-    go : (v : Fit) → v ≡ literalOf l → Gives s (foundOf w v at n) (valued w at l)
-    go (Fits x) e = record { same = rw (← e, h) refl; within = literal-valid l x (sym e) }
-    go TooBig e = record { same = rw (← e, h) refl; within = tt }
-
 module _ (s : List ℕ) (at w : ℕ) where
   pub point-after : (b : Bool) → RunLength s at Digit w → b ≡ pointed (drop (at + w) s) → b ≡ true → PointAfter s at w
   point-after b c e f = record { digits = c; point = sym e ∙ f; inside = point-within s (at + w) (sym e ∙ f) }
@@ -128,12 +117,12 @@ module _ (s : List ℕ) (at w : ℕ) where
       rw (e, take-add w (suc f) (drop at s), run-part s at Digit w (p .digits), drop-drop w at s, run-behind s at Digit w (p .digits), b)
       (ap (λ (l : List ℕ). front isDigit (drop at s) ++ (46 ∷ l)) (run-part s (at + w + 1) Digit f c))
 
-  pub fraction-is : (f : ℕ) (v : Fit) (r : Found) → PointAfter s at w → RunLength s (at + w + 1) Digit f
-      → v ≡ literalOf (take (at + w + 1 + f - at) (drop at s)) → r ≡ foundOf false v at (at + w + 1 + f - at)
-      → Gives s r (fractionStep at (drop at s))
-  fraction-is f v r p c e g =
-      subst (λ (l : List ℕ). Gives s r (valued false at l)) (fraction-bytes f p c)
-      (value-is s _ false v at _ r e (sym (length-take-le (at + w + 1 + f - at) (drop at s) (omega (arith, p .inside, c .bound, length-drop at s)))) g)
+  fraction-behind : (f : ℕ) → PointAfter s at w → RunLength s (at + w + 1) Digit f → drop (at + w + 1 + f) s ≡ behind isDigit (drop 1 (behind isDigit (drop at s)))
+  fraction-behind f p c = rw (run-behind s at Digit w (p .digits), drop-drop 1 (at + w) s) (sym (run-behind s (at + w + 1) Digit f c))
+
+  pub fraction-is : (f : ℕ) (r : Found) → PointAfter s at w → RunLength s (at + w + 1) Digit f
+      → Gives s r (powered false at (partOf s at (at + w + 1 + f - at)) (drop (at + w + 1 + f) s)) → Gives s r (fractionStep at (drop at s))
+  fraction-is f r p c g = rw (fraction-bytes f p c, fraction-behind f p c) at g
 
   pub literal-fraction : (b : Bool) (r : Found) → RunLength s at Digit w → b ≡ pointed (drop (at + w) s) → b ≡ true
       → Gives s r (fractionStep at (drop at s)) → Gives s r (literalStep at (front isDigit (drop at s)) (behind isDigit (drop at s)))
@@ -142,13 +131,12 @@ module _ (s : List ℕ) (at w : ℕ) where
       let q : pointed (behind isDigit (drop at s)) ≡ true = ap pointed (run-behind s at Digit w c) ∙ sym e ∙ f in
       rw (q, literalStep) g
 
-  pub literal-whole : (b : Bool) (v : Fit) (r : Found) → RunLength s at Digit w → b ≡ pointed (drop (at + w) s) → b ≡ false
-      → v ≡ literalOf (take (at + w - at) (drop at s)) → r ≡ foundOf true v at w
-      → Gives s r (literalStep at (front isDigit (drop at s)) (behind isDigit (drop at s)))
+  pub literal-whole : (b : Bool) (r : Found) → RunLength s at Digit w → b ≡ pointed (drop (at + w) s) → b ≡ false
+      → Gives s r (powered true at (partOf s at (at + w - at)) (drop (at + w) s)) → Gives s r (literalStep at (front isDigit (drop at s)) (behind isDigit (drop at s)))
   unfolding literalStep
-  literal-whole b v r c e f g h =
+  literal-whole b r c e f g =
       let q : pointed (behind isDigit (drop at s)) ≡ false = ap pointed (run-behind s at Digit w c) ∙ sym e ∙ f in
-      rw (q, literalStep) (value-is s _ true v at w r (g ∙ ap literalOf (run-slice s at Digit w c)) (c .count) h)
+      rw (q, literalStep) (rw (run-slice s at Digit w c, ← run-behind s at Digit w c) at g)
 
 -- ---- strings
 

@@ -12,7 +12,7 @@ use Rattle.value.specs.declared.Fit.the-variants.{Fits, TooBig}
 use Rattle.value.specs.Literal.{isDigit}
 use Rattle.lexer.specs.Marks.{Word, atMost, atLeast}
 use Rattle.lexer.specs.Text as Text
-use Rattle.lexer.specs.Text.{Kind, mark, wrong, isBlank, inName, isCapital, noBrace, inString, among, step, pointed, valued, front, behind, stringStep, orderStep}
+use Rattle.lexer.specs.Text.{Kind, mark, wrong, isBlank, inName, isCapital, noBrace, inString, among, step, pointed, signLength, powerLength, powered, front, behind, stringStep, orderStep}
 use Rattle.lexer.specs.View.{kindOf, Within}
 use Rattle.lexer.specs.declared.Class.{Class}
 use Rattle.lexer.specs.declared.Class.the-variants.{Blank, Digit, InName, Capital, NoBrace, InString}
@@ -56,9 +56,20 @@ pub record PointAfter (s : List ℕ) (at w : ℕ) : Type 0 where
   pub point : pointed (drop (at + w) s) ≡ true
   pub inside : at + w < length s
 
+-- n bytes of a sign stand at `at`
+pub record SignLength (s : List ℕ) (at n : ℕ) : Type 0 where
+  pub count : n ≡ signLength (drop at s)
+  pub small : n ≤ 1
+
+-- n bytes of a power of ten stand from `at` on
+pub record PowerLength (s : List ℕ) (at n : ℕ) : Type 0 where
+  pub count : n ≡ powerLength (drop at s)
+  pub bound : n ≤ length s - at
+
 -- parts of the definition's `literalStep` and `stepAt`
 abbrev pub fractionStep : ℕ → List ℕ → Text.Step
-fractionStep p l = valued false p (front isDigit l ++ (code "." ∷ front isDigit (drop 1 (behind isDigit l))))
+fractionStep p l =
+    powered false p (front isDigit l ++ (code "." ∷ front isDigit (drop 1 (behind isDigit l)))) (behind isDigit (drop 1 (behind isDigit l)))
 
 abbrev pub otherStep : ℕ → ℕ → List ℕ → Text.Step
 otherStep p b t =

@@ -5,11 +5,11 @@ use mathlib.Core.Bool.{Bool, true, false, cond, _&&_, _||_, not}
 use mathlib.Core.List.{List, [], _∷_, _++_}
 use Prim.Native.Nat.{ℕ, zero, suc, _+_, _-_}
 use lib.Dec.{eqb, leb}
-use lib.ListN.{length, drop}
+use lib.ListN.{length, take, drop}
 use Rattle.rules.specs.declared.Refusal.{Refusal}
 use Rattle.rules.specs.declared.Refusal.the-variants.{LongText, StrangeByte, Misplaced, BadName, Unfit, Full}
 use Rattle.rules.specs.Characters.{code, space, tab, lineFeed, carriageReturn}
-use Rattle.rules.specs.Limits.{byteLimit, tokenLimit, nameLength, stringLength}
+use Rattle.rules.specs.Limits.{byteLimit, tokenLimit, nameLength, stringLength, powerDigits}
 use Rattle.value.specs.declared.Value.{Value}
 use Rattle.value.specs.declared.Fit.{Fit}
 use Rattle.value.specs.declared.Fit.the-variants.{Fits, TooBig}
@@ -95,7 +95,8 @@ orderStep p k [] = step (wrong StrangeByte) p 0
 orderStep p k (b ∷ t) = cond (eqb b (code "=")) (step (mark k) p 2) (step (wrong StrangeByte) p 0)
 
 -- ---- literals: digits, digits.digits or .digits; a point with no digit behind it starts no token (decision 1). A literal of
--- more than 18 digits is one token, 5 at its first byte (decision 3)
+-- more than 18 digits is one token, 5 at its first byte (decision 3). A power of ten may follow: `E`, an optional sign and one or
+-- two digits (decision 50)
 
 unfoldable pub literalKind : Bool → Fit → Kind
 literalKind w (Fits v) = literal w v
@@ -110,9 +111,28 @@ pointed [] = false
 pointed (b ∷ []) = false
 pointed (b ∷ c ∷ t) = eqb b (code ".") && isDigit c
 
+-- how many bytes at the front are a sign, at most one
+unfoldable pub signLength : List ℕ → ℕ
+signLength [] = 0
+signLength (b ∷ t) = cond (eqb b (code "+") || eqb b (code "-")) 1 0
+
+-- the bytes of `E`, a sign of s bytes and n digits: no power without a digit, and a third digit starts the next token
+unfoldable pub powerSize : ℕ → ℕ → ℕ
+powerSize s zero = 0
+powerSize s (suc n) = 1 + s + cond (leb (suc n) powerDigits) (suc n) powerDigits
+
+-- how many bytes at the front are `E`, an optional sign and one or two digits; 0 where these are not all there
+unfoldable pub powerLength : List ℕ → ℕ
+powerLength [] = 0
+powerLength (b ∷ t) = cond (eqb b (code "E")) (powerSize (signLength t) (length (front isDigit (drop (signLength t) t)))) 0
+
+-- the decimal l, which is digits only or not, and its power if one stands behind it: then it is no longer digits only
+unfoldable pub powered : Bool → ℕ → List ℕ → List ℕ → Step
+powered w p l r = valued (w && eqb (powerLength r) 0) p (l ++ take (powerLength r) r)
+
 -- the digits w at the front, and what stands behind them
 unfoldable pub literalStep : ℕ → List ℕ → List ℕ → Step
-literalStep p w r = elim (pointed r) [ true ↦ valued false p (w ++ (code "." ∷ front isDigit (drop 1 r))) | false ↦ valued true p w ]
+literalStep p w r = elim (pointed r) [ true ↦ powered false p (w ++ (code "." ∷ front isDigit (drop 1 r))) (behind isDigit (drop 1 r)) | false ↦ powered true p w r ]
 
 -- ---- a string is `{`, 1 to 60 bytes from 32 to 126 other than braces, `}`; another length, or no end, is misshapen at its `{`
 

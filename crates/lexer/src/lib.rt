@@ -3,13 +3,13 @@
 ghost use mathlib.Core.Path.{_≡_};
 ghost use mathlib.Core.Bool.{cond};
 ghost use mathlib.Core.List.{[]};
-ghost use Prim.Native.Nat.{_+_, _<_};
+ghost use Prim.Native.Nat.{_+_, _-_, _<_, _≤_};
 ghost use lib.ListN.{length, getD, drop};
 ghost use Rattle.value.specs.Literal.{isDigit};
 ghost use Rattle.lexer.specs.Marks.{capitalWords, smallWords};
-ghost use Rattle.lexer.specs.Text.{isBlank, isSmall, isCapital, inName, isSign, inString, noBrace, front, behind, sameBytes, pointed as pointedBytes, nameStep, wordStep, literalStep, stringStep, orderStep, stepAt, uncounted};
+ghost use Rattle.lexer.specs.Text.{isBlank, isSmall, isCapital, inName, isSign, inString, noBrace, front, behind, sameBytes, pointed as pointedBytes, powerSize, powered as poweredStep, nameStep, wordStep, literalStep, stringStep, orderStep, stepAt, uncounted};
 ghost use Rattle.lexer.specs.View.{partOf, Reads, startOf, Turns, kindOf};
-ghost use Rattle.lexer.specs.Inner.{classOf, RunLength, Gives, foundOf, PointAfter, fractionStep, otherStep, IsWord};
+ghost use Rattle.lexer.specs.Inner.{classOf, RunLength, Gives, foundOf, PointAfter, SignLength, PowerLength, fractionStep, otherStep, IsWord};
 
 pub mod marks;
 
@@ -160,7 +160,7 @@ fn between_braces<'a>(s: &'a [u8], at: usize) -> &'a [u8]
     &s[from..end]
 }
 
-fn same_bytes(a: &[u8], b: &[u8]) -> bool
+pub fn same_bytes(a: &[u8], b: &[u8]) -> bool
     ensures { λ r. ⌜ r ≡ sameBytes (now (a .entry)) (now (b .entry)) ⌝ }
 {
     if a.len() != b.len() {
@@ -302,6 +302,57 @@ fn pointed(s: &[u8], at: usize) -> bool
     (b == b'.') & digit
 }
 
+// How many bytes at `at` are a sign, at most one.
+fn sign_length(s: &[u8], at: usize) -> usize
+    ensures { λ r. ⌜ SignLength (now (s .entry)) at r ⌝ }
+{
+    let b = byte_at(s, at);
+    let sign = (b == b'+') | (b == b'-');
+    if sign { 1 } else { 0 }
+}
+
+// The bytes of `E`, the sign and n digits, of which at most two are taken; 0 without a digit.
+fn power_size(sign: usize, n: usize) -> usize
+    requires { ⌜ sign ≤ 1 ⌝ }
+    ensures { λ r. ⌜ r ≡ powerSize sign n ⌝ }
+{
+    if rules::POWER_DIGITS < n {
+        return 1 + sign + rules::POWER_DIGITS;
+    }
+    if n == 0 { 0 } else { 1 + sign + n }
+}
+
+// How many bytes from `at` on are `E`, an optional sign and one or two digits; 0 where these are not all there.
+fn power_length(s: &[u8], at: usize) -> usize
+    ensures { λ r. ⌜ PowerLength (now (s .entry)) at r ⌝ }
+{
+    if s.len() <= at {
+        return 0;
+    }
+    let b = byte_at(s, at);
+    if b != b'E' {
+        return 0;
+    }
+    let from = at + 1;
+    let sign = sign_length(s, from);
+    let digits = from + sign;
+    let n = run_length(s, digits, Class::Digit);
+    power_size(sign, n)
+}
+
+// The literal whose decimal stands from `at` to `end`, with its power of ten if one follows.
+fn powered(s: &[u8], at: usize, end: usize, whole: bool) -> Found
+    requires { ⌜ (at ≤ end) × (end ≤ length (now s)) ⌝ }
+    ensures { λ r. ⌜ Gives (now (s .entry)) r (poweredStep whole at (partOf (now (s .entry)) at (end - at)) (drop end (now (s .entry)))) ⌝ }
+{
+    let n = power_length(s, end);
+    let stop = end + n;
+    let v = value::literal(&s[at..stop]);
+    let size = stop - at;
+    let plain = whole & (n == 0);
+    valued(plain, v, at, size)
+}
+
 // w digits, a point, and digits after it.
 fn fraction(s: &[u8], at: usize, w: usize) -> Found
     requires { ⌜ PointAfter (now s) at w ⌝ }
@@ -310,12 +361,10 @@ fn fraction(s: &[u8], at: usize, w: usize) -> Found
     let from = at + w + 1;
     let f = run_length(s, from, Class::Digit);
     let end = from + f;
-    let v = value::literal(&s[at..end]);
-    let size = end - at;
-    valued(false, v, at, size)
+    powered(s, at, end, false)
 }
 
-// Digits, digits.digits or .digits.
+// Digits, digits.digits or .digits, and a power of ten if one follows.
 fn literal(s: &[u8], at: usize) -> Found
     requires { ⌜ at < length (now s) ⌝ }
     ensures { λ r. ⌜ Gives (now (s .entry)) r (literalStep at (front isDigit (drop at (now (s .entry)))) (behind isDigit (drop at (now (s .entry))))) ⌝ }
@@ -326,8 +375,7 @@ fn literal(s: &[u8], at: usize) -> Found
     if point {
         return fraction(s, at, w);
     }
-    let v = value::literal(&s[at..end]);
-    valued(true, v, at, w)
+    powered(s, at, end, true)
 }
 
 // What stands between braces.

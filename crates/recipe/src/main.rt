@@ -7,7 +7,6 @@ use libc::STDIN_FILENO;
 use libc::STDOUT_FILENO;
 ghost use mathlib.Core.Path.{_≡_};
 ghost use lib.ListN.{length};
-ghost use Rattle.lexer.specs.Text.{sameBytes};
 ghost use Rattle.recipe.specs.Printed.{Tells, Prints};
 ghost use Rattle.recipe.specs.Asked.{jobOf};
 
@@ -19,29 +18,13 @@ enum Job {
 
 // ---- the program's word
 
-fn same(a: &[u8], b: &[u8]) -> bool
-    ensures { λ r. ⌜ r ≡ sameBytes (now (a .entry)) (now (b .entry)) ⌝ }
-{
-    if a.len() != b.len() {
-        return false;
-    }
-    let mut i = 0;
-    while i < a.len() {
-        if a[i] != b[i] {
-            return false;
-        }
-        i += 1;
-    }
-    true
-}
-
 fn named(word: &[u8]) -> Job
     ensures { λ r. ⌜ r ≡ jobOf (now (word .entry)) ⌝ }
 {
-    if same(word, b"--mps") {
+    if lexer::same_bytes(word, b"--mps") {
         return Job::Of(Entry::Export);
     }
-    if same(word, b"--read-mps") {
+    if lexer::same_bytes(word, b"--read-mps") {
         return Job::Of(Entry::Read);
     }
     Job::Unknown

@@ -21,6 +21,10 @@ stringLength = 60
 unfoldable pub digitLimit : ℕ
 digitLimit = 18
 
+-- a power of ten of at most two digits
+unfoldable pub powerDigits : ℕ
+powerDigits = 2
+
 -- a value's m is at most 999,999,999 either side of zero, its s at most 6
 unfoldable pub mantissaLimit : ℕ
 mantissaLimit = 999999999

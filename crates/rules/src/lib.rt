@@ -28,8 +28,10 @@ pub const NAME_LENGTH: usize = 15;
 
 pub const STRING_LENGTH: usize = 60;
 
-// A literal's digits; a value's mantissa, either side of zero, and its scale.
+// A literal's digits before its power of ten, and those of the power; a value's mantissa, either side of zero, and its scale.
 pub const DIGIT_LIMIT: usize = 18;
+
+pub const POWER_DIGITS: usize = 2;
 
 pub const MANTISSA_LIMIT: u64 = 999999999;
 

@@ -15,7 +15,7 @@ use Rattle.value.specs.declared.Fit.the-variants.{Fits, TooBig}
 use Rattle.rational.specs.Fraction.{Fraction, _≈_}
 use Rattle.value.specs.Decimal.{Valid, tenths, frac, withSign, Lowest, at, none, seek, choose, ten, fitOf}
 use Rattle.value.proofs.Integers.{natAbs-mul, withSign-scale, withSign-own, withSign-size, withSign-cross}
-use Rattle.value.proofs.Scales.{Sought, sought-first, sought-next, fit-found, choose-fits, divides, ten-pos}
+use Rattle.value.proofs.Scales.{Sought, sought-first, sought-next, fit-found, fit-none, choose-fits, choose-too-big, divides, ten-pos}
 
 -- x / D over d, where it can be written so
 over : (x D d : ℕ) → x * d % D ≡ 0 → x * d / D * D ≡ x * d
@@ -156,12 +156,13 @@ not-before x k e =
     let b : 10 ^ suc k ≡ 10 ^ k * 10 = pow-suc 10 k in
     ap (λ (n : ℕ). n % 10) (sym a ∙ ap (λ (n : ℕ). q * n) b ∙ sym (mul-assoc q (10 ^ k) 10)) ∙ mul-mod-left (q * 10 ^ k) 10
 
-sought-up : (x s : ℕ) → (0 < s → x % 10 ≡ 0 → ⊥) → s ≤ 6 → (i : ℕ) → i ≤ s → Sought x s i
-sought-up x s f h zero g = sought-first x s
-sought-up x s f h (suc i) g =
+-- no place before s serves, of the seven
+sought-up : (x s : ℕ) → (0 < s → x % 10 ≡ 0 → ⊥) → (i : ℕ) → i ≤ s → i ≤ 7 → Sought x s i
+sought-up x s f zero g h = sought-first x s
+sought-up x s f (suc i) g h =
     let one : i + 1 ≡ suc i = omega arith in
     let k : s - i ≡ suc (s - suc i) = omega arith in
-    rw one at (sought-next x s i (10 ^ (s - i)) (sought-up x s f h i (omega arith)) (omega arith) refl (λ e. f (omega arith) (not-before x (s - suc i) (rw (← k) e))))
+    rw one at (sought-next x s i (10 ^ (s - i)) (sought-up x s f i (omega arith) (omega arith)) (omega arith) refl (λ e. f (omega arith) (not-before x (s - suc i) (rw (← k) e))))
 
 pub fitOf-own : (v : Value) → Valid v → fitOf (frac v) ≡ Fits v
 unfolding frac mantissaLimit scaleLimit
@@ -170,7 +171,7 @@ fitOf-own v h =
     let none-left : v .s - v .s ≡ 0 = omega arith in
     let power : 1 ≡ 10 ^ (v .s - v .s) = rw none-left in
     sym
-    (fit-found (v .m) x (v .s) refl (v .s) 1 (Fits v) (sought-up x (v .s) (h .least) (h .places) (v .s) (omega arith)) (h .places) power (mod-one x)
+    (fit-found (v .m) x (v .s) refl (v .s) 1 (Fits v) (sought-up x (v .s) (h .least) (v .s) (omega arith) (omega (arith, h .places))) (h .places) power (mod-one x)
     (rw (div-one x) (ap (λ (z : ℤ). Fits (record { m = z; s = v .s })) (sym (withSign-own (v .m))) ∙ choose-fits (v .m) x (v .s) (h .small))))
 
 pub fitOf-≈ : (q : Fraction) (v : Value) → Valid v → frac v ≈ q → fitOf q ≡ Fits v
@@ -183,3 +184,11 @@ fitOf-refused q v e h s = let p = fitOf-≈ q v h s in let w : _≡_ {A = ℕ} 0
 -- a number has one value
 pub unique : (v w : Value) → Valid v → Valid w → frac v ≈ frac w → v ≡ w
 unique v w hv hw e = let p = fitOf-≈ (frac w) v hv e in let q = fitOf-own w hw in cc
+
+-- ---- what never fits: more than six places of which the last is not 0, and a whole number that is too large
+
+pub fitOf-deep : (x s : ℕ) → 6 < s → (x % 10 ≡ 0 → ⊥) → TooBig ≡ fitOf (tenths (pos x) s)
+fitOf-deep x s h f = fit-none (pos x) x s refl 7 (sought-up x s (λ _. f) 7 (omega arith) (omega arith)) (omega arith)
+
+pub fitOf-large : (x : ℕ) → 999999999 < x → TooBig ≡ fitOf (tenths (pos x) 0)
+fitOf-large x h = fit-found (pos x) x 0 refl 0 1 TooBig (sought-first x 0) (omega arith) refl (mod-one x) (rw (div-one x) (choose-too-big (pos x) x 0 h))

@@ -8,6 +8,7 @@ pub mod Ranges
 pub mod Operations
 pub mod Gathering
 pub mod Reading
+pub mod Powers
 pub mod Writing
 pub mod ReadBack
 pub mod Cases

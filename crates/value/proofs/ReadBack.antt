@@ -18,11 +18,12 @@ use Rattle.value.specs.declared.Value.{Value}
 use Rattle.value.specs.declared.Fit.{Fit}
 use Rattle.value.specs.declared.Fit.the-variants.{Fits, TooBig}
 use Rattle.value.specs.Decimal.{Valid, tenths, frac, fitOf, negate}
-use Rattle.value.specs.Literal.{isDigit, allDigits, digitOf, numberFrom, before, after, isLiteral, literalOf}
+use Rattle.value.specs.Literal.{isDigit, allDigits, digitOf, numberFrom, before, after, isDecimal, decimalNumber, literalOf}
 use Rattle.value.specs.Printed.{digits, widthFrom, natural, minusSign, places, printed}
 use Rattle.value.proofs.Scales.{ten-pos}
 use Rattle.value.proofs.Fitting.{fitOf-own}
-use Rattle.value.proofs.Reading.{digit-from, digit-test, digit-value, number-append}
+use Rattle.value.proofs.Reading.{digit-test, digit-value, other-digits, not-point, not-minus, before-all, after-all, number-append, literal-empty}
+use Rattle.value.proofs.Powers.{literal-decimal}
 use Rattle.value.proofs.Writing.{length-digits, digits-none, places-none, places-some, sign-short}
 
 -- ---- reading: a `-` and a literal, or a literal
@@ -34,6 +35,11 @@ opposite TooBig = TooBig
 unfoldable pub readBack : List ℕ → Fit
 readBack [] = literalOf []
 readBack (b ∷ t) = cond (eqb b (code "-")) (opposite (literalOf t)) (literalOf (b ∷ t))
+
+-- what is empty is no literal
+pub read-empty : readBack [] ≡ TooBig
+unfolding readBack
+read-empty = sym (literal-empty [] refl)
 
 -- ---- the digits of a number
 
@@ -99,25 +105,6 @@ width-small (suc k) w n b h g = go (width-small k (suc w) n b) (leb (10 ^ w) n) 
 
 -- ---- a text in two parts: digits before and after a point
 
-module _ (x : ℕ) (a : List ℕ) (e : allDigits (x ∷ a) ≡ true) where
-  first-digit : isDigit x ≡ true
-  unfolding allDigits
-  first-digit = go (isDigit x) refl e
-    where
-      go : (t : Bool) → isDigit x ≡ t → (elim t as (λ _. Bool) [ true ↦ allDigits a | false ↦ false ]) ≡ true → isDigit x ≡ true
-      go true p h = p
-      go false p h = absurd (let w : _≡_ {A = ℕ} 0 1 = cc in omega arith)
-
-  other-digits : allDigits a ≡ true
-  unfolding allDigits
-  other-digits = rw (first-digit, allDigits) at e
-
-  not-point : x ≡ 46 → ⊥
-  not-point p = omega (arith, digit-from x first-digit)
-
-  not-minus : x ≡ 45 → ⊥
-  not-minus p = omega (arith, digit-from x first-digit)
-
 before-digits : (a b : List ℕ) → allDigits a ≡ true → before (a ++ 46 ∷ b) ≡ a
 unfolding before
 before-digits [] b e = refl
@@ -128,27 +115,20 @@ unfolding after
 after-digits [] b e = refl
 after-digits (x ∷ a) b e = rw (ne-eqb x 46 (not-point x a e), after) (after-digits a b (other-digits x a e))
 
-before-all : (a : List ℕ) → allDigits a ≡ true → before a ≡ a
-unfolding before
-before-all [] e = refl
-before-all (x ∷ a) e = rw (ne-eqb x 46 (not-point x a e), before) (ap (λ (l : List ℕ). x ∷ l) (before-all a (other-digits x a e)))
-
-after-all : (a : List ℕ) → allDigits a ≡ true → after a ≡ []
-unfolding after
-after-all [] e = refl
-after-all (x ∷ a) e = rw (ne-eqb x 46 (not-point x a e), after) (after-all a (other-digits x a e))
-
 module _ (a b : List ℕ) (ea : allDigits a ≡ true) (eb : allDigits b ≡ true) (h : length a + length b ≤ 18) where
   -- the value of a literal without a point, and with one
   pub literal-digits : 0 < length a → b ≡ [] → literalOf a ≡ fitOf (tenths (pos (numberFrom 0 (a ++ b))) (length b))
-  unfolding literalOf isLiteral allDigits digitLimit
+  unfolding isDecimal decimalNumber allDigits digitLimit
   literal-digits g n =
-      rw (n, before-all a ea, after-all a ea, ea, eq-eqb (length a) (length a) refl, le-leb 1 (length a) g, le-leb (length a + 0) 18 (omega arith))
+      literal-decimal a (rw (before-all a ea, after-all a ea, ea, eq-eqb (length a) (length a) refl, le-leb 1 (length a) g, le-leb (length a + 0) 18 (omega arith)))
+      ∙ rw (n, before-all a ea, after-all a ea)
 
   pub literal-point : 0 < length b → literalOf (a ++ 46 ∷ b) ≡ fitOf (tenths (pos (numberFrom 0 (a ++ b))) (length b))
-  unfolding literalOf isLiteral digitLimit
+  unfolding isDecimal decimalNumber digitLimit
   literal-point g =
-      rw (before-digits a b ea, after-digits a b ea, ea, eb, ne-eqb (length (a ++ 46 ∷ b)) (length a) (λ n. omega (arith, length-append a (46 ∷ b))), le-leb 1 (length b) g, le-leb (length a + length b) 18 h)
+      literal-decimal (a ++ 46 ∷ b)
+      (rw (before-digits a b ea, after-digits a b ea, ea, eb, ne-eqb (length (a ++ 46 ∷ b)) (length a) (λ n. omega (arith, length-append a (46 ∷ b))), le-leb 1 (length b) g, le-leb (length a + length b) 18 h))
+      ∙ rw (before-digits a b ea, after-digits a b ea)
 
 read-plain : (a b : List ℕ) → allDigits a ≡ true → 0 < length a → readBack (a ++ b) ≡ literalOf (a ++ b)
 unfolding readBack

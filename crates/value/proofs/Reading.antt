@@ -1,7 +1,8 @@
--- Laws of literals (`specs/Literal.antt`).
+-- Laws of digits and decimals (`specs/Literal.antt`); `Powers` has those of powers of ten.
 use mathlib.Core.Path.{_≡_, refl, _∙_, ap, subst}
 use mathlib.Core.Bool.{Bool, true, false, cond, _&&_}
 use mathlib.Core.List.{List, [], _∷_, _++_, append-nil}
+use mathlib.Core.Option.{Option, none, some}
 use Prim.Native.Nat.{ℕ, suc, _+_, _-_, _*_, _^_, _<_, _≤_}
 use native.Mathlib.Omega.{arith}
 use native.Mathlib.Nat.{mul-assoc, mul-comm, mul-left-comm, mul-le-mul-right, pow-suc, one-le-pow, pow-le-pow-right, le-mul-of-pos-right}
@@ -10,12 +11,13 @@ use borrow.Author.Tests.{le-leb, lt-leb, leb-true, eq-eqb, ne-eqb}
 use lib.Dec.{leb, eqb, lit<}
 use lib.ListN.{length, getD, take, drop, length-drop, drop-of-length-le}
 use lib.Seq.{drop-cons, take-all, drop-length}
-use lib.IntN.{pos}
-use Rattle.rules.specs.Limits.{digitLimit}
+use lib.IntN.{ℤ, pos, negsuc, natAbs}
+use Rattle.rules.specs.Limits.{digitLimit, mantissaLimit}
+use Rattle.rational.specs.Fraction.{Fraction, _⊗_, integer}
 use Rattle.value.specs.declared.Fit.the-variants.{Fits, TooBig}
 use Rattle.value.specs.declared.Value.{Value}
-use Rattle.value.specs.Decimal.{Valid, tenths, fitOf}
-use Rattle.value.specs.Literal.{isDigit, allDigits, digitOf, numberFrom, before, after, isLiteral, literalOf}
+use Rattle.value.specs.Decimal.{Valid, Lowest, at, none as nowhere, withSign, choose, tenths, fitOf}
+use Rattle.value.specs.Literal.{isDigit, allDigits, digitOf, numberFrom, before, after, isDecimal, decimalNumber, decimalOf, significand, exponent, powerOf, scaledBy, raisedBy, literalOf}
 use Rattle.value.specs.Parts.{partsValue}
 use Rattle.value.proofs.Fitting.{fitOf-valid}
 use Rattle.value.proofs.Ranges.{and-true, and-false}
@@ -76,6 +78,29 @@ pub all-end : (t : List ℕ) (i : ℕ) → length t ≤ i → allDigits (drop i 
 unfolding allDigits
 all-end t i h = rw (drop-of-length-le t h)
 
+-- the first of them, and the others
+module _ (x : ℕ) (a : List ℕ) (e : allDigits (x ∷ a) ≡ true) where
+  pub first-digit : isDigit x ≡ true
+  unfolding allDigits
+  first-digit = go (isDigit x) refl e
+    where
+      go : (t : Bool) → isDigit x ≡ t → (elim t as (λ _. Bool) [ true ↦ allDigits a | false ↦ false ]) ≡ true → isDigit x ≡ true
+      go true p h = p
+      go false p h = absurd (let w : _≡_ {A = ℕ} 0 1 = cc in omega arith)
+
+  pub other-digits : allDigits a ≡ true
+  unfolding allDigits
+  other-digits = rw (first-digit, allDigits) at e
+
+  pub not-point : x ≡ 46 → ⊥
+  not-point p = omega (arith, digit-from x first-digit)
+
+  pub not-minus : x ≡ 45 → ⊥
+  not-minus p = omega (arith, digit-from x first-digit)
+
+  pub not-letter : x ≡ 69 → ⊥
+  not-letter p = omega (arith, digit-to x first-digit)
+
 pub number-next : (t : List ℕ) (x i : ℕ) → i < length t → numberFrom x (drop i t) ≡ numberFrom (x * 10 + digitOf (getD t i 0)) (drop (i + 1) t)
 unfolding numberFrom
 number-next t x i h = rw (add-one, drop-cons t i 0 h)
@@ -100,7 +125,7 @@ room-next x d k limit h g =
 pub room-small : (x k limit : ℕ) → (x + 1) * 10 ^ k ≤ limit → x < limit
 room-small x k limit h = omega (arith, le-mul-of-pos-right (x + 1) (one-le-pow k 10 (lit< tt)))
 
-number-room : (m : ℕ) (t : List ℕ) (k limit : ℕ) → (m + 1) * 10 ^ (length t + k) ≤ limit → (numberFrom m t + 1) * 10 ^ k ≤ limit
+pub number-room : (m : ℕ) (t : List ℕ) (k limit : ℕ) → (m + 1) * 10 ^ (length t + k) ≤ limit → (numberFrom m t + 1) * 10 ^ k ≤ limit
 unfolding numberFrom
 number-room m [] k limit h = let e : 0 + k ≡ k = omega arith in subst (λ (i : ℕ). (m + 1) * 10 ^ i ≤ limit) e h
 number-room m (b ∷ t) k limit h =
@@ -123,26 +148,26 @@ module _ (a b : List ℕ) (ha : length a ≤ 18) (hb : length b ≤ 18 - length 
       omega arith
 
   -- the value of two parts, from what their digits are
-  pub parts-value : (x : ℕ) → x ≡ numberFrom m b → true ≡ allDigits a → true ≡ allDigits b → fitOf (tenths (pos x) (length b)) ≡ partsValue a b
+  pub parts-value : (j : ℤ) (x : ℕ) → x ≡ numberFrom m b → true ≡ allDigits a → true ≡ allDigits b → fitOf (scaledBy j (tenths (pos x) (length b))) ≡ partsValue j a b
   unfolding partsValue digitLimit
-  parts-value x f p q = rw (le-leb (length a + length b) 18 (omega arith), ← p, ← q, number-append 0 a b, ← e, ← f)
+  parts-value j x f p q = rw (le-leb (length a + length b) 18 (omega arith), ← p, ← q, number-append 0 a b, ← e, ← f)
 
-module _ (a b : List ℕ) where
-  pub parts-long : 18 < length a → TooBig ≡ partsValue a b
+module _ (e : ℤ) (a b : List ℕ) where
+  pub parts-long : 18 < length a → TooBig ≡ partsValue e a b
   unfolding partsValue digitLimit
   parts-long h = rw (lt-leb (length a + length b) 18 (omega arith), and-false)
 
-  pub parts-longer : length a ≤ 18 → 18 - length a < length b → TooBig ≡ partsValue a b
+  pub parts-longer : length a ≤ 18 → 18 - length a < length b → TooBig ≡ partsValue e a b
   unfolding partsValue digitLimit
   parts-longer h g = rw (lt-leb (length a + length b) 18 (omega arith), and-false)
 
-  pub parts-strange : false ≡ allDigits a → TooBig ≡ partsValue a b
+  pub parts-strange : false ≡ allDigits a → TooBig ≡ partsValue e a b
   unfolding partsValue
-  parts-strange e = rw (← e)
+  parts-strange h = rw (← h)
 
-  pub parts-strange-after : false ≡ allDigits b → TooBig ≡ partsValue a b
+  pub parts-strange-after : false ≡ allDigits b → TooBig ≡ partsValue e a b
   unfolding partsValue
-  parts-strange-after e = rw (← e, and-false)
+  parts-strange-after h = rw (← h, and-false)
 
 -- ---- the first point
 
@@ -176,6 +201,17 @@ after-drop (b ∷ t) = go (after-drop t) (eqb b 46)
     go r true = refl
     go r false = r
 
+-- digits have none
+pub before-all : (a : List ℕ) → allDigits a ≡ true → before a ≡ a
+unfolding before
+before-all [] e = refl
+before-all (x ∷ a) e = rw (ne-eqb x 46 (not-point x a e), before) (ap (λ (l : List ℕ). x ∷ l) (before-all a (other-digits x a e)))
+
+pub after-all : (a : List ℕ) → allDigits a ≡ true → after a ≡ []
+unfolding after
+after-all [] e = refl
+after-all (x ∷ a) e = rw (ne-eqb x 46 (not-point x a e), after) (after-all a (other-digits x a e))
+
 -- ---- parts of t: from q to its end, and from its end
 
 pub part-rest : (t : List ℕ) (q : ℕ) → take (length t - q) (drop q t) ≡ drop q t
@@ -184,14 +220,14 @@ part-rest t q = take-all (length t - q) (drop q t) (omega (arith, length-drop q 
 pub part-none : (t : List ℕ) → take (length t - length t) (drop (length t) t) ≡ []
 part-none t = part-rest t (length t) ∙ drop-length t
 
--- ---- the outcomes, by the place p of the point
+-- ---- a decimal times the power e: the outcomes, by the place p of the point
 
-pub literal-empty : (t : List ℕ) → length t ≡ 0 → TooBig ≡ literalOf t
-unfolding literalOf isLiteral before after allDigits
-literal-empty [] e = refl
-literal-empty (b ∷ t) e = absurd (omega arith)
+pub raised-empty : (e : ℤ) (t : List ℕ) → length t ≡ 0 → TooBig ≡ raisedBy (some e) t
+unfolding raisedBy isDecimal before after allDigits
+raised-empty e [] h = refl
+raised-empty e (b ∷ t) h = absurd (omega arith)
 
-module _ (t : List ℕ) (p : ℕ) (at : p ≡ length (before t)) where
+module _ (e : ℤ) (t : List ℕ) (p : ℕ) (at : p ≡ length (before t)) where
   is-before : before t ≡ take p t
   is-before = rw at (before-take t)
 
@@ -202,27 +238,63 @@ module _ (t : List ℕ) (p : ℕ) (at : p ≡ length (before t)) where
   long-after = ap length is-after ∙ length-drop (p + 1) t
 
   -- no point, a point at the end, a point elsewhere
-  pub literal-whole : 0 < length t → length t ≤ p → partsValue t [] ≡ literalOf t
-  unfolding partsValue literalOf isLiteral
-  literal-whole g h =
+  pub raised-whole : 0 < length t → length t ≤ p → partsValue e t [] ≡ raisedBy (some e) t
+  unfolding partsValue raisedBy isDecimal decimalNumber
+  raised-whole g h =
       rw (is-before ∙ take-all p t h, is-after ∙ drop-of-length-le t {i = p + 1} (omega arith), append-nil t, eq-eqb (length t) (length t) refl, le-leb 1 (length t) g, and-true)
 
-  pub literal-ends : p < length t → length t ≤ p + 1 → TooBig ≡ literalOf t
-  unfolding literalOf isLiteral
-  literal-ends g h =
+  pub raised-ends : p < length t → length t ≤ p + 1 → TooBig ≡ raisedBy (some e) t
+  unfolding raisedBy isDecimal
+  raised-ends g h =
       rw (ne-eqb (length t) (length (before t)) (λ e. omega (arith, at)), lt-leb 1 (length (after t)) (omega (arith, long-after)), and-false)
 
-  pub literal-parts : p + 1 < length t → partsValue (take p t) (drop (p + 1) t) ≡ literalOf t
-  unfolding partsValue literalOf isLiteral
-  literal-parts h =
+  pub raised-parts : p + 1 < length t → partsValue e (take p t) (drop (p + 1) t) ≡ raisedBy (some e) t
+  unfolding partsValue raisedBy isDecimal decimalNumber
+  raised-parts h =
       rw (ne-eqb (length t) (length (before t)) (λ e. omega (arith, at)), le-leb 1 (length (after t)) (omega (arith, long-after)), and-true, is-before, is-after)
 
--- ---- what is read is a value
+-- ---- what is read is a value, and not negative
+
+record Good (v : Value) : Type 0 where
+  valid : Valid v
+  plain : v .m ≡ pos (natAbs (v .m))
+
+choose-plain : (z : ℤ) (n : ℕ) (l : Lowest) (v : Value) → z ≡ pos n → choose z l ≡ Fits v → v .m ≡ pos (natAbs (v .m))
+unfolding choose withSign
+choose-plain z n nowhere v p e = absurd (let w : _≡_ {A = ℕ} 0 1 = cc in omega arith)
+choose-plain z n (at m i) v p e = go (leb m mantissaLimit) (rw p at e)
+  where
+    go : (u : Bool) → cond u (Fits (record { m = pos m; s = i })) TooBig ≡ Fits v → v .m ≡ pos (natAbs (v .m))
+    go true e = let q : _≡_ {A = Value} (record { m = pos m; s = i }) v = cc in subst (λ (x : Value). x .m ≡ pos (natAbs (x .m))) q refl
+    go false e = absurd (let w : _≡_ {A = ℕ} 0 1 = cc in omega arith)
+
+-- where a test holds, the value of a fraction that is not negative
+tested-good : (u : Bool) (n : ℕ) (q : Fraction) (v : Value) → q .num ≡ pos n → cond u (fitOf q) TooBig ≡ Fits v → Good v
+unfolding fitOf
+tested-good true n q v e h = record { valid = fitOf-valid q v h; plain = choose-plain (q .num) n _ v e h }
+tested-good false n q v e h = absurd (let w : _≡_ {A = ℕ} 0 1 = cc in omega arith)
+
+raised-good : (o : Option ℤ) (t : List ℕ) (v : Value) → raisedBy o t ≡ Fits v → Good v
+unfolding raisedBy scaledBy decimalNumber tenths integer _⊗_
+raised-good none t v e = absurd (let w : _≡_ {A = ℕ} 0 1 = cc in omega arith)
+raised-good (some (pos k)) t v e = tested-good (isDecimal t) _ _ v refl e
+raised-good (some (negsuc k)) t v e = tested-good (isDecimal t) _ _ v refl e
+
+literal-good : (t : List ℕ) (v : Value) → literalOf t ≡ Fits v → Good v
+unfolding literalOf decimalOf decimalNumber tenths
+literal-good t v e = go (eqb (length (significand t)) (length t)) e
+  where
+    go : (u : Bool) → cond u (decimalOf t) (raisedBy (powerOf (exponent t)) (significand t)) ≡ Fits v → Good v
+    go true h = tested-good (isDecimal t) _ _ v refl h
+    go false h = raised-good (powerOf (exponent t)) (significand t) v h
+
+pub literal-empty : (t : List ℕ) → length t ≡ 0 → TooBig ≡ literalOf t
+unfolding literalOf significand decimalOf isDecimal before after allDigits
+literal-empty [] e = refl
+literal-empty (b ∷ t) e = absurd (omega arith)
 
 pub literal-valid : (t : List ℕ) (v : Value) → literalOf t ≡ Fits v → Valid v
-unfolding literalOf
-literal-valid t v e = go (isLiteral t && leb (length (before t) + length (after t)) digitLimit) e
-  where
-    go : (u : Bool) → cond u (fitOf (tenths (pos (numberFrom 0 (before t ++ after t))) (length (after t)))) TooBig ≡ Fits v → Valid v
-    go true h = fitOf-valid _ v h
-    go false h = absurd (let w : _≡_ {A = ℕ} 0 1 = cc in omega arith)
+literal-valid t v e = literal-good t v e .valid
+
+pub literal-plain : (t : List ℕ) (v : Value) → literalOf t ≡ Fits v → v .m ≡ pos (natAbs (v .m))
+literal-plain t v e = literal-good t v e .plain

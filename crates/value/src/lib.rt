@@ -3,6 +3,7 @@
 ghost use mathlib.Core.Path.{_≡_};
 ghost use mathlib.Core.Bool.{true, false, cond, _&&_};
 ghost use mathlib.Core.List.{[], _∷_};
+ghost use mathlib.Core.Option.{some};
 ghost use Prim.Native.Nat.{_+_, _*_, _/_, _%_, _^_, _<_, _≤_};
 ghost use lib.ListN.{length};
 ghost use lib.IntN.{pos, natAbs, _+ℤ_, _-ℤ_, _*ℤ_};
@@ -10,9 +11,9 @@ ghost use Rattle.rules.specs.Characters.{code};
 ghost use Rattle.rules.specs.Limits.{mantissaLimit, scaleLimit};
 ghost use Rattle.value.specs.Decimal.{tenths, withSign, at, choose, fitOf, inRange, ifInRange, sumOf, productOf, negate, isAtMost, isZero, wholeOf, ofWhole};
 ghost use Rattle.value.specs.Gathering.{millionths, ofMillionths, isCount, Gathered};
-ghost use Rattle.value.specs.Literal.{isDigit, allDigits, digitOf, numberFrom, before, literalOf};
+ghost use Rattle.value.specs.Literal.{isDigit, allDigits, digitOf, numberFrom, before, significand, powerBy, powerOf, scaledBy, raisedBy, literalOf};
 ghost use Rattle.value.specs.Printed.{widthFrom, digits, minusSign, places, printed, shown, Written};
-ghost use Rattle.value.specs.Parts.{partsValue};
+ghost use Rattle.value.specs.Parts.{partsValue, signedPower, IsPower};
 
 pub struct Value {
     pub m: i64,
@@ -29,6 +30,12 @@ pub enum Fit {
 pub enum Whole {
     Number(i64),
     NotWhole,
+}
+
+// The power of ten of a literal, whether it is behind a minus and its digits, or that there is none.
+enum Exponent {
+    Of(bool, usize),
+    Nothing,
 }
 
 // ---- powers of ten
@@ -284,6 +291,9 @@ pub fn gather(sums: &mut [i64], k: usize, v: Value) -> bool
 
 // ---- reading a literal
 
+// A power of ten above this times a whole number that is not 0 does not fit.
+const LARGEST_POWER: usize = 8;
+
 fn is_digit(b: u8) -> bool
     ensures { λ r. ⌜ r ≡ isDigit b ⌝ }
 {
@@ -343,9 +353,57 @@ fn point(t: &[u8]) -> usize
     i
 }
 
-// The value of the digits a before the point and b after it.
-fn read_parts(a: &[u8], b: &[u8]) -> Fit
-    ensures { λ r. ⌜ r ≡ partsValue (now (a .entry)) (now (b .entry)) ⌝ }
+// x / 10^s: a spare zero of x is taken off where the power is too large for `normalise`.
+fn lowered(x: u64, s: usize) -> Fit
+    requires { ⌜ x < 2 ^ 63 ⌝ }
+    ensures { λ r. ⌜ r ≡ fitOf (tenths (pos x) s) ⌝ }
+{
+    let mut y = x;
+    let mut i = s;
+    while rules::DIGIT_LIMIT < i {
+        if y % 10 != 0 {
+            return Fit::TooBig;
+        }
+        y = y / 10;
+        i = i - 1;
+    }
+    normalise(y as i64, i)
+}
+
+// x * 10^k
+fn lifted(x: u64, k: usize) -> Fit
+    ensures { λ r. ⌜ r ≡ fitOf (tenths (pos (x * 10 ^ k)) 0) ⌝ }
+{
+    if x == 0 {
+        return normalise(0, 0);
+    }
+    if rules::MANTISSA_LIMIT < x {
+        return Fit::TooBig;
+    }
+    if LARGEST_POWER < k {
+        return Fit::TooBig;
+    }
+    normalise((x * power(k)) as i64, 0)
+}
+
+// x / 10^f times a power of ten.
+fn raised(x: u64, f: usize, minus: bool, k: usize) -> Fit
+    requires { ⌜ (x < 2 ^ 63) × (f < 19) × (k < 100) ⌝ }
+    ensures { λ r. ⌜ r ≡ fitOf (scaledBy (signedPower minus k) (tenths (pos x) f)) ⌝ }
+{
+    if minus {
+        return lowered(x, f + k);
+    }
+    if k <= f {
+        return normalise(x as i64, f - k);
+    }
+    lifted(x, k - f)
+}
+
+// The value of the digits a before the point and b after it, times a power of ten.
+fn read_parts(a: &[u8], b: &[u8], minus: bool, k: usize) -> Fit
+    requires { ⌜ k < 100 ⌝ }
+    ensures { λ r. ⌜ r ≡ partsValue (signedPower minus k) (now (a .entry)) (now (b .entry)) ⌝ }
 {
     let w = a.len();
     let f = b.len();
@@ -363,12 +421,13 @@ fn read_parts(a: &[u8], b: &[u8]) -> Fit
     }
     let m = number(a, 0);
     let x = number(b, m);
-    normalise(x as i64, f)
+    raised(x, f, minus, k)
 }
 
-// The value of a literal: digits, digits.digits or .digits, at most 18 digits. Too big if t is none, or doesn't fit.
-pub fn literal(t: &[u8]) -> Fit
-    ensures { λ r. ⌜ r ≡ literalOf (now (t .entry)) ⌝ }
+// The value of digits, digits.digits or .digits, at most 18 digits, times a power of ten.
+fn decimal(t: &[u8], minus: bool, k: usize) -> Fit
+    requires { ⌜ k < 100 ⌝ }
+    ensures { λ r. ⌜ r ≡ raisedBy (some (signedPower minus k)) (now (t .entry)) ⌝ }
 {
     let n = t.len();
     if n == 0 {
@@ -376,13 +435,79 @@ pub fn literal(t: &[u8]) -> Fit
     }
     let p = point(t);
     if n <= p {
-        return read_parts(t, &t[n..]);
+        return read_parts(t, &t[n..], minus, k);
     }
     let q = p + 1;
     if n <= q {
         return Fit::TooBig;
     }
-    read_parts(&t[..p], &t[q..])
+    read_parts(&t[..p], &t[q..], minus, k)
+}
+
+// The power that one or two digits write.
+fn power_by(minus: bool, t: &[u8]) -> Exponent
+    ensures { λ r. ⌜ IsPower (powerBy minus (now (t .entry))) r ⌝ }
+{
+    let n = t.len();
+    if n == 0 {
+        return Exponent::Nothing;
+    }
+    if rules::POWER_DIGITS < n {
+        return Exponent::Nothing;
+    }
+    if !all_digits(t) {
+        return Exponent::Nothing;
+    }
+    let k = number(t, 0);
+    Exponent::Of(minus, k as usize)
+}
+
+// The power that an optional sign and one or two digits write.
+fn power_of(t: &[u8]) -> Exponent
+    ensures { λ r. ⌜ IsPower (powerOf (now (t .entry))) r ⌝ }
+{
+    if t.len() == 0 {
+        return Exponent::Nothing;
+    }
+    let b = t[0];
+    if b == b'-' {
+        return power_by(true, &t[1..]);
+    }
+    if b == b'+' {
+        return power_by(false, &t[1..]);
+    }
+    power_by(false, t)
+}
+
+// Where the first `E` is, or the end.
+fn letter(t: &[u8]) -> usize
+    ensures { λ r. ⌜ r ≡ length (significand (now (t .entry))) ⌝ }
+{
+    let mut i = 0;
+    while i < t.len() {
+        if t[i] == b'E' {
+            return i;
+        }
+        i = i + 1;
+    }
+    i
+}
+
+// The value of a literal: a decimal of at most 18 digits, which may be followed by `E`, an optional sign and one or two digits. Too
+// big if t is none, or doesn't fit.
+pub fn literal(t: &[u8]) -> Fit
+    ensures { λ r. ⌜ r ≡ literalOf (now (t .entry)) ⌝ }
+{
+    let n = t.len();
+    let e = letter(t);
+    if n <= e {
+        return decimal(t, false, 0);
+    }
+    let from = e + 1;
+    match power_of(&t[from..]) {
+        Exponent::Of(minus, k) => decimal(&t[..e], minus, k),
+        Exponent::Nothing => Fit::TooBig,
+    }
 }
 
 // ---- printing

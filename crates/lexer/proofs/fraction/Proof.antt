@@ -16,39 +16,11 @@ run-length-requires c κs = search needs
 add-end : tie.Need-add-end
 add-end c = search needs
 
-sub-literal : tie.Need-sub-literal
-sub-literal c = search needs
-
-part-literal-start : tie.Need-part-literal-start
-part-literal-start c = search needs
-
-part-literal-end : tie.Need-part-literal-end
-part-literal-end c = search needs
-
-literal-requires : tie.Need-literal-requires
-literal-requires c κs = search needs
-
-sub-size : tie.Need-sub-size
-sub-size c = search needs
-
-valued-requires : tie.Need-valued-requires
-valued-requires c κs = search needs
+powered-requires : tie.Need-powered-requires
+powered-requires c κs = search needs
 
 returns : tie.Need-returns
 returns c = search fraction-is depth 8
 
 pub fraction-spec : {M : Type 1} → statement M
-fraction-spec =
-    tie.close
-    (tie.spec
-    add-from
-    add-from-2
-    run-length-requires
-    add-end
-    sub-literal
-    part-literal-start
-    part-literal-end
-    literal-requires
-    sub-size
-    valued-requires
-    returns)
+fraction-spec = tie.close (tie.spec add-from add-from-2 run-length-requires add-end powered-requires returns)

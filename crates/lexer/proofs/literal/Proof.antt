@@ -19,20 +19,8 @@ fraction-requires c κs = search point-after depth 6
 returns : tie.Need-returns
 returns c = search literal-fraction depth 8
 
-sub-literal : tie.Need-sub-literal
-sub-literal c = search needs
-
-part-literal-start : tie.Need-part-literal-start
-part-literal-start c = search needs
-
-part-literal-end : tie.Need-part-literal-end
-part-literal-end c = search needs
-
-literal-requires : tie.Need-literal-requires
-literal-requires c κs = search needs
-
-valued-requires : tie.Need-valued-requires
-valued-requires c κs = search needs
+powered-requires : tie.Need-powered-requires
+powered-requires c κs = search needs
 
 returns-2 : tie.Need-returns-2
 returns-2 c = search literal-whole depth 8
@@ -40,15 +28,4 @@ returns-2 c = search literal-whole depth 8
 pub literal-spec : {M : Type 1} → statement M
 literal-spec =
     tie.close
-    (tie.spec
-    run-length-requires
-    add-end
-    pointed-requires
-    fraction-requires
-    returns
-    sub-literal
-    part-literal-start
-    part-literal-end
-    literal-requires
-    valued-requires
-    returns-2)
+    (tie.spec run-length-requires add-end pointed-requires fraction-requires returns powered-requires returns-2)

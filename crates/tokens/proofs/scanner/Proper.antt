@@ -1,24 +1,22 @@
 -- The tokens of a text: what each is like, and that the last one, and no other, is the end or a refusal.
-use mathlib.Core.Path.{_≡_, refl, subst}
+use mathlib.Core.Path.{_≡_, refl}
 use mathlib.Core.Bool.{Bool, true, false, cond, _&&_, _||_}
-use mathlib.Core.List.{List, [], _∷_, _++_}
-use Prim.Native.Nat.{ℕ, zero, suc, _+_, _-_, _<_, _≤_}
+use mathlib.Core.List.{List, [], _∷_}
+use Prim.Native.Nat.{ℕ, zero, suc, _-_, _<_, _≤_}
 use native.Mathlib.Omega.{arith}
 use lib.Dec.{eqb, leb}
-use lib.IntN.{pos, natAbs}
 use lib.ListN.{length, drop}
 use borrow.Author.Tests.{leb-true}
 use Rattle.rules.specs.declared.Refusal.the-variants.{StrangeByte, Misplaced, BadName, Full}
-use Rattle.rules.specs.Limits.{byteLimit, nameLength, stringLength, tokenLimit, digitLimit, mantissaLimit}
+use Rattle.rules.specs.Limits.{byteLimit, nameLength, stringLength, tokenLimit}
 use Rattle.rules.specs.Refusals.{refusalNumber}
 use Rattle.value.specs.declared.Value.{Value}
 use Rattle.value.specs.declared.Fit.{Fit}
 use Rattle.value.specs.declared.Fit.the-variants.{Fits, TooBig}
-use Rattle.value.specs.Decimal.{Lowest, at, none, choose, fitOf, tenths, withSign}
-use Rattle.value.specs.Literal.{isDigit, numberFrom, before, after, isLiteral, literalOf}
-use Rattle.value.proofs.Reading.{literal-valid}
+use Rattle.value.specs.Literal.{isDigit, literalOf}
+use Rattle.value.proofs.Reading.{literal-valid, literal-plain}
 use Rattle.lexer.specs.Marks.{Word, capitalWords, smallWords, atMost, atLeast}
-use Rattle.lexer.specs.Text.{Kind, mark, name, literal, string, end, wrong, Token, Step, sameBytes, among, front, isBlank, isSign, isSmall, isCapital, inName, inString, pointed, isWrong, literalKind, valued, nameStep, wordStep, literalStep, strange, wellShaped, stringStep, orderStep, stepAt, tokensFrom, uncounted, counted, tokens}
+use Rattle.lexer.specs.Text.{Kind, mark, name, literal, string, end, wrong, Token, Step, sameBytes, among, front, isBlank, isSign, isSmall, isCapital, inName, inString, pointed, isWrong, literalKind, valued, powered, nameStep, wordStep, literalStep, strange, wellShaped, stringStep, orderStep, stepAt, tokensFrom, uncounted, counted, tokens}
 use Rattle.lexer.specs.declared.Source.{Source}
 use Rattle.lexer.specs.View.{isLast, comingAt}
 use Rattle.tokens.specs.Stored.{refusalOf}
@@ -126,34 +124,20 @@ name-found p b t e =
 -- ---- literals
 
 -- a literal is read without a sign
-choose-plain : (n : ℕ) (l : Lowest) (v : Value) → choose (pos n) l ≡ Fits v → v .m ≡ pos (natAbs (v .m))
-unfolding choose withSign
-choose-plain n none v e = absurd (let z : _≡_ {A = ℕ} 0 1 = cc in omega arith)
-choose-plain n (at m i) v e = go (leb m mantissaLimit) e
-  where
-    go : (u : Bool) → cond u (Fits (record { m = pos m; s = i })) TooBig ≡ Fits v → v .m ≡ pos (natAbs (v .m))
-    go true e = let q : record { m = pos m; s = i } ≡ v = cc in subst (λ (x : Value). x .m ≡ pos (natAbs (x .m))) q refl
-    go false e = absurd (let z : _≡_ {A = ℕ} 0 1 = cc in omega arith)
-
-literal-plain : (t : List ℕ) (v : Value) → literalOf t ≡ Fits v → Plain v
-unfolding literalOf fitOf tenths
-literal-plain t v e = record { sign = go (isLiteral t && leb (length (before t) + length (after t)) digitLimit) e; valid = literal-valid t v e }
-  where
-    go : (u : Bool) → cond u (fitOf (tenths (pos (numberFrom 0 (before t ++ after t))) (length (after t)))) TooBig ≡ Fits v → v .m ≡ pos (natAbs (v .m))
-    go true e = choose-plain _ _ v e
-    go false e = absurd (let z : _≡_ {A = ℕ} 0 1 = cc in omega arith)
+literal-held : (t : List ℕ) (v : Value) → literalOf t ≡ Fits v → Plain v
+literal-held t v e = record { sign = literal-plain t v e; valid = literal-valid t v e }
 
 valued-found : (w : Bool) (p : ℕ) (l : List ℕ) → Finds (valued w p l)
 unfolding valued literalKind refusalOf isWrong
 valued-found w p l = go (literalOf l) refl
   where
     go : (v : Fit) → literalOf l ≡ v → Found (literalKind w v)
-    go (Fits v) e = (literal-plain l v e, refl)
+    go (Fits v) e = (literal-held l v e, refl)
     go TooBig e = (refl, refl)
 
 literal-found : (p : ℕ) (w r : List ℕ) → Finds (literalStep p w r)
-unfolding literalStep
-literal-found p w r = pick Finds (pointed r) _ _ (valued-found false p _) (valued-found true p w)
+unfolding literalStep powered
+literal-found p w r = pick Finds (pointed r) _ _ (valued-found _ p _) (valued-found _ p _)
 
 -- ---- strings
 

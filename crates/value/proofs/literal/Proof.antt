@@ -1,80 +1,70 @@
 -- `value::literal` meets its contract.
-use Rattle.value.proofs.Reading.{part-rest, part-none, literal-empty, literal-whole, literal-ends, literal-parts}
-use mathlib.Core.Path.{_∙_}
 use native.Mathlib.Omega.{arith}
 use lib.ListN.{length-take}
 use borrow.Author.Needs.{needs}
+use Rattle.value.proofs.Powers.{literal-alone, literal-raised, literal-none, power-small}
 use Rattle.value.proofs.literal.Statement.{statement}
 use Rattle.value.proofs.literal.Tie as tie
 
+letter-requires : tie.Need-letter-requires
+letter-requires c κs = search needs
+
+decimal-requires : tie.Need-decimal-requires
+decimal-requires c κs = search needs
+
 returns : tie.Need-returns
-returns c = literal-empty _ (c .if1 .taken)
+returns c = search literal-alone depth 7
 
-point-requires : tie.Need-point-requires
-point-requires c κs = search needs
+add-from : tie.Need-add-from
+add-from c = search needs
 
-sub-read-parts : tie.Need-sub-read-parts
-sub-read-parts c = search needs
+sub-power-of : tie.Need-sub-power-of
+sub-power-of c = search needs
 
-part-read-parts-start : tie.Need-part-read-parts-start
-part-read-parts-start c = search needs
+part-power-of-start : tie.Need-part-power-of-start
+part-power-of-start c = search needs
 
-part-read-parts-end : tie.Need-part-read-parts-end
-part-read-parts-end c = search needs
+part-power-of-end : tie.Need-part-power-of-end
+part-power-of-end c = search needs
 
-read-parts-requires : tie.Need-read-parts-requires
-read-parts-requires c κs = search needs
+power-of-requires : tie.Need-power-of-requires
+power-of-requires c κs = search needs
+
+enum-known-minus : tie.Need-enum-known-minus
+enum-known-minus c = search needs
+
+slice-aggregate-decimal : tie.Need-slice-aggregate-decimal
+slice-aggregate-decimal c =
+    let e = c .before .before .before .before .before .before .before in
+    omega (arith, length-take (e .letter .result) (e .before .before .args .t .now))
+
+decimal-requires-2 : tie.Need-decimal-requires-2
+decimal-requires-2 c κs = search power-small depth 6
+
+enum-told : tie.Need-enum-told
+enum-told c = search needs
 
 returns-2 : tie.Need-returns-2
-returns-2 c =
-    let p = c .before .before .before in
-    let s = p .before .before .before in
-    c .read-parts .ensures ∙ rw (part-none (s .args .t .now)) (literal-whole _ _ (p .point .ensures) (omega (arith, p .before .if1 .left)) (c .before .before .if2 .taken))
-
-add-q : tie.Need-add-q
-add-q c = search needs
+returns-2 c = search literal-raised depth 10
 
 returns-3 : tie.Need-returns-3
-returns-3 c = literal-ends _ _ (c .before .before .point .ensures) (c .before .if2 .left) (c .if3 .taken)
-
-slice-aggregate-read-parts : tie.Need-slice-aggregate-read-parts
-slice-aggregate-read-parts c = omega (arith, length-take (c .before .before .before .point .result) (c .before .before .before .before .before .before .args .t .now))
-
-sub-read-parts-2 : tie.Need-sub-read-parts-2
-sub-read-parts-2 c = search needs
-
-part-read-parts-start-2 : tie.Need-part-read-parts-start-2
-part-read-parts-start-2 c = search needs
-
-part-read-parts-end-2 : tie.Need-part-read-parts-end-2
-part-read-parts-end-2 c = search needs
-
-read-parts-requires-2 : tie.Need-read-parts-requires-2
-read-parts-requires-2 c κs = search needs
-
-returns-4 : tie.Need-returns-4
-returns-4 c =
-    let e = c .before .before .before in
-    let p = e .before .before in
-    let s = p .before .before .before in
-    c .read-parts2 .ensures ∙ rw (part-rest (s .args .t .now)) (literal-parts _ _ (p .point .ensures) (e .if3 .left))
+returns-3 c = search literal-none depth 9
 
 pub literal-spec : {M : Type 1} → statement M
 literal-spec =
     tie.close
     (tie.spec
+    letter-requires
+    decimal-requires
     returns
-    point-requires
-    sub-read-parts
-    part-read-parts-start
-    part-read-parts-end
-    read-parts-requires
+    add-from
+    sub-power-of
+    part-power-of-start
+    part-power-of-end
+    power-of-requires
+    enum-known-minus
+    slice-aggregate-decimal
+    decimal-requires-2
+    enum-told
     returns-2
-    add-q
-    returns-3
-    slice-aggregate-read-parts
-    sub-read-parts-2
-    part-read-parts-start-2
-    part-read-parts-end-2
-    read-parts-requires-2
-    returns-4)
+    returns-3)
