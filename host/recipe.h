@@ -47,7 +47,7 @@ enum recipe_refusal {
     RECIPE_UNFIT = 5,         /* a value that does not fit */
     RECIPE_FULL = 6,          /* a table is full */
     RECIPE_BAD_INDEX = 7,     /* an index unbound, already bound, or a fifth bound; an order or marks that are not a rearrangement */
-    RECIPE_NOT_WHOLE = 8,     /* a limit, subscript or integer datum that is not whole; a run of more than 256 */
+    RECIPE_NOT_WHOLE = 8,     /* a subscript or integer datum that is not whole; a run of more than 256 */
     RECIPE_OUTSIDE = 9,       /* a subscript or fixed entry outside the domain */
     RECIPE_MISSING = 10,      /* a value missing, given twice, or one number too many */
     RECIPE_LONG_LISTING = 11, /* the report is longer than the buffer; the place is its length */

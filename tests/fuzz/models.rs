@@ -34,12 +34,15 @@ impl Random {
     }
 }
 
-/// A limit of a declared domain, of a kind whose value the writer knows.
+/// A limit of a declared domain, of a kind whose value the writer knows. `Halves` are so many halves, and the last two are half of an
+/// integer and half of an earlier index.
 #[derive(Clone, Copy)]
 enum Limit {
-    Number(i64),
+    Halves(i64),
     Integer(usize),
     Earlier(usize),
+    HalfInteger(usize),
+    HalfEarlier(usize),
 }
 
 #[derive(Clone)]
@@ -211,21 +214,32 @@ impl Writer<'_> {
         let mut domain: Vec<(usize, Limit, Limit)> = Vec::new();
         let first = self.random.below(self.indices);
         for j in 0..self.random.below(4).min(self.indices) {
-            let lower = Limit::Number(if self.random.chance(90) {
-                1
-            } else {
-                self.random.below(4) as i64 - 1
-            });
+            let lower = match self.random.below(100) {
+                0..=79 => Limit::Halves(2),
+                80..=89 => Limit::Halves(1),
+                90..=94 if j > 0 => Limit::HalfEarlier(self.random.below(j)),
+                _ => Limit::Halves(self.random.below(8) as i64 - 4),
+            };
+            let half = self.random.chance(15);
             let upper = match self.random.below(4) {
                 0 if !self.scalars.is_empty() => {
-                    Limit::Integer(self.random.below(self.scalars.len()))
+                    let integer = self.random.below(self.scalars.len());
+                    if half {
+                        Limit::HalfInteger(integer)
+                    } else {
+                        Limit::Integer(integer)
+                    }
                 }
-                1 if j > 0 && self.random.chance(40) => Limit::Earlier(self.random.below(j)),
-                _ => Limit::Number(if self.random.chance(90) {
-                    3
-                } else {
-                    self.random.below(5) as i64
-                }),
+                1 if j > 0 && self.random.chance(40) => {
+                    let earlier = self.random.below(j);
+                    if half {
+                        Limit::HalfEarlier(earlier)
+                    } else {
+                        Limit::Earlier(earlier)
+                    }
+                }
+                _ if self.random.chance(90) => Limit::Halves(6 + i64::from(half)),
+                _ => Limit::Halves(self.random.below(11) as i64 - 2),
             };
             domain.push(((first + j) % self.indices, lower, upper));
         }
@@ -252,20 +266,26 @@ impl Writer<'_> {
     }
 
     fn limit(&mut self, limit: Limit, domain: &[(usize, Limit, Limit)]) {
-        let token = match limit {
-            Limit::Number(n) if self.random.chance(5) => format!("{n}E0"),
-            Limit::Number(n) => n.to_string(),
+        let tokens = match limit {
+            Limit::Halves(n) if n % 2 != 0 => format!("{}", n as f64 / 2.0),
+            Limit::Halves(n) if self.random.chance(5) => format!("{}E0", n / 2),
+            Limit::Halves(n) => (n / 2).to_string(),
             Limit::Integer(i) => self.scalars[i].0.clone(),
             Limit::Earlier(j) => INDICES[domain[j].0].to_string(),
+            Limit::HalfInteger(i) => format!("0.5 * {}", self.scalars[i].0),
+            Limit::HalfEarlier(j) => format!(".5 * {}", INDICES[domain[j].0]),
         };
-        self.put(&token);
+        self.put(&tokens);
     }
 
-    fn value(&self, limit: Limit, element: &[i64]) -> i64 {
+    /// The value of a limit, in halves.
+    fn halves(&self, limit: Limit, element: &[i64]) -> i64 {
         match limit {
-            Limit::Number(n) => n,
-            Limit::Integer(i) => self.scalars[i].1,
-            Limit::Earlier(j) => element[j],
+            Limit::Halves(n) => n,
+            Limit::Integer(i) => 2 * self.scalars[i].1,
+            Limit::Earlier(j) => 2 * element[j],
+            Limit::HalfInteger(i) => self.scalars[i].1,
+            Limit::HalfEarlier(j) => element[j],
         }
     }
 
@@ -279,10 +299,13 @@ impl Writer<'_> {
             all.push(element.clone());
             return;
         };
-        for k in self.value(lower, element)..=self.value(upper, element) {
-            element.push(k);
-            self.elements(domain, element, all);
-            element.pop();
+        // Every whole number between the two.
+        for k in -9..=9 {
+            if self.halves(lower, element) <= 2 * k && 2 * k <= self.halves(upper, element) {
+                element.push(k);
+                self.elements(domain, element, all);
+                element.pop();
+            }
         }
     }
 
@@ -429,7 +452,7 @@ impl Writer<'_> {
         };
         self.put(INDICES[index]);
         self.put(",");
-        self.put("1");
+        self.lower();
         self.put(",");
         if !self.scalars.is_empty() && self.random.chance(40) {
             let name = self.scalars[self.random.below(self.scalars.len())]
@@ -446,20 +469,51 @@ impl Writer<'_> {
         index
     }
 
+    /// A lower limit of a run: mostly one that is 1 once it is rounded up.
+    fn lower(&mut self) {
+        let lower = if self.random.chance(97) {
+            self.random.of(&["1", "1", "1", "1", "1", "1", "1", "0.5"])
+        } else {
+            self.random.of(&["0.000001", "-0.5", "-1.5", "1.5", "0"])
+        };
+        self.put(lower);
+    }
+
     /// An upper limit of a run: short, and now and then longer than what is declared.
     fn upper(&mut self) {
         let most = if self.random.chance(95) { 3 } else { 5 };
-        let upper = self.random.below(most).to_string();
+        let places = self.random.of(&["", "", "", "", "", ".5", ".999999", ".0"]);
+        let upper = format!("{}{places}", self.random.below(most));
         self.put(&upper);
     }
 
     fn sum(&mut self, depth: usize) {
         self.put("SUM");
         self.put("(");
+        if self.random.chance(2) {
+            return self.long_run();
+        }
         let index = self.run();
         self.bound.push(index);
         self.formula(depth - 1);
         self.bound.pop();
+        self.put(")");
+    }
+
+    /// The rest of a sum of 256 or 257 elements, whose body is a literal.
+    fn long_run(&mut self) {
+        let index = self.random.below(self.indices);
+        self.put(INDICES[index]);
+        let limits = self.random.of(&[
+            ", 1, 256,",
+            ", 1, 257,",
+            ", 0.5, 256.5,",
+            ", -0.5, 256.5,",
+            ", -0.5, 255.5,",
+            ", 1.5, 257.25,",
+        ]);
+        self.put(limits);
+        self.literal();
         self.put(")");
     }
 
@@ -531,7 +585,8 @@ impl Writer<'_> {
         self.put("(");
         for (j, index) in domain.iter().enumerate() {
             self.comma(j);
-            self.put("1 <=");
+            self.lower();
+            self.put("<=");
             self.put(INDICES[*index]);
             self.put("<=");
             if j > 0 && self.random.chance(30) {
@@ -688,6 +743,8 @@ pub fn changed(random: &mut Random, text: &[u8]) -> Vec<u8> {
                     "averylongnameindeed",
                     "?",
                     "SUM(k,1,257,",
+                    "SUM(k,0.5,256.5,",
+                    "SUM(k,-0.5,256.5,",
                     " ",
                 ];
                 let blank = random.of(&[" ", " ", " ", ""]);

@@ -173,6 +173,16 @@ impl Value {
         (self.scale == 0).then_some(self.mantissa)
     }
 
+    /// The largest whole number that is not above the value.
+    fn rounded_down(self) -> i64 {
+        self.mantissa.div_euclid(POWERS[self.scale])
+    }
+
+    /// The smallest whole number that is not below the value.
+    fn rounded_up(self) -> i64 {
+        -self.negated_if(true).rounded_down()
+    }
+
     fn print(self, lines: &mut Vec<u8>) {
         if self.mantissa < 0 {
             lines.push(b'-');
@@ -1142,10 +1152,11 @@ impl Model<'_> {
         }
     }
 
+    /// The limits of a run, the lower one rounded up and the upper one down.
     fn limits(&self, run: &Run, bound: &Bound) -> Outcome<RangeInclusive<i64>> {
-        let lower = whole(self.formula(&run.lower, bound)?, run.place)?;
-        let upper = whole(self.formula(&run.upper, bound)?, run.place)?;
-        Ok(lower..=upper)
+        let lower = self.formula(&run.lower, bound)?;
+        let upper = self.formula(&run.upper, bound)?;
+        Ok(lower.rounded_up()..=upper.rounded_down())
     }
 
     /// The values that a run takes, with the tests at its start.

@@ -78,7 +78,7 @@ record EntryOf (names : List Name) (s ts : List ℕ) (d : Spans) (b : Bound) (j 
   upper : Formula
   rest : List Token
   reads : ReadsEntry names index lower upper place (from s ts a) rest
-  runs : positionRun d b j sc ≡ (limitsOf (eval lower t) (eval upper t) place >>= λ l. runOf l index t place)
+  runs : positionRun d b j sc ≡ (limitsOf (eval lower t) (eval upper t) >>= λ l. runOf l index t place)
 
 entry-of : (names : List Name) (s ts : List ℕ) (d : Spans) (l k : List ℕ) → Laid names s ts d l k → (b : Bound) → length b ≡ size d → (j : ℕ) → j < size d → (sc : Scope)
     → EntryOf names s ts d b j sc (getD l j 0) (before k b j sc)
@@ -90,7 +90,7 @@ entry-of names s ts (span i f g q d) [] k h b e j w sc = absurd h
 entry-of names s ts (span i f g q d) (a ∷ l) [] h b e j w sc = absurd h
 entry-of names s ts (span i f g q d) (a ∷ l) (i′ ∷ k) h [] e j w sc = absurd (omega arith)
 entry-of names s ts (span i f g q d) (a ∷ l) (i′ ∷ k) (m, x, same, more) (y ∷ b) e zero w sc =
-    record { index = i′; place = q; lower = f; upper = g; rest = m; reads = x; runs = ap (λ i. limitsOf (eval f sc) (eval g sc) q >>= λ l. runOf l i sc q) same }
+    record { index = i′; place = q; lower = f; upper = g; rest = m; reads = x; runs = ap (λ i. limitsOf (eval f sc) (eval g sc) >>= λ l. runOf l i sc q) same }
 entry-of names s ts (span i f g q d) (a ∷ l) (i′ ∷ k) (m, x, same, more) (y ∷ b) e (suc j) w sc =
     later (entry-of names s ts d l k more b (omega arith) j (omega arith) (bindIf i′ y sc))
   where
@@ -157,7 +157,7 @@ module _ (ns ts ds : List ℕ) (given : ℕ) (h : Worked) (e : Entries) (j : ℕ
           (record { known = stored st; bound = [] })))
 
       abbrev limits : Outcome Limits
-      limits = limitsOf (eval (entry .lower) (scopeOf (stored st) sc)) (eval (entry .upper) (scopeOf (stored st) sc)) (entry .place)
+      limits = limitsOf (eval (entry .lower) (scopeOf (stored st) sc)) (eval (entry .upper) (scopeOf (stored st) sc))
 
       walked : (o : Entered) → z ≡ o → asRead (limits >>= λ l. done (record { number = entry .index; place = entry .place; limits = l })) (entry .rest) ≡ boundsOutcome s ts o
       unfolding entryIn nestingLimit world

@@ -53,6 +53,6 @@ module _ {A : Type 0} where
   unfolding over elementsOf folded
   over-elements point s f a = sym (bind-done (f s [] a))
   over-elements (span i lower upper p d) s f a =
-      let l = limitsOf (eval lower s) (eval upper s) p in
+      let l = limitsOf (eval lower s) (eval upper s) in
       sym (bind-assoc l (λ l. runOf l i s p) _)
       ∙ fold-run f _ _ (λ k b. over-elements d (bind i k s) (λ t e. f t (k ∷ e)) b ∙ sym (fold-mapped f k (elementsOf d (bind i k s)) b)) (l >>= λ l. runOf l i s p) a

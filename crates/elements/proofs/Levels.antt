@@ -118,7 +118,7 @@ module _ (names : List Name) where
   walk-elements point s ts rest r = refl
   walk-elements (span i f g q d) s ts rest r =
       let (m, e, more) = r in
-      rw (entry-walk names i f g q ts m e s) (limits m (limitsOf (eval f s) (eval g s) q) λ k. walk-elements d (bind i k s) m rest more)
+      rw (entry-walk names i f g q ts m e s) (limits m (limitsOf (eval f s) (eval g s)) λ k. walk-elements d (bind i k s) m rest more)
     where
       w : Scope → List Token → Walked (List Level)
       w = walkElements names (inDomainWalk names) (indexCount d)

@@ -125,7 +125,7 @@ sooner-first w v j k o a b h i =
 pub elements-rise : (d : Spans) (s : Scope) → Rising Sooner (reached (elementsOf d s))
 unfolding elementsOf reached overRun
 elements-rise point s = rising-one (record { scope = s; element = [] })
-elements-rise (span i f g q d) s = limits (limitsOf (eval f s) (eval g s) q) λ k. rising-front k (elementsOf d (bind i k s)) (elements-rise d (bind i k s))
+elements-rise (span i f g q d) s = limits (limitsOf (eval f s) (eval g s)) λ k. rising-front k (elementsOf d (bind i k s)) (elements-rise d (bind i k s))
   where
     w : ℤ → Walked Here
     w k = mapped (inFront k) (elementsOf d (bind i k s))

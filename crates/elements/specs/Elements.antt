@@ -71,7 +71,7 @@ inFront k h = record { scope = h .scope; element = k ∷ h .element }
 unfoldable pub elementsOf : Spans → Scope → Walked Here
 elementsOf point s = reaches (record { scope = s; element = [] }) finished
 elementsOf (span i lower upper p d) s =
-    overRun (limitsOf (eval lower s) (eval upper s) p >>= λ l. runOf l i s p) λ k. mapped (inFront k) (elementsOf d (bind i k s))
+    overRun (limitsOf (eval lower s) (eval upper s) >>= λ l. runOf l i s p) λ k. mapped (inFront k) (elementsOf d (bind i k s))
 
 -- ---- steps
 

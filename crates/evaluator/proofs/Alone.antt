@@ -14,6 +14,7 @@ use borrow.Author.Tests.{ne-eqb, not-true, not-false}
 use Rattle.rules.specs.declared.Refusal.the-variants.{Outside}
 use Rattle.rules.specs.Limits.{indexLimit}
 use Rattle.value.specs.declared.Value.{Value}
+use Rattle.value.specs.Decimal.{floorOf, ceilingOf}
 use Rattle.value.proofs.Integers.{back}
 use Rattle.tokens.specs.declared.Seen.{Seen}
 use Rattle.tokens.specs.declared.Seen.the-variants as seen
@@ -45,13 +46,13 @@ use Rattle.evaluator.specs.declared.Single.the-variants as single
 use Rattle.evaluator.specs.Steps.Names.{numberPart, listedOf, indexNumber}
 use Rattle.evaluator.specs.Steps.Passing.{Skips}
 use Rattle.evaluator.specs.Steps.Scopes.{bindingsOf, boundMore}
-use Rattle.evaluator.specs.Steps.Values.{signedValue, wholeAnswer, boundAnswer, insideLimits, KnownEarly}
+use Rattle.evaluator.specs.Steps.Values.{signedValue, boundAnswer, insideLimits, KnownEarly}
 use Rattle.evaluator.specs.Tables.{World}
 use Rattle.evaluator.specs.Cycle.{partIn, Values, NamedIs, DatumIs, WithinIs, seenBy, nothingBound, tokensAt}
 use Rattle.evaluator.specs.Alone.{NameValue, NameAlone, TokenValue, TokenAlone, SingleIs, DatumAlone, TokenFixed, FormulaFixed, EntryLimits, EntryFixed, WithinFixed}
 use Rattle.evaluator.proofs.steps.Passed.{skips-seen, leads-none}
 use Rattle.evaluator.proofs.steps.Scopes.{bind-none}
-use Rattle.evaluator.proofs.Laws.{term-rest, formula-rest, inside-formula, part-skip, limit-whole}
+use Rattle.evaluator.proofs.Laws.{term-rest, formula-rest, inside-formula, part-skip}
 use Rattle.evaluator.proofs.Loops.{factors-start, factors-end, summands-start, summands-end}
 use Rattle.evaluator.proofs.Primaries.{primary-literal, primary-name}
 use Rattle.evaluator.proofs.Names.{named-index, named-datum, datum-known}
@@ -146,18 +147,16 @@ module _ (ns ts ds : List ℕ) (given level at : ℕ) where
 
   -- such an entry reads as the walk does
   pub entry-fixed : (r : Single) → FormulaFixed ns ts ds given level at r → (v : Value) (a : ℕ) → r ≡ single.Value v a
-      → (t : Seen) → Looks ts a t → (k p x b : ℕ) → t ≡ seen.Token k p x b
-      → (low : Answer) → low ≡ wholeAnswer p b v → (u : Value) (c : ℕ) → low ≡ answer.Value u c → (d : ℕ) → Skips ts c d
-      → (z : Single) → FormulaFixed ns ts ds given level d z → (w : Value) (f : ℕ) → z ≡ single.Value w f
-      → (high : Answer) → high ≡ wholeAnswer p f w → (y : Value) (g : ℕ) → high ≡ answer.Value y g
-      → (l : Limits) → l ≡ record { lower = u .m; upper = y .m } → EntryLimits ns ts ds given level at l g
-  entry-fixed r i v a e t h k p x b j low m u c n d s z o w f q high m′ y g n′ l e′ = record {
+      → (t : Seen) → Looks ts a t → (k p x b : ℕ) → t ≡ seen.Token k p x b → (c : ℕ) → Skips ts b c
+      → (z : Single) → FormulaFixed ns ts ds given level c z → (w : Value) (d : ℕ) → z ≡ single.Value w d
+      → (l : Limits) → l ≡ record { lower = ceilingOf v; upper = floorOf w } → EntryLimits ns ts ds given level at l d
+  entry-fixed r i v a e t h k p x b j c s z o w d q l m = record {
     number = indexNumber level (getD ts a 0);
     place = p;
     is = λ sc.
         let lower = subst (SingleIs 12 ns ts ds given level sc at) e (i .is sc) in
-        let upper = limit-whole ns ts ds given level sc 12 p d (answer.Value w f) (subst (SingleIs 12 ns ts ds given level sc d) q (o .is sc)) w f high refl m′ in
-        let bounds = bounds-both ns ts ds given level sc 12 a v t h k p x b j low m u c n d s high upper y g _ _ n′ refl (ap (λ l. record { number = indexNumber level (getD ts a 0); place = p; limits = l }) e′) in
+        let upper = subst (SingleIs 12 ns ts ds given level sc c) q (o .is sc) in
+        let bounds = bounds-both ns ts ds given level sc 12 a v t h k p x b j c s (answer.Value w d) upper w d _ _ refl refl (ap (λ l. record { number = indexNumber level (getD ts a 0); place = p; limits = l }) m) in
         entry-bounds ns ts ds given level sc 12 at (answer.Value v a) lower v a _ refl bounds;
   }
 

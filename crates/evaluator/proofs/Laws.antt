@@ -13,15 +13,15 @@ use Rattle.value.specs.declared.Fit.{Fit}
 use Rattle.value.specs.declared.Fit.the-variants.{Fits, TooBig}
 use Rattle.value.specs.declared.Whole.{Whole}
 use Rattle.value.specs.declared.Whole.the-variants.{Number, NotWhole as noNumber}
-use Rattle.value.specs.Decimal.{Valid, wholeOf, ofWhole}
+use Rattle.value.specs.Decimal.{Valid, wholeOf, ofWhole, floorOf, ceilingOf}
+use Rattle.value.proofs.Rounding.{floor-size, ceiling-size}
 use Rattle.value.proofs.Operations.{negate-valid, valid-negated, ofWhole-wholeOf}
-use Rattle.lexer.specs.Text.{Token}
 use Rattle.language.specs.Outcome.{Outcome, done, refused, fitting}
 use Rattle.language.specs.Syntax.{Name}
-use Rattle.language.specs.Reader.{Reader, Read, follow, asRead, _>>=_, give, lift}
+use Rattle.language.specs.Reader.{Reader, Read, follow, asRead, _>>=_}
 use Rattle.language.specs.Formulas.{readSign}
 use Rattle.language.specs.Scope.{Scope}
-use Rattle.language.specs.Evaluation.{wholeAt, Limits}
+use Rattle.language.specs.Evaluation.{wholeAt}
 use Rattle.language.specs.Numbering.{signed}
 use Rattle.onepass.specs.Walk.{Walk, walkTerm, walkFormula, walkPart, walkLimits, walkInside, valueAt}
 use Rattle.onepass.specs.Entries.{read}
@@ -38,7 +38,7 @@ use Rattle.evaluator.specs.Steps.Passing.{Skips, Led, Leads}
 use Rattle.evaluator.specs.Steps.Values.{fittedAt, signedValue, wholeBy, wholeAnswer, limitsIn, SmallLimits}
 use Rattle.evaluator.specs.declared.Limited.the-variants as limited
 use Rattle.evaluator.specs.Tables.{World}
-use Rattle.evaluator.specs.Cycle.{insideIn, formulaIn, primaryIn, termIn, factorsIn, summandsIn, partIn, limitIn, limitsWalk, valueOutcome, wholeOutcome, ValidAnswer, seenBy, under, tokensAt, Values, Continues, Wholes, LimitsAre}
+use Rattle.evaluator.specs.Cycle.{insideIn, formulaIn, primaryIn, termIn, factorsIn, summandsIn, partIn, subscriptIn, limitsWalk, valueOutcome, wholeOutcome, ValidAnswer, seenBy, under, tokensAt, Values, Continues, Wholes, LimitsAre}
 
 -- ---- sequences
 
@@ -98,6 +98,10 @@ module _ (b : Bool) (v : Value) (h : Valid v) where
       go true = subst Valid (sym (valid-negated v h)) (negate-valid v h)
       go false = h
 
+-- two values, rounded, are no larger than their numerators
+pub rounded-small : (v u : Value) → Valid v → Valid u → SmallLimits (record { lower = ceilingOf v; upper = floorOf u })
+rounded-small v u h k = record { low = omega (arith, ceiling-size v, h .small); high = omega (arith, floor-size u, k .small) }
+
 -- ---- what an answer says
 
 module _ (ns ts ds : List ℕ) (given level : ℕ) (sc : Held) where
@@ -151,20 +155,20 @@ module _ (ns ts ds : List ℕ) (given level : ℕ) (sc : Held) where
     unfolding partIn walkPart insideIn
     part-skip v a b e f = record { is = λ w g. on _ _ v (tokensAt w a) _ (value-is h e w g) (on _ _ tt (tokensAt w b) _ (f .is (w .text)) refl); valid = value-valid h e }
 
-  -- ---- a limit
+  -- ---- a subscript
 
   module _ (n p at : ℕ) (r : Answer) (h : Values (partIn n) ns ts ds given level sc at r) where
-    pub limit-refused : (m : Refusal) (q : ℕ) → r ≡ answer.Refused m q → Wholes (limitIn n p) ns ts ds given level sc at r
-    unfolding limitIn partIn
-    limit-refused m q e =
+    pub subscript-refused : (m : Refusal) (q : ℕ) → r ≡ answer.Refused m q → Wholes (subscriptIn n p) ns ts ds given level sc at r
+    unfolding subscriptIn partIn
+    subscript-refused m q e =
         record {
           is = λ w g. stop _ _ m q (refused-is h e w g) ∙ sym (ap (wholeOutcome (w .text) ts) e);
           valid = λ w g. subst ValidAnswer (sym e) tt;
         }
 
-    pub limit-whole : (v : Value) (a : ℕ) (z : Answer) → r ≡ answer.Value v a → z ≡ wholeAnswer p a v → Wholes (limitIn n p) ns ts ds given level sc at z
-    unfolding limitIn partIn
-    limit-whole v a z e f =
+    pub subscript-whole : (v : Value) (a : ℕ) (z : Answer) → r ≡ answer.Value v a → z ≡ wholeAnswer p a v → Wholes (subscriptIn n p) ns ts ds given level sc at z
+    unfolding subscriptIn partIn
+    subscript-whole v a z e f =
         record {
           is = λ w g. on _ _ v (tokensAt w a) _ (value-is h e w g) (whole-outcome (w .text) ts p a v ∙ sym (ap (wholeOutcome (w .text) ts) f));
           valid = λ w g. subst ValidAnswer (sym f) (whole-valid p a v (value-valid h e w g));
@@ -172,38 +176,25 @@ module _ (ns ts ds : List ℕ) (given level : ℕ) (sc : Held) where
 
   -- ---- two limits
 
-  upperWalk : ℕ → ℕ → List Name → Scope → ℤ → Reader Limits
-  upperWalk n p names s a = walkPart (walkInside names n) s >>= (λ w. lift (wholeAt p w) >>= (λ b. give (record { lower = a; upper = b })))
+  module _ (n at : ℕ) (r : Answer) (h : Values (partIn n) ns ts ds given level sc at r) where
+    pub limits-low : (m : Refusal) (q : ℕ) → r ≡ answer.Refused m q → LimitsAre (limitsWalk n) ns ts ds given level sc at (limited.Refused m q)
+    unfolding limitsWalk walkLimits partIn
+    limits-low m q e = record { is = λ w g. stop _ _ m q (refused-is h e w g); small = λ w g. tt }
 
-  limits-is : (n p : ℕ) (names : List Name) (s : Scope) (l : List Token) → limitsWalk n p names s l ≡ follow (limitIn n p names s l) (upperWalk n p names s)
-  unfolding limitsWalk walkLimits limitIn upperWalk
-  limits-is n p names s l = regroup (walkPart (walkInside names n) s l) (λ v. lift (wholeAt p v)) (upperWalk n p names s)
+    module _ (v : Value) (a : ℕ) (e : r ≡ answer.Value v a) (z : Answer) (k : Values (partIn n) ns ts ds given level sc a z) where
+      pub limits-high : (m : Refusal) (q : ℕ) → z ≡ answer.Refused m q → LimitsAre (limitsWalk n) ns ts ds given level sc at (limited.Refused m q)
+      unfolding limitsWalk walkLimits partIn
+      limits-high m q f = record { is = λ w g. on _ _ v (tokensAt w a) _ (value-is h e w g) (stop _ _ m q (refused-is k f w g)); small = λ w g. tt }
 
-  upper-is : (n p : ℕ) (names : List Name) (s : Scope) (a : ℤ) (l : List Token) → upperWalk n p names s a l ≡ follow (limitIn n p names s l) (λ b. give (record { lower = a; upper = b }))
-  unfolding limitIn upperWalk
-  upper-is n p names s a l = regroup (walkPart (walkInside names n) s l) (λ v. lift (wholeAt p v)) (λ b. give (record { lower = a; upper = b }))
-
-  module _ (n p at : ℕ) (r : Answer) (h : Wholes (limitIn n p) ns ts ds given level sc at r) where
-    pub limits-low : (m : Refusal) (q : ℕ) → r ≡ answer.Refused m q → LimitsAre (limitsWalk n p) ns ts ds given level sc at (limited.Refused m q)
-    limits-low m q e = record { is = λ w g. limits-is n p _ _ _ ∙ stop _ _ m q (no-whole h e w g); small = λ w g. tt }
-
-    module _ (v : Value) (a : ℕ) (e : r ≡ answer.Value v a) (z : Answer) (k : Wholes (limitIn n p) ns ts ds given level sc a z) where
-      pub limits-high : (m : Refusal) (q : ℕ) → z ≡ answer.Refused m q → LimitsAre (limitsWalk n p) ns ts ds given level sc at (limited.Refused m q)
-      limits-high m q f =
-          record {
-            is = λ w g. limits-is n p _ _ _ ∙ on _ _ (v .m) (tokensAt w a) _ (whole-is h e w g) (upper-is n p _ _ _ _ ∙ stop _ _ m q (no-whole k f w g));
-            small = λ w g. tt;
-          }
-
-      pub limits-both : (u : Value) (b : ℕ) (l : code.Limits) → z ≡ answer.Value u b → l ≡ record { lower = v .m; upper = u .m }
-          → LimitsAre (limitsWalk n p) ns ts ds given level sc at (limited.Limits l b)
+      pub limits-both : (u : Value) (b : ℕ) (l : code.Limits) → z ≡ answer.Value u b → l ≡ record { lower = ceilingOf v; upper = floorOf u }
+          → LimitsAre (limitsWalk n) ns ts ds given level sc at (limited.Limits l b)
+      unfolding limitsWalk walkLimits partIn
       limits-both u b l f i =
           record {
             is = λ w g.
-                limits-is n p _ _ _
-                ∙ on _ _ (v .m) (tokensAt w a) _ (whole-is h e w g)
-                (upper-is n p _ _ _ _ ∙ on _ _ (u .m) (tokensAt w b) _ (whole-is k f w g) (ap (λ l. read (limitsIn l) (tokensAt w b)) (sym i)));
-            small = λ w g. subst SmallLimits (sym i) (record { low = whole-small h e w g; high = whole-small k f w g });
+                on _ _ v (tokensAt w a) _ (value-is h e w g)
+                (on _ _ u (tokensAt w b) _ (value-is k f w g) (ap (λ l. read (limitsIn l) (tokensAt w b)) (sym i)));
+            small = λ w g. subst SmallLimits (sym i) (rounded-small v u (value-valid h e w g) (value-valid k f w g));
           }
 
   -- ---- terms and formulas

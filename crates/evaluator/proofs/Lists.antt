@@ -43,7 +43,7 @@ use Rattle.evaluator.specs.declared.Entered.{Entered}
 use Rattle.evaluator.specs.declared.Entered.the-variants as entered
 use Rattle.evaluator.specs.declared.Passed.the-variants as passed
 use Rattle.evaluator.specs.Tables.{World}
-use Rattle.evaluator.specs.Cycle.{limitIn, entryIn, boundsOutcome, seenBy, under, nothingBound, tokensAt, Wholes, EntryIs, SubscriptsAre, WithinIs}
+use Rattle.evaluator.specs.Cycle.{subscriptIn, entryIn, boundsOutcome, seenBy, under, nothingBound, tokensAt, Wholes, EntryIs, SubscriptsAre, WithinIs}
 use Rattle.evaluator.proofs.Laws.{regroup, no-whole, whole-is, whole-small}
 
 -- ---- subscripts
@@ -51,10 +51,10 @@ use Rattle.evaluator.proofs.Laws.{regroup, no-whole, whole-is, whole-sm
 -- k whole numbers, one behind the other
 unfoldable pub wholeList : ℕ → ℕ → ℕ → List Name → Scope → Reader (List ℤ)
 wholeList n p zero names s = give []
-wholeList n p (suc k) names s = limitIn n p names s >>= (λ j. wholeList n p k names s >>= (λ ks. give (j ∷ ks)))
+wholeList n p (suc k) names s = subscriptIn n p names s >>= (λ j. wholeList n p k names s >>= (λ ks. give (j ∷ ks)))
 
 list-is : (n p : ℕ) (names : List Name) (s : Scope) (d : Spans) (l : List Token) → walkList (walkInside names n) d s p l ≡ wholeList n p (size d) names s l
-unfolding walkList wholeList limitIn size
+unfolding walkList wholeList subscriptIn size
 list-is n p names s point l = refl
 list-is n p names s (span i f g q d) l =
     regroup (walkPart (walkInside names n) s l) (λ v. lift (wholeAt p v)) (λ k. walkList (walkInside names n) d s p >>= (λ ks. give (k ∷ ks)))
@@ -111,9 +111,9 @@ module _ (n p count : ℕ) (ns ts ds : List ℕ) (given level : ℕ) (sc : Held)
         go zero h w = ap (λ l. read l (tokensAt w a)) (append-nil (listOf e))
         go (suc k) h w = absurd (omega arith)
 
-    module _ (h : 0 < left) (r : Answer) (k : Wholes (limitIn n p) ns ts ds given level sc a r) where
+    module _ (h : 0 < left) (r : Answer) (k : Wholes (subscriptIn n p) ns ts ds given level sc a r) where
       -- the next one and those behind it
-      one : (w : World ns ts ds given) (x : Outcome (Read ℤ)) → limitIn n p (seenBy w level) (under w sc) (tokensAt w a) ≡ x
+      one : (w : World ns ts ds given) (x : Outcome (Read ℤ)) → subscriptIn n p (seenBy w level) (under w sc) (tokensAt w a) ≡ x
           → follow (wholeList n p left (seenBy w level) (under w sc) (tokensAt w a)) (λ ks. give (listOf e ++ ks))
           ≡ follow x (λ j l. follow (wholeList n p (left - 1) (seenBy w level) (under w sc) l) (λ ks. give (listOf e ++ (j ∷ ks))))
       unfolding wholeList

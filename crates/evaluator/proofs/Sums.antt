@@ -34,8 +34,8 @@ module _ (ns ts ds : List ℕ) (given level : ℕ) (sc : Held) (n p at : ℕ) (x
   unfolding sumIn walkSum
   sum-head m q e = record { is = λ w g. stop _ _ m q (head-is _ e w); valid = λ w g. tt }
 
-  module _ (i a : ℕ) (e : x ≡ headed.Index i a) (y : Limited) (h : LimitsAre (limitsWalk n p) ns ts ds given level sc a y) where
-    limits-at : (z : Limited) → y ≡ z → (w : World ns ts ds given) → Small sc → limitsWalk n p (seenBy w level) (under w sc) (tokensAt w a) ≡ limitsOutcome (w .text) ts z
+  module _ (i a : ℕ) (e : x ≡ headed.Index i a) (y : Limited) (h : LimitsAre (limitsWalk n) ns ts ds given level sc a y) where
+    limits-at : (z : Limited) → y ≡ z → (w : World ns ts ds given) → Small sc → limitsWalk n (seenBy w level) (under w sc) (tokensAt w a) ≡ limitsOutcome (w .text) ts z
     limits-at z f w g = h .is w g ∙ ap (limitsOutcome (w .text) ts) f
 
     pub sum-limits : (m : Refusal) (q : ℕ) → y ≡ limited.Refused m q → Values (sumIn n p) ns ts ds given level sc at (answer.Refused m q)

@@ -38,7 +38,7 @@ module _ {A : Type 0} where
     walked-over point ts rest r s f a = refl
     walked-over (span i lower upper q d) ts rest r s f a =
         let (m, e, more) = r in
-        ap (λ o. o >>= runEntry (indexCount d) s f a) (entry-walk names i lower upper q ts m e s) ∙ by-limits m (λ s f a. walked-over d m rest more s f a) (limitsOf (eval lower s) (eval upper s) q)
+        ap (λ o. o >>= runEntry (indexCount d) s f a) (entry-walk names i lower upper q ts m e s) ∙ by-limits m (λ s f a. walked-over d m rest more s f a) (limitsOf (eval lower s) (eval upper s))
       where
         by-run : (m : List Token) → ((s : Scope) (f : Scope → List ℤ → A → Outcome A) (a : A) → walkOver names (inDomainWalk names) (indexCount d) m s f a ≡ over d s f a)
             → (o : Outcome (List ℤ)) → (o >>= λ ks. each (λ k b. walkOver names (inDomainWalk names) (indexCount d) m (bind i k s) (λ t x. f t (k ∷ x)) b) ks a)

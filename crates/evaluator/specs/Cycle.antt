@@ -10,7 +10,7 @@ use lib.ListN.{length, take, getElem?}
 use lib.IntN.{ℤ}
 use Rattle.rules.specs.Limits.{runLimit, indexLimit}
 use Rattle.value.specs.declared.Value.{Value}
-use Rattle.value.specs.Decimal.{Valid}
+use Rattle.value.specs.Decimal.{Valid, floorOf, ceilingOf}
 use Rattle.lexer.specs.Text.{Token}
 use Rattle.language.specs.Outcome.{Outcome, done, refused}
 use Rattle.language.specs.Syntax.{Name, Spans}
@@ -69,12 +69,12 @@ partIn n names = walkPart (walkInside names n)
 unfoldable pub sumIn : ℕ → ℕ → List Name → Walk
 sumIn n p names = walkSum names (walkInside names n) p
 
--- a formula with the sign behind it, tested whole: a limit or a subscript
-unfoldable pub limitIn : ℕ → ℕ → List Name → Scope → Reader ℤ
-limitIn n p names s = walkPart (walkInside names n) s >>= (λ v. lift (wholeAt p v))
+-- a formula with the sign behind it, tested whole: a subscript
+unfoldable pub subscriptIn : ℕ → ℕ → List Name → Scope → Reader ℤ
+subscriptIn n p names s = walkPart (walkInside names n) s >>= (λ v. lift (wholeAt p v))
 
-unfoldable pub limitsWalk : ℕ → ℕ → List Name → Scope → Reader Limits
-limitsWalk n p names s = walkLimits (walkInside names n) p s
+unfoldable pub limitsWalk : ℕ → List Name → Scope → Reader Limits
+limitsWalk n names s = walkLimits (walkInside names n) s
 
 unfoldable pub entryIn : ℕ → List Name → Scope → Reader Bounds
 entryIn n names s = walkEntry names (walkInside names n) s
@@ -83,11 +83,9 @@ entryIn n names s = walkEntry names (walkInside names n) s
 unfoldable pub boundsIn : ℕ → Value → List Name → Scope → Reader Bounds
 boundsIn n v names s = do
   t ← next
-  a ← lift (wholeAt (t .place) v)
   _ ← skip
   w ← walkPart (walkInside names n) s
-  b ← lift (wholeAt (t .place) w)
-  give (record { number = nameNumber names (t .kind); place = t .place; limits = record { lower = a; upper = b } })
+  give (record { number = nameNumber names (t .kind); place = t .place; limits = record { lower = ceilingOf v; upper = floorOf w } })
 
 -- ---- answers as outcomes
 

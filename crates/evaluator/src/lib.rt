@@ -21,7 +21,7 @@ use value::Value;
 ghost use Prim.Native.Nat.{_<_};
 ghost use Rattle.rules.specs.Limits.{tokenLimit, nestingLimit};
 ghost use Rattle.evaluator.specs.Alone.{NameAlone, TokenAlone, SingleIs, DatumAlone, TokenFixed, FormulaFixed, EntryFixed, WithinFixed};
-ghost use Rattle.evaluator.specs.Cycle.{insideIn, formulaIn, primaryIn, termIn, factorsIn, summandsIn, partIn, sumIn, limitIn, limitsWalk, entryIn, boundsIn, Values, Continues, Wholes, LimitsAre, EntryIs, BoundsAre, SubscriptsAre, BodyIs, WithinIs, NamedIs, DatumIs};
+ghost use Rattle.evaluator.specs.Cycle.{insideIn, formulaIn, primaryIn, termIn, factorsIn, summandsIn, partIn, sumIn, subscriptIn, limitsWalk, entryIn, boundsIn, Values, Continues, Wholes, LimitsAre, EntryIs, BoundsAre, SubscriptsAre, BodyIs, WithinIs, NamedIs, DatumIs};
 
 // What a formula is read under: how many rows of data are given, how many names are visible, how many brackets may still open,
 // and what is bound.
@@ -208,7 +208,7 @@ fn sum(names: &[u64], tokens: &[u64], table: &[u64], cx: Context, at: usize, p: 
     let head = steps::names::head(tokens, cx.level, at);
     match head {
         Headed::Index(i, a) => {
-            let both = both_limits(names, tokens, table, cx, a, p);
+            let both = both_limits(names, tokens, table, cx, a);
             match both {
                 Limited::Limits(l, b) => {
                     let scope = cx.scope;
@@ -265,21 +265,14 @@ fn body(
     Answer::Value(v, end)
 }
 
-// Two limits, each with the sign behind it; refused at p if not whole.
-pub fn both_limits(
-    names: &[u64],
-    tokens: &[u64],
-    table: &[u64],
-    cx: Context,
-    at: usize,
-    p: u64,
-) -> Limited
-    ensures { λ r. ⌜ LimitsAre (limitsWalk (cx .nest) p) (now (names .entry)) (now (tokens .entry)) (now (table .entry)) (cx .given) (cx .level) (cx .scope) at r ⌝ }
+// Two limits, each with the sign behind it; the lower one is rounded up, the upper one down.
+pub fn both_limits(names: &[u64], tokens: &[u64], table: &[u64], cx: Context, at: usize) -> Limited
+    ensures { λ r. ⌜ LimitsAre (limitsWalk (cx .nest)) (now (names .entry)) (now (tokens .entry)) (now (table .entry)) (cx .given) (cx .level) (cx .scope) at r ⌝ }
 {
-    let low = limit(names, tokens, table, cx, at, p);
+    let low = part(names, tokens, table, cx, at);
     match low {
         Answer::Value(v, a) => {
-            let high = limit(names, tokens, table, cx, a, p);
+            let high = part(names, tokens, table, cx, a);
             match high {
                 Answer::Value(w, b) => Limited::Limits(values::limits_of(v, w), b),
                 Answer::Refused(m, q) => Limited::Refused(m, q),
@@ -289,9 +282,9 @@ pub fn both_limits(
     }
 }
 
-// A limit or a subscript: a formula and the sign behind it; refused at p if not whole.
-fn limit(names: &[u64], tokens: &[u64], table: &[u64], cx: Context, at: usize, p: u64) -> Answer
-    ensures { λ r. ⌜ Wholes (limitIn (cx .nest) p) (now (names .entry)) (now (tokens .entry)) (now (table .entry)) (cx .given) (cx .level) (cx .scope) at r ⌝ }
+// A subscript: a formula and the sign behind it; refused at p if not whole.
+fn subscript(names: &[u64], tokens: &[u64], table: &[u64], cx: Context, at: usize, p: u64) -> Answer
+    ensures { λ r. ⌜ Wholes (subscriptIn (cx .nest) p) (now (names .entry)) (now (tokens .entry)) (now (table .entry)) (cx .given) (cx .level) (cx .scope) at r ⌝ }
 {
     let r = part(names, tokens, table, cx, at);
     let Answer::Value(v, a) = r else {
@@ -514,7 +507,7 @@ pub fn subscripts(
     let mut a = passing::skip(tokens, at);
     let mut left = count;
     while 0 < left {
-        let r = limit(names, tokens, table, cx, a, p);
+        let r = subscript(names, tokens, table, cx, a, p);
         match r {
             Answer::Value(v, b) => {
                 e = values::grown(e, v);
@@ -540,25 +533,19 @@ pub fn entry(names: &[u64], tokens: &[u64], table: &[u64], cx: Context, at: usiz
     }
 }
 
-// An entry behind its lower formula, whose value is v; the index's place is that of refusals.
+// An entry behind its lower formula, whose value is v.
 fn bounds(names: &[u64], tokens: &[u64], table: &[u64], cx: Context, at: usize, v: Value) -> Entered
     ensures { λ r. ⌜ BoundsAre (boundsIn (cx .nest)) (now (names .entry)) (now (tokens .entry)) (now (table .entry)) (cx .given) (cx .level) (cx .scope) at v r ⌝ }
 {
     let token = tokens::token_at(tokens, at);
     match token {
         Seen::Token(k, p, x, next) => {
-            let low = values::whole(v, p, next);
-            match low {
-                Answer::Value(u, a) => {
-                    let b = passing::skip(tokens, a);
-                    let high = limit(names, tokens, table, cx, b, p);
-                    match high {
-                        Answer::Value(w, c) => {
-                            let i = steps::names::index_number(tokens, cx.level, at);
-                            Entered::Bounds(values::bounds_of(i, p, u, w), c)
-                        }
-                        Answer::Refused(m, q) => Entered::Refused(m, q),
-                    }
+            let a = passing::skip(tokens, next);
+            let high = part(names, tokens, table, cx, a);
+            match high {
+                Answer::Value(w, b) => {
+                    let i = steps::names::index_number(tokens, cx.level, at);
+                    Entered::Bounds(values::bounds_of(i, p, v, w), b)
                 }
                 Answer::Refused(m, q) => Entered::Refused(m, q),
             }
@@ -662,7 +649,7 @@ fn formula_fixed(
     }
 }
 
-// The limits of an entry, both such formulas and whole.
+// The limits of an entry, both such formulas.
 fn entry_fixed(
     names: &[u64],
     tokens: &[u64],
@@ -681,20 +668,12 @@ fn entry_fixed(
     let Seen::Token(k, p, x, b) = index else {
         return Fixed::Nothing;
     };
-    let lower = values::whole(v, p, b);
-    let Answer::Value(u, c) = lower else {
+    let c = passing::skip(tokens, b);
+    let high = formula_fixed(names, tokens, table, given, level, c);
+    let Single::Value(w, d) = high else {
         return Fixed::Nothing;
     };
-    let d = passing::skip(tokens, c);
-    let high = formula_fixed(names, tokens, table, given, level, d);
-    let Single::Value(w, f) = high else {
-        return Fixed::Nothing;
-    };
-    let upper = values::whole(w, p, f);
-    let Answer::Value(y, g) = upper else {
-        return Fixed::Nothing;
-    };
-    Fixed::Limits(values::limits_of(u, y), g)
+    Fixed::Limits(values::limits_of(v, w), d)
 }
 
 // The domain test by such limits.

@@ -11,7 +11,7 @@ use Rattle.rules.specs.declared.Refusal.{Refusal}
 use Rattle.rules.specs.declared.Refusal.the-variants.{Missing}
 use Rattle.rules.specs.Limits.{tokenLimit}
 use Rattle.value.specs.declared.Value.{Value}
-use Rattle.value.specs.Decimal.{sumOf, productOf}
+use Rattle.value.specs.Decimal.{sumOf, productOf, floorOf, ceilingOf}
 use Rattle.lexer.specs.Marks.{minusSign, timesSign, opens, sumWord}
 use Rattle.lexer.specs.Text.{Token, Kind}
 use Rattle.lexer.specs.Text
@@ -157,17 +157,16 @@ module _ (F : Walk) (f : Forwards F) where
   unfolding walkPart
   part-forward s = then-forward (F s) _ (f s) (λ v. then-forward skip _ skip-forward (λ _. give-forward v))
 
-  limits-forward : (p : ℕ) (s : Scope) → Forward (walkLimits F p s)
+  limits-forward : (s : Scope) → Forward (walkLimits F s)
   unfolding walkLimits
-  limits-forward p s =
-      then-forward (walkPart F s) _ (part-forward s) (λ v. then-forward (lift (wholeAt p v)) _ (lift-forward (wholeAt p v))
-      (λ a. then-forward (walkPart F s) _ (part-forward s) (λ w. then-forward (lift (wholeAt p w)) _ (lift-forward (wholeAt p w)) (λ b. give-forward (record { lower = a; upper = b })))))
+  limits-forward s =
+      then-forward (walkPart F s) _ (part-forward s) (λ v. then-forward (walkPart F s) _ (part-forward s) (λ w. give-forward (record { lower = ceilingOf v; upper = floorOf w })))
 
   sum-forward : (names : List Name) (p : ℕ) → Forwards (walkSum names F p)
   unfolding walkSum walkBody
   sum-forward names p s =
       then-forward (walkHead names) _ (λ l i k e. omega (arith, head-shorter names l i k e))
-      (λ i. then-forward (walkLimits F p s) _ (limits-forward p s)
+      (λ i. then-forward (walkLimits F s) _ (limits-forward s)
       (λ b. then-forward (lift (runOf b i s p)) _ (lift-forward (runOf b i s p)) (λ ks l v k e. rest-forward (walkTurns F i p s ks l) l v k e)))
 
   list-forward : (d : Spans) (s : Scope) (p : ℕ) → Forward (walkList F d s p)
@@ -219,8 +218,8 @@ inside-forward names zero s = refuse-forward _ 0
 inside-forward names (suc n) s =
     formula-forward _ (term-forward _ (λ s. then-forward next _ next-forward (λ t. by-forward (walkInside names n) (inside-forward names n) names (t .place) (t .kind) s))) s
 
-pub limits-behind : (names : List Name) (n p : ℕ) (s : Scope) (l : List Token) (b : Limits) (k : List Token) → walkLimits (walkInside names n) p s l ≡ read b k → length k ≤ length l
-limits-behind names n p s = limits-forward (walkInside names n) (inside-forward names n) p s
+pub limits-behind : (names : List Name) (n : ℕ) (s : Scope) (l : List Token) (b : Limits) (k : List Token) → walkLimits (walkInside names n) s l ≡ read b k → length k ≤ length l
+limits-behind names n s = limits-forward (walkInside names n) (inside-forward names n) s
 
 -- ---- positions
 

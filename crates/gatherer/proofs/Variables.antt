@@ -99,8 +99,8 @@ module _ (ns ts ds : List ℕ) (given level : ℕ) (sc : Scope) (n p at : ℕ) (
   pub run-head : (m : Refusal) (q : ℕ) → x ≡ headed.Refused m q → RunningIs n p ns ts ds given level sc at (running.Refused m q)
   run-head m q e = record { is = λ w g K. stop _ _ m q (head-is _ e w); ready = λ w g. tt; after = λ i l k a e. absurd (let z : _≡_ {A = ℕ} 0 1 = cc in omega arith) }
 
-  module _ (i a : ℕ) (e : x ≡ headed.Index i a) (y : Limited) (h : LimitsAre (limitsWalk n p) ns ts ds given level sc a y) where
-    limits-at : (z : Limited) → y ≡ z → (w : World ns ts ds given) → Small sc → limitsWalk n p (seenBy w level) (under w sc) (tokensAt w a) ≡ limitsOutcome (w .text) ts z
+  module _ (i a : ℕ) (e : x ≡ headed.Index i a) (y : Limited) (h : LimitsAre (limitsWalk n) ns ts ds given level sc a y) where
+    limits-at : (z : Limited) → y ≡ z → (w : World ns ts ds given) → Small sc → limitsWalk n (seenBy w level) (under w sc) (tokensAt w a) ≡ limitsOutcome (w .text) ts z
     limits-at z f w g = h .is w g ∙ ap (limitsOutcome (w .text) ts) f
 
     pub run-limits : (m : Refusal) (q : ℕ) → y ≡ limited.Refused m q → RunningIs n p ns ts ds given level sc at (running.Refused m q)
@@ -134,7 +134,7 @@ module _ (ns ts ds : List ℕ) (given level : ℕ) (sc : Scope) (n p at : ℕ) (
           go : World ns ts ds given → Small sc → ⊥
           go w g =
               let x = head-shorter (seenBy w level) (tokensAt w at) i (tokensAt w a) (head-is _ e w) in
-              let y = limits-behind (seenBy w level) n p (under w sc) (tokensAt w a) (limitsIn l) (tokensAt w b) (limits-at _ f w g) in
+              let y = limits-behind (seenBy w level) n (under w sc) (tokensAt w a) (limitsIn l) (tokensAt w b) (limits-at _ f w g) in
               omega (arith, length-from (w .text) ts at, length-from (w .text) ts a, length-from (w .text) ts b)
 
       pub run-count : (c : ℕ) → z ≡ runs.Count c → at < b → RunningIs n p ns ts ds given level sc at (running.Run i l c b)

@@ -181,7 +181,7 @@ ReadyRun sc (running.Refused r p) = Unit {0}
 
 pub record RunningIs (n p : ℕ) (ns ts ds : List ℕ) (given level : ℕ) (sc : Scope) (at : ℕ) (r : Running) : Type 0 where
   pub is : (w : World ns ts ds given) → Small sc → (K : ℕ → List ℤ → Reader Row)
-      → (walkHead (seenBy w level) >>= (λ i. limitsWalk n p (seenBy w level) (under w sc) >>= (λ l. lift (runOf l i (under w sc) p) >>= K i))) (tokensAt w at) ≡ runningOutcome w K r
+      → (walkHead (seenBy w level) >>= (λ i. limitsWalk n (seenBy w level) (under w sc) >>= (λ l. lift (runOf l i (under w sc) p) >>= K i))) (tokensAt w at) ≡ runningOutcome w K r
   pub ready : World ns ts ds given → Small sc → ReadyRun sc r
   pub after : (i : ℕ) (l : code.Limits) (k a : ℕ) → r ≡ running.Run i l k a → at < a
 

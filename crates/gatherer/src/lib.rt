@@ -477,7 +477,7 @@ fn run_of(names: &[u64], tokens: &[u64], table: &[u64], cx: Context, at: usize, 
     let head = evaluator::steps::names::head(tokens, cx.level, at);
     match head {
         Headed::Index(i, a) => {
-            let both = evaluator::both_limits(names, tokens, table, cx, a, p);
+            let both = evaluator::both_limits(names, tokens, table, cx, a);
             match both {
                 Limited::Limits(l, b) => {
                     let scope = cx.scope;

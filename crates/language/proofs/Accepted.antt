@@ -12,6 +12,7 @@ use Rattle.rules.specs.Refusals.{refusalNumber}
 use Rattle.language.specs.All.{All}
 use Rattle.lexer.specs.Text.{Token, tokens}
 use Rattle.language.specs.Outcome.{Outcome, done, refused}
+use Rattle.language.proofs.Evaluated.{run-through}
 use Rattle.language.proofs.Outcome.{after, after-check, done-injective}
 use Rattle.language.specs.Listing.{linesOf, bytesOfAll}
 use Rattle.language.specs.Answer.{Answer, accepted, listingOf, fitted, printing, listing, respond, answer}
@@ -89,6 +90,7 @@ kept text n e = go (listing text n) refl e
           portions = data-of text (a .model) (of .0) .portions;
           data-written = data-of text (a .model) (of .0) .writes;
           supplied = data-of text (a .model) (of .0) .supplied;
+          runs = run-through;
           defined = accepted-defined text a ea;
           keeps = keeps (a .model) (a .problem) (of .1);
           proper = proper;

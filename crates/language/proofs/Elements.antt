@@ -4,13 +4,8 @@ use mathlib.Core.Logic.{_⊎_, inl, inr}
 use mathlib.Core.List.{List, [], _∷_}
 use Prim.Native.Nat.{ℕ, _<_}
 use lib.IntN.{ℤ}
-use lib.Signed.{_≤ℤ_}
 use Rattle.language.specs.Listed.{In}
 use Rattle.language.proofs.Listed.{in-nil, in-cons, in-here}
-use Rattle.language.specs.Ranges.{range}
-use Rattle.language.proofs.Ranges.{in-range, range-in}
-use Rattle.value.specs.Rational.{floor, ceiling}
-use Rattle.value.proofs.Rational.{floor-is, ceiling-is}
 use Rattle.language.specs.Outcome.{Outcome, done}
 use Rattle.language.proofs.Outcome.{after}
 use Rattle.language.specs.Scope.{Scope, bind}
@@ -18,9 +13,9 @@ use Rattle.language.specs.Syntax.{Formula, Spans, point, span}
 use Rattle.language.specs.Evaluation.{limitsOf, runOf, eval}
 use Rattle.language.specs.Written.{value, runBetween, InDomain, bindAll}
 use Rattle.language.specs.Demand3.{Rising, Precedes}
-use Rattle.language.proofs.Evaluated.{eval-done, run-written}
+use Rattle.language.proofs.Evaluated.{eval-done, run-written, run-between, run-rising}
 use Rattle.language.proofs.Listwise.{collect, listed}
-use Rattle.language.proofs.Ordered.{rising-one, rising-range}
+use Rattle.language.proofs.Ordered.{rising-one}
 use Rattle.language.proofs.Collected.{collect-in, in-collect, rising-collect}
 
 -- what is done at an element
@@ -31,12 +26,12 @@ module _ {B : Type 0} where
   abbrev deeper : ℤ → Step B → Step B
   deeper k f = λ t e. f t (k ∷ e)
 
-  -- one level: the run is the range of the written limits
+  -- one level: the run is the one between the written limits
   level : {C : Type 0} (i : ℕ) (lower upper : Formula) (p : ℕ) (d : Spans) (s : Scope) (f : Step B) (bs : List B) → listed (span i lower upper p d) s f ≡ done bs
-      → (collect (λ k. listed d (bind i k s) (deeper k f)) (range (ceiling (value lower s)) (floor (value upper s))) ≡ done bs → C) → C
-  unfolding listed runBetween
+      → (collect (λ k. listed d (bind i k s) (deeper k f)) (runBetween (value lower s) (value upper s)) ≡ done bs → C) → C
+  unfolding listed
   level i lower upper p d s f bs e then =
-      after (limitsOf (eval lower s) (eval upper s) p) _ bs e λ l le e.
+      after (limitsOf (eval lower s) (eval upper s)) _ bs e λ l le e.
       after (runOf l i s p) _ bs e λ ks r e.
       then (rw (run-written (eval lower s) (eval upper s) l i s p ks (λ u h. eval-done lower s u h) (λ u h. eval-done upper s u h) le r) e)
 
@@ -53,13 +48,13 @@ module _ {B : Type 0} where
   over-in point s f bs e b h = record { element = []; inside = tt; result = bs; gives = e; holds = h }
   over-in (span n lower upper p d) s f bs e b h =
       level n lower upper p d s f bs e λ e.
-      let r = collect-in _ (range (ceiling (value lower s)) (floor (value upper s))) bs e b h in
+      let r = collect-in _ (runBetween (value lower s) (value upper s)) bs e b h in
       let k = r .source in
-      let l : (ceiling (value lower s) ≤ℤ k) × (k ≤ℤ floor (value upper s)) = in-range _ _ k (r .listed) in
+      let l = run-between (value lower s) (value upper s) k .0 (r .listed) in
       let i = over-in d (bind n k s) (deeper k f) (r .result) (r .gives) b (r .holds) in
       record {
         element = k ∷ i .element;
-        inside = (ceiling-is _ k .1 (l .0), floor-is _ k .1 (l .1), i .inside);
+        inside = (l .0, l .1, i .inside);
         result = i .result;
         gives = i .gives;
         holds = i .holds;
@@ -74,7 +69,7 @@ module _ {B : Type 0} where
   in-over (span n lower upper p d) s f bs h [] w = absurd w
   in-over (span n lower upper p d) s f bs h (k ∷ e) w =
       level n lower upper p d s f bs h λ h.
-      let r = in-collect _ (range (ceiling (value lower s)) (floor (value upper s))) bs h k (range-in _ _ k (ceiling-is _ k .0 (w .0)) (floor-is _ k .0 (w .1))) in
+      let r = in-collect _ (runBetween (value lower s) (value upper s)) bs h k (run-between (value lower s) (value upper s) k .1 (w .0, w .1)) in
       let i = in-over d (bind n k s) (deeper k f) (r .0) (r .1) e (w .2) in
       (i .0, i .1, λ b m. r .2 b (i .2 b m))
 
@@ -87,7 +82,7 @@ module _ {B : Type 0} where
   rising-over point s f bs e single before = single s [] bs e
   rising-over (span n lower upper p d) s f bs e single before =
       level n lower upper p d s f bs e λ e.
-      rising-collect (λ k. listed d (bind n k s) (deeper k f)) _ bs e (rising-range (ceiling (value lower s)) (floor (value upper s)))
+      rising-collect (λ k. listed d (bind n k s) (deeper k f)) _ bs e (run-rising (value lower s) (value upper s))
       (λ k cs g. rising-over d (bind n k s) (deeper k f) cs g (λ t e. single t (k ∷ e))
       (λ t t′ e e′ cs cs′ b b′ g g′ m m′ o. before t t′ (k ∷ e) (k ∷ e′) cs cs′ b b′ g g′ m m′ (inr (refl, o))))
       (λ k k′ o cs cs′ b b′ g g′ m m′.

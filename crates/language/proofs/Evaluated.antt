@@ -1,53 +1,57 @@
 -- Where evaluation gives a value, it is the written value: the first half of demand 3's theorem, over these trees.
 use mathlib.Core.Path.{_≡_, sym, _∙_, ap}
+use mathlib.Core.Logic.{_↔_}
 use mathlib.Core.List.{List, [], _∷_}
 use Prim.Native.Nat.{ℕ}
 use lib.Dec.{leb}
-use lib.IntN.{ℤ}
+use lib.IntN.{ℤ, pos, _+ℤ_}
+use lib.Signed.{_≤ℤ_}
 use Rattle.value.specs.Number.{exactly}
+use Rattle.language.specs.Listed.{In}
 use Rattle.language.specs.Ranges.{range}
-use Rattle.value.specs.Rational.{ℚ, _⊕_, neg, floor, ceiling}
-use Rattle.value.proofs.Rational.{floor-whole, ceiling-whole, add-zero, zero-add, add-assoc}
+use Rattle.language.proofs.Ranges.{in-range, range-in}
+use Rattle.value.specs.Rational.{ℚ, _⊕_, neg, whole, floor, ceiling, _⊑_}
+use Rattle.value.proofs.Rational.{floor-whole, floor-is, ceiling-is, add-zero, zero-add, add-assoc}
 use Rattle.rules.specs.declared.Refusal.the-variants.{BadIndex, NotWhole, Missing}
 use Rattle.language.specs.Outcome.{Outcome, done}
 use Rattle.language.proofs.Outcome.{fits-of, after-whole, after, after-some, after-check, some-of, done-injective}
 use Rattle.rules.specs.Limits.{runLimit}
 use Rattle.value.specs.declared.Value.{Value}
-use Rattle.value.specs.declared.Whole.the-variants.{Number}
-use Rattle.value.specs.Decimal.{zeroValue, sumOf, productOf, wholeOf}
+use Rattle.value.specs.Decimal.{zeroValue, sumOf, productOf, wholeOf, floorOf, ceilingOf}
 use Rattle.language.specs.Scope.{Scope, bind, unbound, boundTo}
 use Rattle.language.specs.Syntax.{Formula, Formulas, datum, minus, plus, times, sum}
 use Rattle.language.specs.Syntax
 use Rattle.language.specs.Evaluation.{Limits, limitsOf, wholeAt, lengthOf, runOf, fresh, each, addTo, eval, evalAll, within}
 use Rattle.language.specs.Written.{value, subscripts, sumOver, runBetween, wholeOr0, valueOr0}
+use Rattle.language.specs.Demand3.{Rising, Run}
+use Rattle.language.proofs.Ordered.{rising-range}
+use Rattle.value.proofs.Rounding.{floor-exactly, ceiling-exactly}
 use Rattle.value.proofs.Numbers.{exactly-whole, exactly-zero, exactly-negate, exactly-wholeOf, exactly-add, exactly-mul}
 
 -- ---- limits and runs
 
--- two limits that are read are whole, and are the written ones
+-- two limits that are read are the rounded values of their formulas
 pub record Read (o q : Outcome Value) (l : Limits) : Type 0 where
   pub low : Value
   pub high : Value
   pub low-done : o ≡ done low
-  pub low-whole : wholeOf low ≡ Number (l .lower)
+  pub low-is : ceilingOf low ≡ l .lower
   pub high-done : q ≡ done high
-  pub high-whole : wholeOf high ≡ Number (l .upper)
+  pub high-is : floorOf high ≡ l .upper
 
-pub limits-read : (o q : Outcome Value) (p : ℕ) (l : Limits) → limitsOf o q p ≡ done l → Read o q l
-unfolding limitsOf wholeAt
-limits-read o q p l e =
+pub limits-read : (o q : Outcome Value) (l : Limits) → limitsOf o q ≡ done l → Read o q l
+unfolding limitsOf
+limits-read o q l e =
     after o _ l e λ v ov e.
-    after-whole p (wholeOf v) _ l e λ a va e.
     after q _ l e λ w qw e.
-    after-whole p (wholeOf w) _ l e λ b wb e.
-    let same : record { lower = a; upper = b } ≡ l = done-injective e in
+    let same : record { lower = ceilingOf v; upper = floorOf w } ≡ l = done-injective e in
     record {
       low = v;
       high = w;
       low-done = ov;
-      low-whole = va ∙ ap (λ (x : Limits). Number (x .lower)) same;
+      low-is = ap (λ (x : Limits). x .lower) same;
       high-done = qw;
-      high-whole = wb ∙ ap (λ (x : Limits). Number (x .upper)) same;
+      high-is = ap (λ (x : Limits). x .upper) same;
     }
 
 pub run-done : (l : Limits) (i : ℕ) (s : Scope) (p : ℕ) (ks : List ℤ) → runOf l i s p ≡ done ks → ks ≡ range (l .lower) (l .upper)
@@ -59,13 +63,31 @@ run-done l i s p ks e =
 
 -- the run that is read is the run between the written limits
 pub run-written : {f g : ℚ} (o q : Outcome Value) (l : Limits) (i : ℕ) (s : Scope) (p : ℕ) (ks : List ℤ) → ((v : Value) → o ≡ done v → f ≡ exactly v)
-    → ((v : Value) → q ≡ done v → g ≡ exactly v) → limitsOf o q p ≡ done l → runOf l i s p ≡ done ks → runBetween f g ≡ ks
+    → ((v : Value) → q ≡ done v → g ≡ exactly v) → limitsOf o q ≡ done l → runOf l i s p ≡ done ks → runBetween f g ≡ ks
 unfolding runBetween
 run-written {f} {g} o q l i s p ks fo gq e r =
-    let d = limits-read o q p l e in
-    let a : ceiling f ≡ l .lower = ap ceiling (fo (d .low) (d .low-done) ∙ exactly-wholeOf (d .low) (l .lower) (d .low-whole)) ∙ ceiling-whole (l .lower) in
-    let b : floor g ≡ l .upper = ap floor (gq (d .high) (d .high-done) ∙ exactly-wholeOf (d .high) (l .upper) (d .high-whole)) ∙ floor-whole (l .upper) in
+    let d = limits-read o q l e in
+    let a : ceiling f ≡ l .lower = ap ceiling (fo (d .low) (d .low-done)) ∙ ceiling-exactly (d .low) ∙ d .low-is in
+    let b : floor g ≡ l .upper = ap floor (gq (d .high) (d .high-done)) ∙ floor-exactly (d .high) ∙ d .high-is in
     rw (a, b) (sym (run-done l i s p ks r))
+
+-- ---- the run between two written limits, as the text says it
+
+-- it goes through exactly the whole numbers that are neither below the lower limit nor above the upper one
+pub run-between : (p q : ℚ) (k : ℤ) → In (runBetween p q) k ↔ ((p ⊑ whole k) × (whole k ⊑ q))
+unfolding runBetween
+run-between p q k = (
+  λ h. let r = in-range (ceiling p) (floor q) k h in (ceiling-is p k .1 (r .0), floor-is q k .1 (r .1)),
+  λ b. range-in (ceiling p) (floor q) k (ceiling-is p k .0 (b .0)) (floor-is q k .0 (b .1)),
+)
+
+-- rising, so through each of them once
+pub run-rising : (p q : ℚ) → Rising (λ j k. (j +ℤ pos 1) ≤ℤ k) (runBetween p q)
+unfolding runBetween
+run-rising p q = rising-range (ceiling p) (floor q)
+
+pub run-through : (p q : ℚ) → Run p q (runBetween p q)
+run-through p q = record { between = run-between p q; rising = run-rising p q }
 
 -- ---- formulas
 
@@ -105,7 +127,7 @@ mutual
       after (eval g s) _ v e λ y gy e.
       rw (eval-done f s x fx, eval-done g s y gy) (sym (exactly-mul x y v (fits-of p (productOf x y) v e)))
   eval-done (sum i f g h p) s v e =
-      after (limitsOf (eval f s) (eval g s) p) _ v e λ l fg e.
+      after (limitsOf (eval f s) (eval g s)) _ v e λ l fg e.
       after (runOf l i s p) _ v e λ ks r e.
       rw (run-written (eval f s) (eval g s) l i s p ks (λ u d. eval-done f s u d) (λ u d. eval-done g s u d) fg r)
       (sym (total-done (λ k. eval h (bind i k s)) (λ k. value h (bind i k s)) p (λ k u d. eval-done h (bind i k s) u d) ks zeroValue v e

@@ -207,7 +207,7 @@ module _ (vs : List Variable) (x : Variable → ℚ) where
         rw (evalAll-done fs s p ks fk, ← signed-exactly)
         (addAt-done j (signed m c) p row row′ (record { name = i; element = ks }) (numberOf-at i ks vs j (some-of Outside p (numberOf i ks vs) j vj)) e long)
     gatherTerm-done (sigma i f g h p) s c m row row′ e long =
-        after (limitsOf (eval f s) (eval g s) p) _ row′ e λ l fg e.
+        after (limitsOf (eval f s) (eval g s)) _ row′ e λ l fg e.
         after (runOf l i s p) _ row′ e λ ks r e.
         rw (run-written (eval f s) (eval g s) l i s p ks (λ u d. eval-done f s u d) (λ u d. eval-done g s u d) fg r)
         (each-done (λ k r. gather vs h (bind i k s) c m r) (λ k. formValue x h (bind i k s)) (weigh m c) (weigh-zero m c) (weigh-add m c)

@@ -14,8 +14,9 @@ use Rattle.value.specs.declared.Value.{Value}
 use Rattle.value.specs.declared.Whole.the-variants.{Number, NotWhole as noNumber}
 use Rattle.rational.specs.Integer.{up, down}
 use Rattle.rational.proofs.Integer.{le-parts}
-use Rattle.value.specs.Decimal.{Valid, zeroValue, sumOf, productOf, wholeOf}
+use Rattle.value.specs.Decimal.{Valid, zeroValue, sumOf, productOf, wholeOf, floorOf, ceilingOf}
 use Rattle.value.proofs.Operations.{sum-valid, product-valid, negate-valid, zero-valid, ofWhole-valid}
+use Rattle.value.proofs.Rounding.{floor-size, ceiling-size}
 use Rattle.language.specs.Ranges.{range}
 use Rattle.language.proofs.Ranges.{in-range}
 use Rattle.language.specs.All.{All}
@@ -40,6 +41,14 @@ small-whole v k h e = go (eqb (v .s) 0) e
     go true e = let same : v .m ≡ k = cc in subst Small same (h .small)
     go false e = let z : _≡_ {A = ℕ} 0 1 = cc in absurd (omega arith)
 
+-- ---- rounded values
+
+pub small-floor : (v : Value) → Valid v → Small (floorOf v)
+small-floor v h = omega (arith, h .small, floor-size v)
+
+pub small-ceiling : (v : Value) → Valid v → Small (ceilingOf v)
+small-ceiling v h = omega (arith, h .small, ceiling-size v)
+
 -- ---- runs
 
 natAbs-parts : (k : ℤ) → natAbs k ≡ up k + down k
@@ -57,13 +66,13 @@ pub record SmallLimits (l : Limits) : Type 0 where
   pub lower : Small (l .lower)
   pub upper : Small (l .upper)
 
-pub limits-small : (o q : Outcome Value) (p : ℕ) (l : Limits) → ((v : Value) → o ≡ done v → Valid v) → ((v : Value) → q ≡ done v → Valid v)
-    → limitsOf o q p ≡ done l → SmallLimits l
-limits-small o q p l ho hq e =
-    let d = limits-read o q p l e in
+pub limits-small : (o q : Outcome Value) (l : Limits) → ((v : Value) → o ≡ done v → Valid v) → ((v : Value) → q ≡ done v → Valid v)
+    → limitsOf o q ≡ done l → SmallLimits l
+limits-small o q l ho hq e =
+    let d = limits-read o q l e in
     record {
-      lower = small-whole (d .low) (l .lower) (ho (d .low) (d .low-done)) (d .low-whole);
-      upper = small-whole (d .high) (l .upper) (hq (d .high) (d .high-done)) (d .high-whole);
+      lower = subst Small (d .low-is) (small-ceiling (d .low) (ho (d .low) (d .low-done)));
+      upper = subst Small (d .high-is) (small-floor (d .high) (hq (d .high) (d .high-done)));
     }
 
 pub run-small : (l : Limits) (i : ℕ) (s : Scope) (p : ℕ) (ks : List ℤ) → SmallLimits l → runOf l i s p ≡ done ks → SmallElement ks
@@ -121,18 +130,18 @@ eval-valid (times f g p) s v a h e =
     after (eval g s) _ v e λ y _ e.
     product-valid x y v (fits-of p (productOf x y) v e)
 eval-valid (sum i f g b p) s v a h e =
-    after (limitsOf (eval f s) (eval g s) p) _ v e λ l fg e.
+    after (limitsOf (eval f s) (eval g s)) _ v e λ l fg e.
     after (runOf l i s p) _ v e λ ks r e.
     each-keeps Valid (λ k u. addTo p u (eval b (bind i k s)))
     (λ k u w _ _ e. after (eval b (bind i k s)) _ w e λ x _ e. sum-valid u x w (fits-of p (sumOf u x) w e))
-    ks zeroValue v (run-small l i s p ks (limits-small (eval f s) (eval g s) p l (λ u d. eval-valid f s u (a .0) h d) (λ u d. eval-valid g s u (a .1) h d) fg) r)
+    ks zeroValue v (run-small l i s p ks (limits-small (eval f s) (eval g s) l (λ u d. eval-valid f s u (a .0) h d) (λ u d. eval-valid g s u (a .1) h d) fg) r)
     zero-valid e
 
 -- the run of an index between two formulas
 pub run-valid : (f g : Formula) (i : ℕ) (s : Scope) (p : ℕ) (l : Limits) (ks : List ℤ) → AllFormula Valid f → AllFormula Valid g → ValidScope s
-    → limitsOf (eval f s) (eval g s) p ≡ done l → runOf l i s p ≡ done ks → SmallElement ks
+    → limitsOf (eval f s) (eval g s) ≡ done l → runOf l i s p ≡ done ks → SmallElement ks
 run-valid f g i s p l ks a b h e r =
-    run-small l i s p ks (limits-small (eval f s) (eval g s) p l (λ u d. eval-valid f s u a h d) (λ u d. eval-valid g s u b h d) e) r
+    run-small l i s p ks (limits-small (eval f s) (eval g s) l (λ u d. eval-valid f s u a h d) (λ u d. eval-valid g s u b h d) e) r
 
 pub evalAll-valid : (fs : Formulas) (s : Scope) (p : ℕ) (ks : List ℤ) → AllFormulas Valid fs → ValidScope s → evalAll fs s p ≡ done ks → SmallElement ks
 unfolding evalAll wholeAt
@@ -150,7 +159,7 @@ pub over-keeps : {A : Type 0} (P : A → Type 0) (d : Spans) (s : Scope) (f : Sc
 unfolding over
 over-keeps P point s f v h keeps a b pa e = keeps s [] a b h tt pa e
 over-keeps P (span i lower upper p d) s f v h keeps a b pa e =
-    after (limitsOf (eval lower s) (eval upper s) p) _ b e λ l le e.
+    after (limitsOf (eval lower s) (eval upper s)) _ b e λ l le e.
     after (runOf l i s p) _ b e λ ks r e.
     each-keeps P (λ k c. over d (bind i k s) (λ t x. f t (k ∷ x)) c)
     (λ k c c′ hk pc e. over-keeps P d (bind i k s) (λ t x. f t (k ∷ x)) (v .2) (bind-valid i k s hk h) (λ t x x′ y ht hx px e. keeps t (k ∷ x) x′ y ht (hk, hx) px e) c c′ pc e)

@@ -209,7 +209,7 @@ module _ (vs : List Variable) where
         after (variableAt vs i d fs p s) _ q e λ j _ e.
         addAt-valid j (signed m c) p r q h e
     gatherTerm-valid (sigma i f g b p) s c m r q l hs h e =
-        after (limitsOf (eval f s) (eval g s) p) _ q e λ x fg e.
+        after (limitsOf (eval f s) (eval g s)) _ q e λ x fg e.
         after (runOf x i s p) _ q e λ ks ru e.
         each-keeps ValidRow (λ k u. gather vs b (bind i k s) c m u)
         (λ k u w hk hu e. gather-valid b (bind i k s) c m u w (l .2) (bind-valid i k s hk hs) hu e)

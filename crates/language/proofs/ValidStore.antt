@@ -75,7 +75,7 @@ unfolding positionRun
 positionRun-valid point b j s ks a hb h e = subst SmallElement (done-injective e) tt
 positionRun-valid (span i f g p d) [] j s ks a hb h e = subst SmallElement (done-injective e) tt
 positionRun-valid (span i f g p d) (x ∷ b) zero s ks a hb h e =
-    after (limitsOf (eval f s) (eval g s) p) _ ks e λ l fg e.
+    after (limitsOf (eval f s) (eval g s)) _ ks e λ l fg e.
     run-valid f g i s p l ks (a .0) (a .1) h fg e
 positionRun-valid (span i f g p d) (x ∷ b) (suc j) s ks a hb h e =
     positionRun-valid d b j (bindIf i x s) ks (a .2) (hb .1) (bindIf-valid i x s (hb .0) h) e

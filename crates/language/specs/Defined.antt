@@ -1,6 +1,7 @@
 -- Written values are total: an index that isn't bound and a name without a value count as 0, and a subscript is taken by its
--- floor (specs/Written). Here is said where nothing of that occurs: every index that is read is bound; every subscript and
--- every limit is whole; every name that is read lies in its declared domain and has a value.
+-- floor (specs/Written). Here is said where nothing of that occurs: every index that is read is bound; every subscript is
+-- whole; every name that is read lies in its declared domain and has a value. A limit need not be whole: a run goes through the
+-- whole numbers between the two (decision 51).
 use mathlib.Core.Path.{_≡_}
 use mathlib.Core.Option.{Option, some}
 use mathlib.Core.List.{List, [], _∷_}
@@ -39,7 +40,7 @@ abbrev mutual
   Defined (plus f g p) s = Defined f s × Defined g s
   Defined (times f g p) s = Defined f s × Defined g s
   Defined (sum i f g h p) s =
-      Defined f s × IsWhole (value f s) × Defined g s × IsWhole (value g s) × ((k : ℤ) → Between (value f s) (value g s) k → Defined h (bind i k s))
+      Defined f s × Defined g s × ((k : ℤ) → Between (value f s) (value g s) k → Defined h (bind i k s))
 
   pub DefinedSubscripts : Formulas → Scope → Type 0
   DefinedSubscripts Syntax.none s = Unit
@@ -49,13 +50,13 @@ abbrev mutual
   pub DefinedTest : Spans → Scope → List ℤ → Type 0
   DefinedTest point s e = Unit
   DefinedTest (span i f g p d) s [] = Unit
-  DefinedTest (span i f g p d) s (k ∷ e) = Defined f s × IsWhole (value f s) × Defined g s × IsWhole (value g s) × DefinedTest d (bind i k s) e
+  DefinedTest (span i f g p d) s (k ∷ e) = Defined f s × Defined g s × DefinedTest d (bind i k s) e
 
 -- all limits that a walk through a domain reads
 abbrev pub DefinedDomain : Spans → Scope → Type 0
 DefinedDomain point s = Unit
 DefinedDomain (span i f g p d) s =
-    Defined f s × IsWhole (value f s) × Defined g s × IsWhole (value g s) × ((k : ℤ) → Between (value f s) (value g s) k → DefinedDomain d (bind i k s))
+    Defined f s × Defined g s × ((k : ℤ) → Between (value f s) (value g s) k → DefinedDomain d (bind i k s))
 
 -- ---- linear forms; the variables that are named have P
 
@@ -73,7 +74,7 @@ module _ (P : Variable → Type 0) where
     DefinedTerm (factor f p t) s = Defined f s × DefinedTerm t s
     DefinedTerm (variable i d fs p) s = DefinedVariable i d fs s
     DefinedTerm (sigma i f g h p) s =
-        Defined f s × IsWhole (value f s) × Defined g s × IsWhole (value g s) × ((k : ℤ) → Between (value f s) (value g s) k → DefinedForm h (bind i k s))
+        Defined f s × Defined g s × ((k : ℤ) → Between (value f s) (value g s) k → DefinedForm h (bind i k s))
 
   abbrev pub DefinedSide : Side → Scope → Type 0
   DefinedSide (bare i d fs p) s = DefinedVariable i d fs s

@@ -13,14 +13,14 @@ use Rattle.rules.specs.declared.Refusal.the-variants.{BadIndex, NotWhole, Outsi
 use Rattle.language.specs.Outcome.{Outcome, done, refused, _>>=_, orRefuse, fitting, wholeNumber, check}
 use Rattle.rules.specs.Limits.{runLimit, indexLimit}
 use Rattle.value.specs.declared.Value.{Value}
-use Rattle.value.specs.Decimal.{zeroValue, negate, sumOf, productOf, wholeOf, ofWhole}
+use Rattle.value.specs.Decimal.{zeroValue, negate, sumOf, productOf, wholeOf, ofWhole, floorOf, ceilingOf}
 use Rattle.language.specs.Scope.{Scope, bind, unbound, boundTo}
 use Rattle.language.specs.Syntax.{Formula, Formulas, Spans, datum, minus, plus, times, sum, point, span}
 use Rattle.language.specs.Syntax
 
 -- ---- limits and runs
 
--- a limit, a subscript or an integer datum is whole, or 8 at p
+-- a subscript or an integer datum is whole, or 8 at p
 unfoldable pub wholeAt : ℕ → Value → Outcome ℤ
 wholeAt p v = wholeNumber p (wholeOf v)
 
@@ -28,15 +28,13 @@ pub record Limits : Type 0 where
   pub lower : ℤ
   pub upper : ℤ
 
--- the two limits of a run or of a domain test, lower first, each tested whole as read (decision 19); f and g are what their
--- formulas give
-unfoldable pub limitsOf : Outcome Value → Outcome Value → ℕ → Outcome Limits
-limitsOf f g p = do
+-- the two limits of a run or of a domain test: both values, the lower one's first, then the lower one rounded up and the upper
+-- one down (decisions 19, 51); f and g are what their formulas give
+unfoldable pub limitsOf : Outcome Value → Outcome Value → Outcome Limits
+limitsOf f g = do
   v ← f
-  a ← wholeAt p v
   w ← g
-  b ← wholeAt p w
-  done (record { lower = a; upper = b })
+  done (record { lower = ceilingOf v; upper = floorOf w })
 
 -- how many numbers lie from lower to upper: upper + 1 - lower, or none where that is below zero
 unfoldable pub lengthOf : Limits → ℕ
@@ -50,7 +48,7 @@ isNone (some a) = false
 unfoldable pub fresh : ℕ → Scope → ℕ → Outcome (Unit {0})
 fresh i s p = check BadIndex p (isNone (boundTo i (s .bound)) && ltb (length (s .bound)) indexLimit)
 
--- the run of an index from lower to upper: above 256 is 8, then 7 (decision 19)
+-- the run of an index from lower to upper: above 256 is 8, then 7 (decision 19); its length is that of the rounded limits
 unfoldable pub runOf : Limits → ℕ → Scope → ℕ → Outcome (List ℤ)
 runOf l i s p = do
   _ ← check NotWhole p (leb (lengthOf l) runLimit)
@@ -90,7 +88,7 @@ unfoldable mutual
     w ← eval g s
     fitting p (productOf v w)
   eval (sum i f g h p) s = do
-    l ← limitsOf (eval f s) (eval g s) p
+    l ← limitsOf (eval f s) (eval g s)
     ks ← runOf l i s p
     each (λ k v. addTo p v (eval h (bind i k s))) ks zeroValue
 
@@ -109,7 +107,7 @@ unfoldable mutual
   within point ks s p = done tt
   within (span i f g q d) [] s p = refused Outside p
   within (span i f g q d) (k ∷ ks) s p = do
-    l ← limitsOf (eval f s) (eval g s) q
+    l ← limitsOf (eval f s) (eval g s)
     _ ← check Outside p (leZ (l .lower) k && leZ k (l .upper))
     within d ks (bind i k s) p
 
@@ -120,6 +118,6 @@ unfoldable mutual
 unfoldable pub over : {A : Type 0} → Spans → Scope → (Scope → List ℤ → A → Outcome A) → A → Outcome A
 over point s f a = f s [] a
 over (span i lower upper p d) s f a = do
-  l ← limitsOf (eval lower s) (eval upper s) p
+  l ← limitsOf (eval lower s) (eval upper s)
   ks ← runOf l i s p
   each (λ k b. over d (bind i k s) (λ t e. f t (k ∷ e)) b) ks a

@@ -97,7 +97,7 @@ module _ (vs : List Variable) where
       j ← variableAt i d fs p s
       addAt j (signed m c) p r
     gatherTerm (sigma i f g h p) s c m r = do
-      l ← limitsOf (eval f s) (eval g s) p
+      l ← limitsOf (eval f s) (eval g s)
       ks ← runOf l i s p
       each (λ k q. gather h (bind i k s) c m q) ks r
 

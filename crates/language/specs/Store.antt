@@ -75,7 +75,7 @@ unfoldable pub positionRun : Spans → Bound → ℕ → Scope → Outcome (List
 positionRun point b j s = done []
 positionRun (span i f g p d) [] j s = done []
 positionRun (span i f g p d) (x ∷ b) zero s = do
-  l ← limitsOf (eval f s) (eval g s) p
+  l ← limitsOf (eval f s) (eval g s)
   runOf l i s p
 positionRun (span i f g p d) (x ∷ b) (suc j) s = positionRun d b j (bindIf i x s)
 

@@ -121,14 +121,12 @@ part-agrees F W a c s =
     }
 
 module _ (F : Reader Formula) (W : Walk) (a : Agrees F W) (s : Scope) where
-  -- two limits, tested at p
-  pub limits-walk : (p c c′ : ℕ) (ts l m : List Token) (f g : Formula) → partOf F c ts ≡ read f l → partOf F c′ l ≡ read g m → walkLimits W p s ts ≡ asRead (limitsOf (eval f s) (eval g s) p) m
+  -- two limits
+  pub limits-walk : (c c′ : ℕ) (ts l m : List Token) (f g : Formula) → partOf F c ts ≡ read f l → partOf F c′ l ≡ read g m → walkLimits W s ts ≡ asRead (limitsOf (eval f s) (eval g s)) m
   unfolding walkLimits limitsOf
-  limits-walk p c c′ ts l m f g fl gm =
+  limits-walk c c′ ts l m f g fl gm =
       via (walkPart W s ts) (eval f s) l m _ _ (part-agrees F W a c s .walks ts f l fl) λ v.
-      via (asRead (wholeAt p v) l) (wholeAt p v) l m _ _ refl λ lo.
-      via (walkPart W s l) (eval g s) m m _ _ (part-agrees F W a c′ s .walks l g m gm) λ w.
-      via (asRead (wholeAt p w) m) (wholeAt p w) m m _ _ refl λ hi. refl
+      via (walkPart W s l) (eval g s) m m _ _ (part-agrees F W a c′ s .walks l g m gm) λ w. refl
 
   list-walks : (p : ℕ) (d : Spans) (ts rest : List Token) (fs : Formulas) → formulasOf F d ts ≡ read fs rest → walkList W d s p ts ≡ asRead (evalAll fs s p) rest
   unfolding formulasOf walkList eval
@@ -186,7 +184,7 @@ module _ (names : List Name) (n : ℕ) (F : Reader Formula) (W : Walk) (a : Agre
             after-read (partOf F comma l₁) _ _ e λ g l₂ gl e.
             after-read (partOf F closes l₂) _ _ e λ h l₃ hl e.
             on (walkHead names ts) _ (i .number) l _ (head-walks names n ts i l il)
-            (via (walkLimits W p s l) (limitsOf (eval f s) (eval g s) p) l₂ l₃ _ _ (limits-walk F W a s p comma comma l l₁ l₂ f g fl gl) λ b.
+            (via (walkLimits W s l) (limitsOf (eval f s) (eval g s)) l₂ l₃ _ _ (limits-walk F W a s comma comma l l₁ l₂ f g fl gl) λ b.
             via (asRead (runOf b (i .number) s p) l₂) (runOf b (i .number) s p) l₂ l₃ _ _ refl λ ks. body-walks (i .number) p s ks l₂ l₃ h hl)
             ∙ ends (λ x. eval x s) e;
       }

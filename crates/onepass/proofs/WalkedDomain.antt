@@ -121,18 +121,16 @@ module _ (names : List Name) where
   -- ---- one entry: its limits, with the index's number and place
 
   pub entry-walk : (i : ℕ) (f g : Formula) (q : ℕ) (ts rest : List Token) → ReadsEntry names i f g q ts rest → (s : Scope)
-      → walkEntry names (inDomainWalk names) s ts ≡ asRead (Outcome._>>=_ (limitsOf (eval f s) (eval g s) q) λ l. done (record { number = i; place = q; limits = l })) rest
+      → walkEntry names (inDomainWalk names) s ts ≡ asRead (Outcome._>>=_ (limitsOf (eval f s) (eval g s)) λ l. done (record { number = i; place = q; limits = l })) rest
   unfolding walkEntry limitsOf
   entry-walk i f g q ts rest r s =
       let F = inside-agrees names nestingLimit in
       let bounds : Limits → Reader Bounds = (λ l. read (record { number = i; place = q; limits = l })) in
       onward (walkPart (inDomainWalk names) s ts) (eval f s) _ (r .atIndex) rest _ bounds (part-agrees _ _ F atMost s .walks ts f (r .atIndex) (r .lower)) (λ v.
       on (next (r .atIndex)) _ (r .index) (r .atSign) _ (r .named) (rw (r .place, r .number)
-      (onward (asRead (wholeAt q v) (r .atSign)) (wholeAt q v) _ (r .atSign) rest _ bounds refl λ a.
-      on (skip (r .atSign)) _ tt (r .atUpper) _ (skip-expect atMost (r .atSign) (r .signPlace) (r .atUpper) (r .sign))
-      (onward (walkPart (inDomainWalk names) s (r .atUpper)) (eval g s) _ rest rest _ bounds (part-walks _ _ F (r .atUpper) g (r .atEnd) (r .upper) (r .last) rest (r .ended) s) λ w.
-      onward (asRead (wholeAt q w) rest) (wholeAt q w) _ rest rest _ bounds refl λ b. refl))))
-      ∙ via (asRead (limitsOf (eval f s) (eval g s) q) rest) (limitsOf (eval f s) (eval g s) q) rest rest bounds _ refl (λ l. refl)
+      (on (skip (r .atSign)) _ tt (r .atUpper) _ (skip-expect atMost (r .atSign) (r .signPlace) (r .atUpper) (r .sign))
+      (onward (walkPart (inDomainWalk names) s (r .atUpper)) (eval g s) _ rest rest _ bounds (part-walks _ _ F (r .atUpper) g (r .atEnd) (r .upper) (r .last) rest (r .ended) s) λ w. refl))))
+      ∙ via (asRead (limitsOf (eval f s) (eval g s)) rest) (limitsOf (eval f s) (eval g s)) rest rest bounds _ refl (λ l. refl)
 
   -- ---- the domain test of as many numbers as the domain has indices
 
@@ -144,7 +142,7 @@ module _ (names : List Name) where
   within-walk (span i f g q d) [] n s p ts rest r = absurd (omega arith)
   within-walk (span i f g q d) (k ∷ ks) n s p ts rest r =
       let (m, e, more) = r in
-      via-made (walkEntry names (inDomainWalk names) s ts) (limitsOf (eval f s) (eval g s) q) (λ l. record { number = i; place = q; limits = l }) m rest _ _ (entry-walk i f g q ts m e s) λ l.
+      via-made (walkEntry names (inDomainWalk names) s ts) (limitsOf (eval f s) (eval g s)) (λ l. record { number = i; place = q; limits = l }) m rest _ _ (entry-walk i f g q ts m e s) λ l.
       let inside = check Outside p (leZ (l .lower) k && leZ k (l .upper)) in
       via (asRead inside m) inside m rest _ _ refl λ _. within-walk d ks (omega arith) (bind i k s) p m rest more
 

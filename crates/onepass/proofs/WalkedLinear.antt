@@ -218,7 +218,7 @@ module _ (vs : List Variable) (names : List Name) where
             after-read (expect closes l₃) _ _ e λ q l₄ ql e.
             let x = i .number in
             on (walkHead names ts) _ x l _ (head-walks names (suc n) ts i l il)
-            (via (walkLimits (valueAt names n) p s l) (limitsOf (eval f s) (eval g s) p) l₂ l₄ _ _ (limits-walk (formulaAt names n) (valueAt names n) formula-walks s p comma comma l l₁ l₂ f g fl gl) λ b.
+            (via (walkLimits (valueAt names n) s l) (limitsOf (eval f s) (eval g s)) l₂ l₄ _ _ (limits-walk (formulaAt names n) (valueAt names n) formula-walks s comma comma l l₁ l₂ f g fl gl) λ b.
             via (asRead (runOf b x s p) l₂) (runOf b x s p) l₂ l₄ _ _ refl λ ks.
             runs-gather (bodyOf names (sigmaAt names n) n) _ (body-gathers (sigmaAt names n) (walkSigma vs names n) (sigma-gathers n) n) l₂ h l₃ hl l₄ (sigma-body-end names n l₂ h l₃ hl q l₄ ql) x s c m r ks)
             ∙ ends (λ z. gatherTerm vs z s c m r) e;

@@ -12,7 +12,7 @@ use lib.Signed.{leZ}
 use Rattle.rules.specs.declared.Refusal.the-variants.{Misplaced, BadName, Full, Outside, Missing}
 use Rattle.rules.specs.Limits.{tokenLimit, nestingLimit}
 use Rattle.value.specs.declared.Value.{Value}
-use Rattle.value.specs.Decimal.{zeroValue, sumOf, productOf}
+use Rattle.value.specs.Decimal.{zeroValue, sumOf, productOf, floorOf, ceilingOf}
 use Rattle.lexer.specs.Marks.{minusSign, timesSign, opens, closes, opensList, closesList, sumWord}
 use Rattle.lexer.specs.Text.{Token, Kind}
 use Rattle.lexer.specs.Text
@@ -124,19 +124,17 @@ walkHead names = do
   _ ← skip
   give (nameNumber names (t .kind))
 
--- two limits, each a formula with the sign behind it, tested whole as read
-unfoldable pub walkLimits : Walk → ℕ → Scope → Reader Limits
-walkLimits F p s = do
+-- two limits, each a formula with the sign behind it; then the lower one is rounded up and the upper one down
+unfoldable pub walkLimits : Walk → Scope → Reader Limits
+walkLimits F s = do
   v ← walkPart F s
-  a ← lift (wholeAt p v)
   w ← walkPart F s
-  b ← lift (wholeAt p w)
-  give (record { lower = a; upper = b })
+  give (record { lower = ceilingOf v; upper = floorOf w })
 
 unfoldable pub walkSum : List Name → Walk → ℕ → Walk
 walkSum names F p s = do
   i ← walkHead names
-  l ← walkLimits F p s
+  l ← walkLimits F s
   ks ← lift (runOf l i s p)
   walkBody F i p s ks
 
@@ -211,11 +209,9 @@ unfoldable pub walkEntry : List Name → Walk → Scope → Reader Bounds
 walkEntry names F s = do
   v ← walkPart F s
   t ← next
-  a ← lift (wholeAt (t .place) v)
   _ ← skip
   w ← walkPart F s
-  b ← lift (wholeAt (t .place) w)
-  give (record { number = nameNumber names (t .kind); place = t .place; limits = record { lower = a; upper = b } })
+  give (record { number = nameNumber names (t .kind); place = t .place; limits = record { lower = ceilingOf v; upper = floorOf w } })
 
 -- the domain test of the numbers ks for the name read at p
 unfoldable pub walkWithin : List Name → Walk → List ℤ → Scope → ℕ → Reader (Unit {0})

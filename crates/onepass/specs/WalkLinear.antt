@@ -92,7 +92,7 @@ module _ (vs : List Variable) (names : List Name) where
   walkSigma zero p s c m r = refuse Full 0
   walkSigma (suc n) p s c m r = do
     i ← walkHead names
-    l ← walkLimits (valueAt names n) p s
+    l ← walkLimits (valueAt names n) s
     ks ← lift (runOf l i s p)
     walkRuns (walkBodyForm (walkSigma n) n) i s c m r ks
 

@@ -4,6 +4,7 @@ mod Scales
 mod Tenths
 pub mod Fitting
 pub mod Numbers
+pub mod Rounding
 pub mod Ranges
 pub mod Operations
 pub mod Gathering

@@ -6,7 +6,7 @@ use Prim.Native.Nat.{ℕ, zero, suc, _*_, _/_, _%_, _^_, _<_, _≤_}
 use native.Mathlib.Nat.{one-le-pow}
 use lib.Dec.{eqb, leb, lit<}
 use lib.IntN.{ℤ, pos, negsuc, negℤ, natAbs, _*ℤ_}
-use lib.Signed.{leZ}
+use lib.Signed.{leZ, shrZ}
 use Rattle.rules.specs.Limits.{mantissaLimit, scaleLimit}
 use Rattle.value.specs.declared.Value.{Value}
 use Rattle.value.specs.declared.Fit.{Fit}
@@ -88,6 +88,14 @@ wholeOf v = cond (eqb (v .s) 0) (Number (v .m)) NotWhole
 
 unfoldable pub ofWhole : ℤ → Value
 ofWhole k = record { m = k; s = 0 }
+
+-- the largest whole number that is not above a value, and the smallest that is not below it: the floor of the opposite, with
+-- its sign changed
+unfoldable pub floorOf : Value → ℤ
+floorOf v = shrZ (v .m) (10 ^ v .s)
+
+unfoldable pub ceilingOf : Value → ℤ
+ceilingOf v = negℤ (floorOf (negate v))
 
 -- ---- what code answers for any two numbers m and s, also those that are no value
 

@@ -4,12 +4,12 @@ ghost use mathlib.Core.Path.{_≡_};
 ghost use mathlib.Core.Bool.{true, false, cond, _&&_};
 ghost use mathlib.Core.List.{[], _∷_};
 ghost use mathlib.Core.Option.{some};
-ghost use Prim.Native.Nat.{_+_, _*_, _/_, _%_, _^_, _<_, _≤_};
+ghost use Prim.Native.Nat.{_+_, _-_, _*_, _/_, _%_, _^_, _<_, _≤_};
 ghost use lib.ListN.{length};
 ghost use lib.IntN.{pos, natAbs, _+ℤ_, _-ℤ_, _*ℤ_};
 ghost use Rattle.rules.specs.Characters.{code};
 ghost use Rattle.rules.specs.Limits.{mantissaLimit, scaleLimit};
-ghost use Rattle.value.specs.Decimal.{tenths, withSign, at, choose, fitOf, inRange, ifInRange, sumOf, productOf, negate, isAtMost, isZero, wholeOf, ofWhole};
+ghost use Rattle.value.specs.Decimal.{tenths, withSign, at, choose, fitOf, inRange, ifInRange, sumOf, productOf, negate, isAtMost, isZero, wholeOf, ofWhole, floorOf, ceilingOf};
 ghost use Rattle.value.specs.Gathering.{millionths, ofMillionths, isCount, Gathered};
 ghost use Rattle.value.specs.Literal.{isDigit, allDigits, digitOf, numberFrom, before, significand, powerBy, powerOf, scaledBy, raisedBy, literalOf};
 ghost use Rattle.value.specs.Printed.{widthFrom, digits, minusSign, places, printed, shown, Written};
@@ -251,6 +251,46 @@ pub fn of_whole(k: i64) -> Value
     ensures { λ r. ⌜ r ≡ ofWhole k ⌝ }
 {
     Value { m: k, s: 0 }
+}
+
+// x / 10^s, rounded down.
+fn quotient(x: u64, s: usize) -> u64
+    requires { ⌜ x ≤ 2 ^ 63 ⌝ }
+    ensures { λ r. ⌜ r ≡ x / 10 ^ s ⌝ }
+{
+    if s < 19 {
+        return x / power(s);
+    }
+    0
+}
+
+// The whole number at v or next to it: toward zero, or away from it.
+fn shortened(v: Value, away: bool) -> i64
+    requires { ⌜ (away ≡ true → 0 < natAbs (v .m)) ⌝ }
+    ensures { λ r. ⌜ r ≡ withSign (v .m) (cond away ((natAbs (v .m) - 1) / 10 ^ v .s + 1) (natAbs (v .m) / 10 ^ v .s)) ⌝ }
+{
+    if v.s == 0 {
+        return v.m;
+    }
+    let x = magnitude(v.m);
+    if away {
+        return with_sign(v.m, quotient(x - 1, v.s) + 1);
+    }
+    with_sign(v.m, quotient(x, v.s))
+}
+
+// The largest whole number that is not above v, whatever m and s are.
+pub fn floor_of(v: Value) -> i64
+    ensures { λ r. ⌜ r ≡ floorOf v ⌝ }
+{
+    shortened(v, v.m < 0)
+}
+
+// The smallest whole number that is not below v, whatever m and s are.
+pub fn ceiling_of(v: Value) -> i64
+    ensures { λ r. ⌜ r ≡ ceilingOf v ⌝ }
+{
+    shortened(v, 0 < v.m)
 }
 
 // ---- gathering coefficients

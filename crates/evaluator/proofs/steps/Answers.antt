@@ -15,7 +15,7 @@ use Rattle.value.specs.declared.Fit.{Fit}
 use Rattle.value.specs.declared.Fit.the-variants as fit
 use Rattle.value.specs.declared.Whole.{Whole}
 use Rattle.value.specs.declared.Whole.the-variants.{Number, NotWhole as noNumber}
-use Rattle.value.specs.Decimal.{inRange, ifInRange, sumOf, negate, wholeOf, ofWhole}
+use Rattle.value.specs.Decimal.{inRange, ifInRange, sumOf, negate, wholeOf, ofWhole, floorOf, ceilingOf}
 use Rattle.value.proofs.Integers.{back}
 use Rattle.store.specs.declared.Element.{Element}
 use Rattle.store.specs.declared.Found.{Found}
@@ -89,8 +89,12 @@ module _ (p a i : ℕ) (s : Held) (b : Bound) (h : boundOption b ≡ boundTo i (
 pub grown-is : (e r : Element) (v : Value) → mag (v .m) < 2 ^ 63 → listOf r ≡ extended (listOf e) (toZ w64 (ofZ w64 (v .m))) → listOf r ≡ extended (listOf e) (v .m)
 grown-is e r v h g = g ∙ ap (extended (listOf e)) (back h)
 
-pub bounds-are : (i q : ℕ) (v w : Value) (l : Limits) → l ≡ record { lower = v .m; upper = w .m }
-    → _≡_ {A = Bounds} (record { number = i; place = q; limits = l }) (record { number = i; place = q; limits = record { lower = v .m; upper = w .m } })
+pub limits-are : (v w : Value) (a b : ℤ) → mag a < 2 ^ 63 → mag b < 2 ^ 63 → a ≡ ceilingOf v → b ≡ floorOf w
+    → _≡_ {A = Limits} (record { lower = toZ w64 (ofZ w64 a); upper = toZ w64 (ofZ w64 b) }) (record { lower = ceilingOf v; upper = floorOf w })
+limits-are v w a b h k e f = rw (back h, back k, e, f) refl
+
+pub bounds-are : (i q : ℕ) (v w : Value) (l : Limits) → l ≡ record { lower = ceilingOf v; upper = floorOf w }
+    → _≡_ {A = Bounds} (record { number = i; place = q; limits = l }) (record { number = i; place = q; limits = record { lower = ceilingOf v; upper = floorOf w } })
 bounds-are i q v w l e = rw e refl
 
 -- ---- data

@@ -11,7 +11,7 @@ ghost use lib.Dec.{leb};
 ghost use lib.IntN.{pos, natAbs, _+ℤ_, _-ℤ_};
 ghost use Rattle.rules.specs.Limits.{mantissaLimit, runLimit};
 ghost use Rattle.rational.specs.Integer.{up};
-ghost use Rattle.value.specs.Decimal.{zeroValue, productOf, sumOf, ifInRange};
+ghost use Rattle.value.specs.Decimal.{zeroValue, productOf, sumOf, ifInRange, floorOf, ceilingOf};
 ghost use Rattle.store.specs.Element.{listOf, extended};
 ghost use Rattle.evaluator.specs.Steps.Scopes.{bindingsOf, boundMore};
 ghost use Rattle.evaluator.specs.Steps.Values.{fittedAt, signedValue, wholeAnswer, boundAnswer, SmallSpan, countOf, runAnswer, numberIn, insideLimits, Tests, wordAnswer, knownAnswer, KnownEarly};
@@ -121,19 +121,18 @@ pub fn index_value(sc: Scope, i: usize, p: u64, at: usize) -> Answer
     }
 }
 
-// Two whole values as limits.
+// Two values as limits: the lower one rounded up, the upper one down.
 pub fn limits_of(v: Value, w: Value) -> Limits
-    ensures { λ r. ⌜ r ≡ record { lower = v .m; upper = w .m } ⌝ }
+    ensures { λ r. ⌜ r ≡ record { lower = ceilingOf v; upper = floorOf w } ⌝ }
 {
-    Limits {
-        lower: v.m,
-        upper: w.m,
-    }
+    let lower = value::ceiling_of(v);
+    let upper = value::floor_of(w);
+    Limits { lower, upper }
 }
 
-// A domain's entry of two whole values.
+// A domain's entry of two values.
 pub fn bounds_of(number: usize, place: u64, v: Value, w: Value) -> Bounds
-    ensures { λ r. ⌜ r ≡ record { number = number; place = place; limits = record { lower = v .m; upper = w .m } } ⌝ }
+    ensures { λ r. ⌜ r ≡ record { number = number; place = place; limits = record { lower = ceilingOf v; upper = floorOf w } } ⌝ }
 {
     let l = limits_of(v, w);
     Bounds {

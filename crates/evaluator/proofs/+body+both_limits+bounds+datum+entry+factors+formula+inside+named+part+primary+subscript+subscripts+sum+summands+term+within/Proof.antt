@@ -3,8 +3,8 @@ use Prim.Native.Nat.{_+_, _*_, _-_}
 use native.Mathlib.Omega.{arith}
 use borrow.Author.Needs.{needs}
 use Rattle.evaluator.specs.Cycle.{factorsIn, summandsIn}
-use Rattle.evaluator.proofs.Laws.{inside-full, inside-formula, part-refused, part-skip, limit-refused, limit-whole, limits-low, limits-high, limits-both, term-refused, term-rest, formula-sign, formula-term, formula-rest}
-use Rattle.evaluator.proofs.Entries.{bounds-wrong, bounds-low, bounds-high, bounds-both, entry-low, entry-bounds}
+use Rattle.evaluator.proofs.Laws.{inside-full, inside-formula, part-refused, part-skip, subscript-refused, subscript-whole, limits-low, limits-high, limits-both, term-refused, term-rest, formula-sign, formula-term, formula-rest}
+use Rattle.evaluator.proofs.Entries.{bounds-wrong, bounds-high, bounds-both, entry-low, entry-bounds}
 use Rattle.evaluator.proofs.Sums.{sum-head, sum-limits, sum-run, sum-body}
 use Rattle.evaluator.proofs.Names.{named-unknown, named-late, named-index, named-refused, named-formula, named-datum, named-other, datum-subscripts, datum-outside, datum-known}
 use Rattle.evaluator.proofs.Alone.{part-single, within-tried}
@@ -17,55 +17,55 @@ use borrow.Fn.Kinds.{In}
 use borrow.Fn.PlainCycle.{Measures, is, falls, and}
 use Rattle.evaluator.proofs.body.Reads as body
 use Rattle.evaluator.proofs.body.Kinds as body-kinds
-use Rattle.evaluator.proofs.+body+both_limits+bounds+datum+entry+factors+formula+inside+limit+named+part+primary+subscripts+sum+summands+term+within.Lts-body as body-lts
+use Rattle.evaluator.proofs.+body+both_limits+bounds+datum+entry+factors+formula+inside+named+part+primary+subscript+subscripts+sum+summands+term+within.Lts-body as body-lts
 use Rattle.evaluator.proofs.both_limits.Reads as both-limits
 use Rattle.evaluator.proofs.both_limits.Kinds as both-limits-kinds
-use Rattle.evaluator.proofs.+body+both_limits+bounds+datum+entry+factors+formula+inside+limit+named+part+primary+subscripts+sum+summands+term+within.Lts-both_limits as both-limits-lts
+use Rattle.evaluator.proofs.+body+both_limits+bounds+datum+entry+factors+formula+inside+named+part+primary+subscript+subscripts+sum+summands+term+within.Lts-both_limits as both-limits-lts
 use Rattle.evaluator.proofs.bounds.Reads as bounds
 use Rattle.evaluator.proofs.bounds.Kinds as bounds-kinds
-use Rattle.evaluator.proofs.+body+both_limits+bounds+datum+entry+factors+formula+inside+limit+named+part+primary+subscripts+sum+summands+term+within.Lts-bounds as bounds-lts
+use Rattle.evaluator.proofs.+body+both_limits+bounds+datum+entry+factors+formula+inside+named+part+primary+subscript+subscripts+sum+summands+term+within.Lts-bounds as bounds-lts
 use Rattle.evaluator.proofs.datum.Reads as datum
 use Rattle.evaluator.proofs.datum.Kinds as datum-kinds
-use Rattle.evaluator.proofs.+body+both_limits+bounds+datum+entry+factors+formula+inside+limit+named+part+primary+subscripts+sum+summands+term+within.Lts-datum as datum-lts
+use Rattle.evaluator.proofs.+body+both_limits+bounds+datum+entry+factors+formula+inside+named+part+primary+subscript+subscripts+sum+summands+term+within.Lts-datum as datum-lts
 use Rattle.evaluator.proofs.entry.Reads as entry
 use Rattle.evaluator.proofs.entry.Kinds as entry-kinds
-use Rattle.evaluator.proofs.+body+both_limits+bounds+datum+entry+factors+formula+inside+limit+named+part+primary+subscripts+sum+summands+term+within.Lts-entry as entry-lts
+use Rattle.evaluator.proofs.+body+both_limits+bounds+datum+entry+factors+formula+inside+named+part+primary+subscript+subscripts+sum+summands+term+within.Lts-entry as entry-lts
 use Rattle.evaluator.proofs.factors.Reads as factors
 use Rattle.evaluator.proofs.factors.Kinds as factors-kinds
-use Rattle.evaluator.proofs.+body+both_limits+bounds+datum+entry+factors+formula+inside+limit+named+part+primary+subscripts+sum+summands+term+within.Lts-factors as factors-lts
+use Rattle.evaluator.proofs.+body+both_limits+bounds+datum+entry+factors+formula+inside+named+part+primary+subscript+subscripts+sum+summands+term+within.Lts-factors as factors-lts
 use Rattle.evaluator.proofs.formula.Reads as formula
 use Rattle.evaluator.proofs.formula.Kinds as formula-kinds
-use Rattle.evaluator.proofs.+body+both_limits+bounds+datum+entry+factors+formula+inside+limit+named+part+primary+subscripts+sum+summands+term+within.Lts-formula as formula-lts
+use Rattle.evaluator.proofs.+body+both_limits+bounds+datum+entry+factors+formula+inside+named+part+primary+subscript+subscripts+sum+summands+term+within.Lts-formula as formula-lts
 use Rattle.evaluator.proofs.inside.Reads as inside
 use Rattle.evaluator.proofs.inside.Kinds as inside-kinds
-use Rattle.evaluator.proofs.+body+both_limits+bounds+datum+entry+factors+formula+inside+limit+named+part+primary+subscripts+sum+summands+term+within.Lts-inside as inside-lts
-use Rattle.evaluator.proofs.limit.Reads as limit
-use Rattle.evaluator.proofs.limit.Kinds as limit-kinds
-use Rattle.evaluator.proofs.+body+both_limits+bounds+datum+entry+factors+formula+inside+limit+named+part+primary+subscripts+sum+summands+term+within.Lts-limit as limit-lts
+use Rattle.evaluator.proofs.+body+both_limits+bounds+datum+entry+factors+formula+inside+named+part+primary+subscript+subscripts+sum+summands+term+within.Lts-inside as inside-lts
 use Rattle.evaluator.proofs.named.Reads as named
 use Rattle.evaluator.proofs.named.Kinds as named-kinds
-use Rattle.evaluator.proofs.+body+both_limits+bounds+datum+entry+factors+formula+inside+limit+named+part+primary+subscripts+sum+summands+term+within.Lts-named as named-lts
+use Rattle.evaluator.proofs.+body+both_limits+bounds+datum+entry+factors+formula+inside+named+part+primary+subscript+subscripts+sum+summands+term+within.Lts-named as named-lts
 use Rattle.evaluator.proofs.part.Reads as part
 use Rattle.evaluator.proofs.part.Kinds as part-kinds
-use Rattle.evaluator.proofs.+body+both_limits+bounds+datum+entry+factors+formula+inside+limit+named+part+primary+subscripts+sum+summands+term+within.Lts-part as part-lts
+use Rattle.evaluator.proofs.+body+both_limits+bounds+datum+entry+factors+formula+inside+named+part+primary+subscript+subscripts+sum+summands+term+within.Lts-part as part-lts
 use Rattle.evaluator.proofs.primary.Reads as primary
 use Rattle.evaluator.proofs.primary.Kinds as primary-kinds
-use Rattle.evaluator.proofs.+body+both_limits+bounds+datum+entry+factors+formula+inside+limit+named+part+primary+subscripts+sum+summands+term+within.Lts-primary as primary-lts
+use Rattle.evaluator.proofs.+body+both_limits+bounds+datum+entry+factors+formula+inside+named+part+primary+subscript+subscripts+sum+summands+term+within.Lts-primary as primary-lts
+use Rattle.evaluator.proofs.subscript.Reads as subscript
+use Rattle.evaluator.proofs.subscript.Kinds as subscript-kinds
+use Rattle.evaluator.proofs.+body+both_limits+bounds+datum+entry+factors+formula+inside+named+part+primary+subscript+subscripts+sum+summands+term+within.Lts-subscript as subscript-lts
 use Rattle.evaluator.proofs.subscripts.Reads as subscripts
 use Rattle.evaluator.proofs.subscripts.Kinds as subscripts-kinds
-use Rattle.evaluator.proofs.+body+both_limits+bounds+datum+entry+factors+formula+inside+limit+named+part+primary+subscripts+sum+summands+term+within.Lts-subscripts as subscripts-lts
+use Rattle.evaluator.proofs.+body+both_limits+bounds+datum+entry+factors+formula+inside+named+part+primary+subscript+subscripts+sum+summands+term+within.Lts-subscripts as subscripts-lts
 use Rattle.evaluator.proofs.sum.Reads as sum
 use Rattle.evaluator.proofs.sum.Kinds as sum-kinds
-use Rattle.evaluator.proofs.+body+both_limits+bounds+datum+entry+factors+formula+inside+limit+named+part+primary+subscripts+sum+summands+term+within.Lts-sum as sum-lts
+use Rattle.evaluator.proofs.+body+both_limits+bounds+datum+entry+factors+formula+inside+named+part+primary+subscript+subscripts+sum+summands+term+within.Lts-sum as sum-lts
 use Rattle.evaluator.proofs.summands.Reads as summands
 use Rattle.evaluator.proofs.summands.Kinds as summands-kinds
-use Rattle.evaluator.proofs.+body+both_limits+bounds+datum+entry+factors+formula+inside+limit+named+part+primary+subscripts+sum+summands+term+within.Lts-summands as summands-lts
+use Rattle.evaluator.proofs.+body+both_limits+bounds+datum+entry+factors+formula+inside+named+part+primary+subscript+subscripts+sum+summands+term+within.Lts-summands as summands-lts
 use Rattle.evaluator.proofs.term.Reads as term
 use Rattle.evaluator.proofs.term.Kinds as term-kinds
-use Rattle.evaluator.proofs.+body+both_limits+bounds+datum+entry+factors+formula+inside+limit+named+part+primary+subscripts+sum+summands+term+within.Lts-term as term-lts
+use Rattle.evaluator.proofs.+body+both_limits+bounds+datum+entry+factors+formula+inside+named+part+primary+subscript+subscripts+sum+summands+term+within.Lts-term as term-lts
 use Rattle.evaluator.proofs.within.Reads as within
 use Rattle.evaluator.proofs.within.Kinds as within-kinds
-use Rattle.evaluator.proofs.+body+both_limits+bounds+datum+entry+factors+formula+inside+limit+named+part+primary+subscripts+sum+summands+term+within.Lts-within as within-lts
+use Rattle.evaluator.proofs.+body+both_limits+bounds+datum+entry+factors+formula+inside+named+part+primary+subscript+subscripts+sum+summands+term+within.Lts-within as within-lts
 use Rattle.evaluator.proofs.steps.names.head.Reads as head-reads
 use Rattle.evaluator.proofs.steps.names.index_number.Reads as index-number-reads
 use Rattle.evaluator.proofs.steps.names.name_at.Reads as name-at-reads
@@ -92,8 +92,8 @@ use Rattle.evaluator.proofs.steps.values.zero.Reads as zero-reads
 use Rattle.store.proofs.Element.length.Reads as length-reads
 use Rattle.store.proofs.Element.none.Reads as Element-none-reads
 use Rattle.tokens.proofs.token_at.Reads as token-at-reads
-use Rattle.evaluator.proofs.+body+both_limits+bounds+datum+entry+factors+formula+inside+limit+named+part+primary+subscripts+sum+summands+term+within.{statement}
-use Rattle.evaluator.proofs.+body+both_limits+bounds+datum+entry+factors+formula+inside+limit+named+part+primary+subscripts+sum+summands+term+within.Tie.{close}
+use Rattle.evaluator.proofs.+body+both_limits+bounds+datum+entry+factors+formula+inside+named+part+primary+subscript+subscripts+sum+summands+term+within.{statement}
+use Rattle.evaluator.proofs.+body+both_limits+bounds+datum+entry+factors+formula+inside+named+part+primary+subscript+subscripts+sum+summands+term+within.Tie.{close}
 
 abbrev μ-body : Measures 3 body-kinds.ps ℕ
 μ-body κs a = 300 * a .1 .1 .1 .0 .level + 20 * a .1 .1 .1 .0 .nest + 1
@@ -119,9 +119,6 @@ abbrev μ-formula : Measures 3 formula-kinds.ps ℕ
 abbrev μ-inside : Measures 3 inside-kinds.ps ℕ
 μ-inside κs a = 300 * a .1 .1 .1 .0 .level + 20 * a .1 .1 .1 .0 .nest + 0
 
-abbrev μ-limit : Measures 3 limit-kinds.ps ℕ
-μ-limit κs a = 300 * a .1 .1 .1 .0 .level + 20 * a .1 .1 .1 .0 .nest + 2
-
 abbrev μ-named : Measures 3 named-kinds.ps ℕ
 μ-named κs a = 300 * a .1 .1 .1 .0 .level + 20 * a .1 .1 .1 .0 .nest + 5
 
@@ -130,6 +127,9 @@ abbrev μ-part : Measures 3 part-kinds.ps ℕ
 
 abbrev μ-primary : Measures 3 primary-kinds.ps ℕ
 μ-primary κs a = 300 * a .1 .1 .1 .0 .level + 20 * a .1 .1 .1 .0 .nest + 6
+
+abbrev μ-subscript : Measures 3 subscript-kinds.ps ℕ
+μ-subscript κs a = 300 * a .1 .1 .1 .0 .level + 20 * a .1 .1 .1 .0 .nest + 2
 
 abbrev μ-subscripts : Measures 3 subscripts-kinds.ps ℕ
 μ-subscripts κs a = 300 * a .1 .1 .1 .0 .level + 20 * a .1 .1 .1 .0 .nest + 3
@@ -196,12 +196,6 @@ inside-at t = and 3 inside-kinds.ps (is 3 inside-kinds.ps μ-inside t) inside.Pr
 abbrev inside-below : ℕ → In 3 inside-kinds.ps
 inside-below t = and 3 inside-kinds.ps (falls 3 inside-kinds.ps _<_ μ-inside t) inside.Pre
 
-abbrev limit-at : ℕ → In 3 limit-kinds.ps
-limit-at t = and 3 limit-kinds.ps (is 3 limit-kinds.ps μ-limit t) limit.Pre
-
-abbrev limit-below : ℕ → In 3 limit-kinds.ps
-limit-below t = and 3 limit-kinds.ps (falls 3 limit-kinds.ps _<_ μ-limit t) limit.Pre
-
 abbrev named-at : ℕ → In 3 named-kinds.ps
 named-at t = and 3 named-kinds.ps (is 3 named-kinds.ps μ-named t) named.Pre
 
@@ -219,6 +213,14 @@ primary-at t = and 3 primary-kinds.ps (is 3 primary-kinds.ps μ-primary t) prima
 
 abbrev primary-below : ℕ → In 3 primary-kinds.ps
 primary-below t = and 3 primary-kinds.ps (falls 3 primary-kinds.ps _<_ μ-primary t) primary.Pre
+
+abbrev subscript-at : ℕ → In 3 subscript-kinds.ps
+subscript-at t =
+    and 3 subscript-kinds.ps (is 3 subscript-kinds.ps μ-subscript t) subscript.Pre
+
+abbrev subscript-below : ℕ → In 3 subscript-kinds.ps
+subscript-below t =
+    and 3 subscript-kinds.ps (falls 3 subscript-kinds.ps _<_ μ-subscript t) subscript.Pre
 
 abbrev subscripts-at : ℕ → In 3 subscripts-kinds.ps
 subscripts-at t =
@@ -283,9 +285,9 @@ within-Inv-loop names tokens table given level at e p n scope₀ a₀ j₀ scope
 abbrev within-μ-loop : within-lts.MeasureT-loop
 within-μ-loop names tokens table given level at e p n scope₀ a₀ j₀ scope a j = n - j
 
-pub +body+both-limits+bounds+datum+entry+factors+formula+inside+limit+named+part+primary+subscripts+sum+summands+term+within-spec :
+pub +body+both-limits+bounds+datum+entry+factors+formula+inside+named+part+primary+subscript+subscripts+sum+summands+term+within-spec :
     {M : Type 1} → statement M
-+body+both-limits+bounds+datum+entry+factors+formula+inside+limit+named+part+primary+subscripts+sum+summands+term+within-spec =
++body+both-limits+bounds+datum+entry+factors+formula+inside+named+part+primary+subscript+subscripts+sum+summands+term+within-spec =
     close
     μ-body
     μ-both-limits
@@ -295,10 +297,10 @@ pub +body+both-limits+bounds+datum+entry+factors+formula+inside+limit+named+part
     μ-factors
     μ-formula
     μ-inside
-    μ-limit
     μ-named
     μ-part
     μ-primary
+    μ-subscript
     μ-subscripts
     μ-sum
     μ-summands
@@ -337,16 +339,16 @@ pub +body+both-limits+bounds+datum+entry+factors+formula+inside+limit+named+part
     (λ c. search (turns-on, c .before .before .before .before .before .before .before .before .before .before .loop .inv, c .before .before .before .before .before .before .before .before .before .loop-test .taken) depth 11)  -- body-loop-again
     (λ c. search body-end depth 7))  -- body-returns-3
     (λ t. both-limits-lts.spec (
-      limit-below t,
-      limit.Post,
+      part-below t,
+      part.Post,
       limits-of-reads.Asked,
       limits-of-reads.Learnt,
     )
     (both-limits-at t)
     both-limits.Post
-    (λ c κs. omega arith)  -- both-limits-limit-requires
+    (λ c κs. omega arith)  -- both-limits-part-requires
     (λ c. search needs)  -- both-limits-enum-known-low
-    (λ c κs. omega arith)  -- both-limits-limit-requires-2
+    (λ c κs. omega arith)  -- both-limits-part-requires-2
     (λ c. search needs)  -- both-limits-enum-known-high
     (λ c κs. search needs)  -- both-limits-limits-of-requires
     (λ c. search needs)  -- both-limits-enum-known-high-2
@@ -357,12 +359,10 @@ pub +body+both-limits+bounds+datum+entry+factors+formula+inside+limit+named+part
     (λ t. bounds-lts.spec (
       token-at-reads.Asked,
       token-at-reads.Learnt,
-      whole-reads.Asked,
-      whole-reads.Learnt,
       skip-reads.Asked,
       skip-reads.Learnt,
-      limit-below t,
-      limit.Post,
+      part-below t,
+      part.Post,
       index-number-reads.Asked,
       index-number-reads.Learnt,
       bounds-of-reads.Asked,
@@ -372,20 +372,16 @@ pub +body+both-limits+bounds+datum+entry+factors+formula+inside+limit+named+part
     bounds.Post
     (λ c κs. search needs)  -- bounds-token-at-requires
     (λ c. search needs)  -- bounds-enum-known-token
-    (λ c κs. search needs)  -- bounds-whole-requires
-    (λ c. search needs)  -- bounds-enum-known-low
     (λ c κs. search needs)  -- bounds-skip-requires
-    (λ c κs. omega arith)  -- bounds-limit-requires
+    (λ c κs. omega arith)  -- bounds-part-requires
     (λ c. search needs)  -- bounds-enum-known-high
     (λ c κs. search needs)  -- bounds-index-number-requires
     (λ c κs. search needs)  -- bounds-bounds-of-requires
     (λ c. search needs)  -- bounds-enum-known-high-2
-    (λ c. search needs)  -- bounds-enum-known-low-2
     (λ c. search needs)  -- bounds-enum-known-token-2
-    (λ c. search (bounds-both, c .before .before .before .before .before .before .before .before .before .before .before .before .before .before .token-at .ensures, c .before .before .before .before .before .before .before .before .before .before .before .before .token .given .1, c .before .before .before .before .before .before .before .before .before .before .whole .ensures) depth 12 fits 5000)  -- bounds-returns
-    (λ c. search bounds-high depth 10)  -- bounds-returns-2
-    (λ c. search bounds-low depth 8)  -- bounds-returns-3
-    (λ c. search bounds-wrong depth 6))  -- bounds-returns-4
+    (λ c. search bounds-both depth 11)  -- bounds-returns
+    (λ c. search bounds-high depth 9)  -- bounds-returns-2
+    (λ c. search bounds-wrong depth 6))  -- bounds-returns-3
     (λ t. datum-lts.spec (
       subscripts-below t,
       subscripts.Post,
@@ -478,16 +474,6 @@ pub +body+both-limits+bounds+datum+entry+factors+formula+inside+limit+named+part
     (λ c. search needs)  -- inside-sub-fewer
     (λ c κs. omega arith)  -- inside-formula-requires
     (λ c. search inside-formula depth 6))  -- inside-returns-2
-    (λ t. limit-lts.spec
-    (part-below t, part.Post, whole-reads.Asked, whole-reads.Learnt)
-    (limit-at t)
-    limit.Post
-    (λ c κs. omega arith)  -- limit-part-requires
-    (λ c. search needs)  -- limit-enum-known-r
-    (λ c. search needs)  -- limit-enum-told
-    (λ c. search limit-refused depth 6)  -- limit-returns
-    (λ c κs. search needs)  -- limit-whole-requires
-    (λ c. search limit-whole depth 7))  -- limit-returns-2
     (λ t. named-lts.spec (
       index-value-reads.Asked,
       index-value-reads.Learnt,
@@ -558,13 +544,23 @@ pub +body+both-limits+bounds+datum+entry+factors+formula+inside+limit+named+part
     (λ c. search primary-literal depth 8)  -- primary-returns-4
     (λ c. search primary-other depth 10)  -- primary-returns-5
     (λ c. search primary-wrong depth 6))  -- primary-returns-6
+    (λ t. subscript-lts.spec
+    (part-below t, part.Post, whole-reads.Asked, whole-reads.Learnt)
+    (subscript-at t)
+    subscript.Post
+    (λ c κs. omega arith)  -- subscript-part-requires
+    (λ c. search needs)  -- subscript-enum-known-r
+    (λ c. search needs)  -- subscript-enum-told
+    (λ c. search subscript-refused depth 6)  -- subscript-returns
+    (λ c κs. search needs)  -- subscript-whole-requires
+    (λ c. search subscript-whole depth 7))  -- subscript-returns-2
     (λ t. subscripts-lts.spec (
       Element-none-reads.Asked,
       Element-none-reads.Learnt,
       skip-reads.Asked,
       skip-reads.Learnt,
-      limit-below t,
-      limit.Post,
+      subscript-below t,
+      subscript.Post,
       grown-reads.Asked,
       grown-reads.Learnt,
     )
@@ -576,7 +572,7 @@ pub +body+both-limits+bounds+datum+entry+factors+formula+inside+limit+named+part
     (λ c. search subscripts-point depth 6)  -- subscripts-returns
     (λ c κs. search needs)  -- subscripts-skip-requires
     (λ c. search numbers-start depth 7)  -- subscripts-loop-holds
-    (λ c κs. omega arith)  -- subscripts-limit-requires
+    (λ c κs. omega arith)  -- subscripts-subscript-requires
     (λ c. search needs)  -- subscripts-enum-known-r
     (λ c κs. search needs)  -- subscripts-grown-requires
     (λ c. search needs)  -- subscripts-enum-known-r-2
