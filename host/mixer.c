@@ -64,6 +64,54 @@ static const char lines[] =
     "col\t2\t2\t1\n"
     "col\t2\t3\t-4\n";
 
+/* A floor and a ceiling in one line: a row of kind R, and both bounds of a variable. */
+static const char pair[] = "OPEN {pair} continuous x, y; MINIMIZE: x + y {vitamin} 2 * x + y <= 9, >= 3.5 {share} x <= 2, >= 0.5 CLOSE";
+
+static const char pair_listing[] =
+    "lp\t0\t2\t1\t1\tpair\t\n"
+    "row\t1\tR\t9\tvitamin\n"
+    "low\t1\t3.5\n"
+    "var\t1\tC\t0.5\t2\tx\n"
+    "var\t2\tC\t0\tinf\ty\n"
+    "col\t1\t1\t2\n"
+    "col\t1\t2\t-1\n"
+    "col\t2\t1\t1\n"
+    "col\t2\t2\t-1\n"
+    "end\n";
+
+static const char pair_export[] =
+    "NAME MODEL\n"
+    "ROWS\n"
+    " N OBJ\n"
+    " L R1\n"
+    " G F1\n"
+    "COLUMNS\n"
+    " C1 R1 2\n"
+    " C1 F1 2\n"
+    " C1 OBJ 1\n"
+    " C2 R1 1\n"
+    " C2 F1 1\n"
+    " C2 OBJ 1\n"
+    "RHS\n"
+    " MODEL R1 9\n"
+    " MODEL F1 3.5\n"
+    "BOUNDS\n"
+    " LO MODEL C1 0.5\n"
+    " UP MODEL C1 2\n"
+    " LO MODEL C2 0\n"
+    " PL MODEL C2\n"
+    "ENDATA\n";
+
+static const char pair_lines[] =
+    "row\t1\tR\t9\n"
+    "low\t1\t3.5\n"
+    "var\t1\tC\t0.5\t2\n"
+    "var\t2\tC\t0\tinf\n"
+    "col\t1\t1\t2\n"
+    "col\t1\t2\t-1\n"
+    "col\t2\t1\t1\n"
+    "col\t2\t2\t-1\n";
+
 /* The text of each refusal in two parts: the place is where the second begins. */
 static const struct {
     uint32_t number;
@@ -176,6 +224,12 @@ int main(void)
     memset(text, ' ', LONGEST);
     call(recipe_read_export, LONGEST, RECIPE_BUFFER, RECIPE_MISPLACED, 0, "");
     printf("no export: refused %d at 0\n", RECIPE_MISPLACED);
+
+    length = put(pair, "");
+    buffers(recipe_generate, length, pair_listing);
+    buffers(recipe_export, length, pair_export);
+    buffers(recipe_read_export, put(pair_export, ""), pair_lines);
+    printf("a floor and a ceiling: listed, exported and read back, in buffers of 0 to 400 bytes\n");
 
     length = put(blend, "");
     call(recipe_generate, length, RECIPE_BUFFER, RECIPE_ACCEPTED, 0, listing);

@@ -2,7 +2,8 @@
 
    recipe_generate       reads a model text and writes its listing
    recipe_export         reads a model text and writes it in free MPS form, for another solver
-   recipe_read_export    reads such an export and writes the listing's row, var and col lines without strings, names and indices
+   recipe_read_export    reads such an export and writes the listing's row, low, var and col lines without strings, names and
+                         indices
 
    Each has the same two buffers: the host lends a text, which is only read, and an output buffer, into which the report is
    written. Both stay the host's. The contract of each, for every text and every buffer length, is that of the function with its
@@ -71,10 +72,11 @@ struct recipe_answer {
 struct recipe_answer recipe_generate(const uint8_t *text, size_t text_length, uint8_t *out, size_t out_length);
 
 /* A model text in free MPS form. The listing's rows and variables in its order, with the listing's values; only the objective
-   has the other sign, since readers of MPS minimise. */
+   has the other sign, since readers of MPS minimise. A floor (a low line) is a G row of its own, F and the row's number, with the
+   coefficients of its row. */
 struct recipe_answer recipe_export(const uint8_t *text, size_t text_length, uint8_t *out, size_t out_length);
 
-/* What an export says: the row, var and col lines of the listing, without strings, names and indices. */
+/* What an export says: the row, low, var and col lines of the listing, without strings, names and indices. */
 struct recipe_answer recipe_read_export(const uint8_t *text, size_t text_length, uint8_t *out, size_t out_length);
 
 #ifdef __cplusplus

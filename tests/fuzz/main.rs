@@ -34,8 +34,9 @@ const LARGEST: usize = 65_536;
 const MORE: usize = 64;
 /// How many times an export is changed and read.
 const CHANGES: usize = 2;
-/// Rows and variables of both kinds, both kinds of upper bounds, an objective of 0.
-const SMALL: &[u8] = b"OPEN{m}discrete k;continuous x;MINIMIZE:2*k{c}k-x>=0.5{d}+x=0{u}x<=-3 CLOSE";
+/// Rows of the three kinds, variables of both, both kinds of upper bounds, an objective of 0.
+const SMALL: &[u8] =
+    b"OPEN{m}discrete k;continuous x;MINIMIZE:2*k{c}k-x>=0.5{r}4*x<=7,>=-1{d}+x=0{u}x<=-3 CLOSE";
 
 /// An entry point of the library, and that of the independent generator.
 #[derive(Clone, Copy)]
@@ -230,13 +231,14 @@ impl Comparison {
     }
 }
 
-/// The `row`, `var` and `col` lines of a listing, without strings, names and indices.
+/// The `row`, `low`, `var` and `col` lines of a listing, without strings, names and indices.
 fn bare(listing: &[u8]) -> Vec<u8> {
     let mut lines = Vec::new();
     for line in listing.split(|b| *b == b'\n') {
         let fields: Vec<&[u8]> = line.split(|b| *b == b'\t').collect();
         let kept = match fields[0] {
             b"row" => 4,
+            b"low" => 3,
             b"var" => 5,
             b"col" => 4,
             _ => continue,

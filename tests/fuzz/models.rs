@@ -575,9 +575,15 @@ impl Writer<'_> {
         } else {
             self.linear();
         }
-        let relation = self.random.of(&["<=", ">=", "="]);
+        let relation = self.random.of(&["<=", "<=", ">=", "="]);
         self.put(relation);
         self.formula(2);
+        // A floor, rarely where none may stand.
+        if self.random.chance(if relation == "<=" { 40 } else { 1 }) {
+            self.put(",");
+            self.put(">=");
+            self.formula(2);
+        }
         self.bound.clear();
         if domain.is_empty() {
             return;
@@ -709,6 +715,8 @@ pub fn changed(random: &mut Random, text: &[u8]) -> Vec<u8> {
                     "=",
                     "<=",
                     ">=",
+                    ",>=",
+                    ", >= 1",
                     "(",
                     ")",
                     "[",
@@ -761,9 +769,15 @@ pub fn export(random: &mut Random) -> (Vec<u8>, bool) {
     let (rows, variables) = (size(random), size(random));
     let (less, whole) = (random.below(rows + 1), random.below(variables + 1));
     let mut text = "NAME MODEL\nROWS\n N OBJ\n".to_string();
+    let percent = [0, 30, 100][random.below(3)];
+    let mut floors = vec![false; rows + 1];
     for row in 1..=rows {
         let kind = if row <= less { "L" } else { "E" };
         text += &format!(" {kind} R{row}\n");
+        floors[row] = row <= less && random.chance(percent);
+        if floors[row] {
+            text += &format!(" G F{row}\n");
+        }
     }
     text += "COLUMNS\n";
     for variable in 1..=variables {
@@ -776,6 +790,9 @@ pub fn export(random: &mut Random) -> (Vec<u8>, bool) {
             let value = value(random);
             if value != "0" {
                 text += &format!(" C{variable} R{row} {value}\n");
+                if floors[row] {
+                    text += &format!(" C{variable} F{row} {value}\n");
+                }
             }
             row += 1 + random.below(1 + rows / 3);
         }
@@ -787,6 +804,9 @@ pub fn export(random: &mut Random) -> (Vec<u8>, bool) {
     text += "RHS\n";
     for row in 1..=rows {
         text += &format!(" MODEL R{row} {}\n", value(random));
+        if floors[row] {
+            text += &format!(" MODEL F{row} {}\n", value(random));
+        }
     }
     text += "BOUNDS\n";
     for variable in 1..=variables {
@@ -846,7 +866,7 @@ pub fn changed_export(random: &mut Random, text: &[u8]) -> Vec<u8> {
                 text.remove(at);
             }
             2 => {
-                let bytes = b" \n-.0123456789+ERC\r\t";
+                let bytes = b" \n-.0123456789+ERCFG\r\t";
                 text.insert(at, bytes[random.below(bytes.len())]);
             }
             3 => text.truncate(at),
@@ -871,8 +891,11 @@ pub fn changed_export(random: &mut Random, text: &[u8]) -> Vec<u8> {
                     "C2",
                     "R1",
                     "R2",
+                    "F1",
+                    "F2",
                     "OBJ",
                     "L",
+                    "G",
                     "E",
                     "LO",
                     "UP",

@@ -1,5 +1,5 @@
-//! Request 101, written from document 02 and its readings, without the Rattle code: a
-//! model in free MPS form, and the reader of that form.
+//! Requests 101 and 104, written from document 02 and its readings, without the Rattle
+//! code: a model in free MPS form, and the reader of that form.
 
 use std::collections::BTreeMap;
 
@@ -12,21 +12,27 @@ pub fn export(text: &[u8], out: &mut [u8]) -> Answer {
     answer(report(text, |program| List::of(program).export()), out)
 }
 
-/// Writes the `row`, `var` and `col` lines that the export `text` was made from, without
-/// strings, names and indices. A text that is no export is refused: 3 at 0.
+/// Writes the `row`, `low`, `var` and `col` lines that the export `text` was made from,
+/// without strings, names and indices. A text that is no export is refused: 3 at 0.
 pub fn read_export(text: &[u8], out: &mut [u8]) -> Answer {
     let list = List::read(text).filter(|list| list.export() == text);
     answer(list.map_or(refuse(3, 0), |list| Ok(list.lines())), out)
 }
 
 /// A list in document 01's form and order, as far as an export has it: its first `less`
-/// rows are `L`, the others `E`; its first `whole` variables are `D`, the others `C`.
+/// rows are `L`, or `R` with a floor, the others `E` without one; its first `whole`
+/// variables are `D`, the others `C`.
 #[derive(Default)]
 struct List {
     less: usize,
-    rights: Vec<Value>,
+    rows: Vec<Sides>,
     whole: usize,
     columns: Vec<Column>,
+}
+
+struct Sides {
+    right: Value,
+    floor: Option<Value>,
 }
 
 /// A variable's bounds, and what it has in the rows (by their numbers, from 1) and in
@@ -59,24 +65,30 @@ impl List {
         let discrete = |name: &usize| program.model.names[*name].sort == Sort::Discrete;
         List {
             less: program.inequalities.len(),
-            rights: rows().map(|row| row.right).collect(),
+            rows: rows()
+                .map(|row| Sides {
+                    right: row.right,
+                    floor: row.floor,
+                })
+                .collect(),
             whole: names.filter(discrete).count(),
             columns,
         }
     }
 
-    fn kind(&self, row: usize) -> &'static str {
+    /// The kind of a row, its floor aside.
+    fn kind(&self, row: usize) -> &'static [u8] {
         if row <= self.less {
-            "L"
+            b"L"
         } else {
-            "E"
+            b"E"
         }
     }
 
     /// The coefficients of a column that are not 0, by row.
     fn cells<'a>(&self, column: &'a Column) -> impl Iterator<Item = (usize, Value)> + 'a {
         let cell = |row| Some((row, *column.coefficients.get(&row)?));
-        (1..=self.rights.len())
+        (1..=self.rows.len())
             .filter_map(cell)
             .filter(|(_, value)| *value != Value::ZERO)
     }
@@ -84,8 +96,14 @@ impl List {
     fn export(&self) -> Vec<u8> {
         let mut text = Text(Vec::new());
         text.put("NAME MODEL\nROWS\n N OBJ\n");
-        for row in 1..=self.rights.len() {
-            text.put(" ").put(self.kind(row)).name(" R", row).put("\n");
+        for (row, sides) in (1..).zip(&self.rows) {
+            text.put(" ")
+                .bytes(self.kind(row))
+                .name(" R", row)
+                .put("\n");
+            if sides.floor.is_some() {
+                text.put(" G").name(" F", row).put("\n");
+            }
         }
         text.put("COLUMNS\n");
         for (number, column) in (1..).zip(&self.columns) {
@@ -94,6 +112,9 @@ impl List {
             }
             for (row, value) in self.cells(column) {
                 text.name(" C", number).name(" R", row).value(value);
+                if self.rows[row - 1].floor.is_some() {
+                    text.name(" C", number).name(" F", row).value(value);
+                }
             }
             let cost = column.objective.negated_if(true);
             text.name(" C", number).put(" OBJ").value(cost);
@@ -102,8 +123,11 @@ impl List {
             }
         }
         text.put("RHS\n");
-        for (row, right) in (1..).zip(&self.rights) {
-            text.put(" MODEL").name(" R", row).value(*right);
+        for (row, sides) in (1..).zip(&self.rows) {
+            text.put(" MODEL").name(" R", row).value(sides.right);
+            if let Some(floor) = sides.floor {
+                text.put(" MODEL").name(" F", row).value(floor);
+            }
         }
         text.put("BOUNDS\n");
         for (number, column) in (1..).zip(&self.columns) {
@@ -120,12 +144,16 @@ impl List {
     /// The lines of the listing, without strings, names and indices.
     fn lines(&self) -> Vec<u8> {
         let mut lines = Lines(Vec::new());
-        for (number, right) in (1..).zip(&self.rights) {
+        for (number, sides) in (1..).zip(&self.rows) {
             lines.start("row");
             lines.count(number);
-            lines.field(self.kind(number).as_bytes());
-            lines.value(*right);
+            lines.field(match sides.floor {
+                Some(_) => b"R",
+                None => self.kind(number),
+            });
+            lines.value(sides.right);
             lines.end();
+            lines.low(number, sides.floor);
         }
         for (number, column) in (1..).zip(&self.columns) {
             lines.start("var");
@@ -139,7 +167,7 @@ impl List {
             lines.end();
         }
         for (number, column) in (1..).zip(&self.columns) {
-            let objective = (self.rights.len() + 1, column.objective);
+            let objective = (self.rows.len() + 1, column.objective);
             for (row, value) in self.cells(column).chain([objective]) {
                 lines.start("col");
                 lines.count(number);
@@ -153,8 +181,8 @@ impl List {
 
     /// The only list that `text` can be the export of, if it is one at all: what the text
     /// says is taken up line by line, in any order, and a line of no known form is passed
-    /// over. None if there are too many rows or variables, a number is missing,
-    /// or a value does not fit.
+    /// over, as are the coefficients of an `F` row. None if there are too many rows or
+    /// variables, a number is missing, a value does not fit, or an `E` row has a floor.
     fn read(text: &[u8]) -> Option<List> {
         let mut list = List::default();
         for line in text.split(|byte| *byte == b'\n') {
@@ -162,11 +190,23 @@ impl List {
             match fields[..] {
                 [b"", kind @ (b"L" | b"E"), _] => {
                     list.less += usize::from(kind == b"L");
-                    list.rights.push(Value::ZERO);
+                    list.rows.push(Sides {
+                        right: Value::ZERO,
+                        floor: None,
+                    });
                 }
+                [b"", b"G", _] if list.less < list.rows.len() => return None,
+                [b"", b"G", _] => list.rows.last_mut()?.floor = Some(Value::ZERO),
                 [b"", b"M", _, b"'INTORG'"] | [b"", b"PL", _, _] => {}
                 [b"", b"M", _, b"'INTEND'"] => list.whole = list.columns.len(),
-                [b"", b"MODEL", row, value] => *list.right(row)? = read_value(value)?,
+                [b"", b"MODEL", row, value] => {
+                    let value = read_value(value)?;
+                    let sides = list.row(row)?;
+                    match row {
+                        [b'F', ..] => sides.floor = Some(value),
+                        _ => sides.right = value,
+                    }
+                }
                 [b"", b"LO", _, column, value] => list.column(column)?.lower = read_value(value)?,
                 [b"", b"UP", _, column, value] => {
                     list.column(column)?.upper = Some(read_value(value)?)
@@ -174,21 +214,22 @@ impl List {
                 [b"", column, b"OBJ", value] => {
                     list.column(column)?.objective = read_value(value)?.negated_if(true);
                 }
+                [b"", _, [b'F', ..], _] => {}
                 [b"", column, row, value] => {
                     let (row, value) = (read_number(row)?, read_value(value)?);
                     list.column(column)?.coefficients.insert(row, value);
                 }
                 _ => {}
             }
-            if list.rights.len() > ROWS || list.columns.len() > VARIABLES {
+            if list.rows.len() > ROWS || list.columns.len() > VARIABLES {
                 return None;
             }
         }
         Some(list)
     }
 
-    fn right(&mut self, name: &[u8]) -> Option<&mut Value> {
-        self.rights.get_mut(read_number(name)?.checked_sub(1)?)
+    fn row(&mut self, name: &[u8]) -> Option<&mut Sides> {
+        self.rows.get_mut(read_number(name)?.checked_sub(1)?)
     }
 
     /// The variable of that name: one that is there, or the next one.
@@ -210,7 +251,11 @@ struct Text(Vec<u8>);
 
 impl Text {
     fn put(&mut self, words: &str) -> &mut Text {
-        self.0.extend_from_slice(words.as_bytes());
+        self.bytes(words.as_bytes())
+    }
+
+    fn bytes(&mut self, bytes: &[u8]) -> &mut Text {
+        self.0.extend_from_slice(bytes);
         self
     }
 

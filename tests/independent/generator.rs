@@ -564,6 +564,7 @@ struct Constraint<'t> {
     left: Linear,
     relation: Kind,
     right: Formula,
+    floor: Option<Formula>,
     domain: Vec<Run>,
 }
 
@@ -726,6 +727,11 @@ impl<'t> Parser<'t> {
             _ => return refuse(3, relation.place),
         };
         let right = self.formula()?;
+        let mut floor = None;
+        if relation.kind == Kind::AtMost && self.tokens.take_if(Kind::Comma)?.is_some() {
+            self.tokens.expect(Kind::AtLeast)?;
+            floor = Some(self.formula()?);
+        }
         let domain = match self.tokens.peek()?.kind {
             Kind::RoundOpen => self.domain(None)?,
             _ => Vec::new(),
@@ -736,6 +742,7 @@ impl<'t> Parser<'t> {
             left,
             relation: relation.kind,
             right,
+            floor,
             domain,
         });
         Ok(())
@@ -1234,6 +1241,7 @@ struct Row {
     constraint: usize,
     subscripts: Subscripts,
     right: Value,
+    floor: Option<Value>,
     coefficients: Vec<(usize, Value)>,
 }
 
@@ -1307,6 +1315,16 @@ impl<'m> Program<'m> {
         }
     }
 
+    /// The right side and the floor of a constraint, in this order.
+    fn sides(&self, constraint: &Constraint, bound: &Bound) -> Outcome<(Value, Option<Value>)> {
+        let right = self.model.formula(&constraint.right, bound)?;
+        let floor = match &constraint.floor {
+            Some(floor) => Some(self.model.formula(floor, bound)?),
+            None => None,
+        };
+        Ok((right, floor))
+    }
+
     /// The coefficients of a linear form, one per variable.
     fn gather(&self, linear: &Linear, bound: &Bound) -> Outcome<Vec<Value>> {
         let mut sums = vec![Value::ZERO; self.variables.len()];
@@ -1349,13 +1367,18 @@ impl<'m> Program<'m> {
     /// One element of a constraint that is a bound.
     fn bound(&mut self, constraint: &Constraint, access: &Access, bound: &Bound) -> Outcome<()> {
         let number = self.variable(access, bound)?;
-        let right = self.model.formula(&constraint.right, bound)?;
+        let (right, floor) = self.sides(constraint, bound)?;
+        let (least, most) = match constraint.relation {
+            Kind::AtMost => (floor, Some(right)),
+            Kind::AtLeast => (Some(right), None),
+            _ => (Some(right), Some(right)),
+        };
         let variable = &mut self.variables[number];
-        if constraint.relation != Kind::AtMost {
-            variable.lower = Some(variable.lower.map_or(right, |lower| lower.max(right)));
+        if let Some(least) = least {
+            variable.lower = Some(variable.lower.map_or(least, |lower| lower.max(least)));
         }
-        if constraint.relation != Kind::AtLeast {
-            variable.upper = Some(variable.upper.map_or(right, |upper| upper.min(right)));
+        if let Some(most) = most {
+            variable.upper = Some(variable.upper.map_or(most, |upper| upper.min(most)));
         }
         Ok(())
     }
@@ -1364,7 +1387,7 @@ impl<'m> Program<'m> {
     fn row(&mut self, number: usize, bound: &Bound) -> Outcome<()> {
         let constraint = &self.model.constraints[number];
         let sums = self.gather(&constraint.left, bound)?;
-        let right = self.model.formula(&constraint.right, bound)?;
+        let (right, floor) = self.sides(constraint, bound)?;
         if self.inequalities.len() + self.equations.len() == ROWS {
             return refuse(6, constraint.place);
         }
@@ -1378,6 +1401,7 @@ impl<'m> Program<'m> {
             constraint: number,
             subscripts: bound.values,
             right: right.negated_if(negative),
+            floor,
             coefficients: coefficients.collect(),
         };
         match constraint.relation {
@@ -1425,14 +1449,16 @@ impl<'m> Program<'m> {
             let constraint = &model.constraints[row.constraint];
             lines.start("row");
             lines.count(number);
-            lines.field(match constraint.relation {
-                Kind::Equal => b"E",
-                _ => b"L",
+            lines.field(match (constraint.relation, row.floor) {
+                (Kind::Equal, _) => b"E",
+                (_, Some(_)) => b"R",
+                (_, None) => b"L",
             });
             lines.value(row.right);
             lines.field(constraint.string);
             lines.subscripts(&row.subscripts[..constraint.domain.len()]);
             lines.end();
+            lines.low(number, row.floor);
             for (variable, coefficient) in &row.coefficients {
                 columns[*variable].push((number, *coefficient));
             }
@@ -1501,5 +1527,15 @@ impl Lines {
 
     fn end(&mut self) {
         self.0.push(b'\n');
+    }
+
+    /// The line behind that of a row, if the row has a floor.
+    fn low(&mut self, row: usize, floor: Option<Value>) {
+        if let Some(floor) = floor {
+            self.start("low");
+            self.count(row);
+            self.value(floor);
+            self.end();
+        }
     }
 }

@@ -238,10 +238,11 @@ module _ (s ns ts : List ℕ) (at : ℕ) (t : Seen) (l : Looks ts at t) where
 
 -- ---- the word
 
-pub shape-is : (s ns ts : List ℕ) (left m domain : ℕ) (b : Bool) (n r : ℕ) → IsBare s ns ts left b → SizeIs s ns ts domain n → Packs m b n r → ShapeIs s ns ts left m domain r
-shape-is s ns ts left m domain b n r g h w =
+pub shape-is : (s ns ts : List ℕ) (left m domain : ℕ) (b f : Bool) (n r : ℕ) → IsBare s ns ts left b → SizeIs s ns ts domain n → Packs m b f n r → ShapeIs s ns ts left m f domain r
+shape-is s ns ts left m domain b f n r g h w =
     record {
       mark = w .mark;
+      hasFloor = w .floor;
       bare = λ names o l a. sym (g .is names o l a) ∙ sym (w .bare);
       entries = λ names o d st. h .is names o d st ∙ sym (w .entries (omega (arith, h .few)));
     }

@@ -18,7 +18,7 @@ use Rattle.tokens.specs.declared.Seen.the-variants as seen
 use Rattle.tokens.specs.Stored.{kindOf, token, from, Sees, Looks, Moves, Gives}
 use Rattle.tokens.proofs.Tables.{mark-of, mark-same, false-true, no-string}
 use Rattle.tokens.proofs.Moved.{gives-at, gives-refused, next-is, look-is}
-use Rattle.constraints.specs.Readers.{titleIn, relationIn, goalIn, moreIn}
+use Rattle.constraints.specs.Readers.{titleIn, relationIn, plainBy, goalIn, moreIn}
 use Rattle.constraints.specs.Rows.{relationMark, IsRelation, IsTrue}
 
 is-string : (s : List ℕ) (k p x : ℕ) → isString (token s k p x) ≡ eqb k 4
@@ -44,12 +44,13 @@ record Chosen (k : ℕ) (o : Option Relation) : Type 0 where
   what : Relation
   is : o ≡ some what
   mark : relationMark what ≡ k
+  plain : what ≡ plainBy k
 
 chosen-some : (k : ℕ) (a b c : Bool) → eqb k 60 ≡ a → eqb k 62 ≡ b → eqb k 61 ≡ c → (a || b || c) ≡ true → Chosen k (chosen a b c)
-unfolding chosen
-chosen-some k true b c e f g h = record { what = atMost; is = refl; mark = sym (eqb-true k 60 e) }
-chosen-some k false true c e f g h = record { what = atLeast; is = refl; mark = sym (eqb-true k 62 f) }
-chosen-some k false false true e f g h = record { what = equal; is = refl; mark = sym (eqb-true k 61 g) }
+unfolding chosen plainBy
+chosen-some k true b c e f g h = record { what = atMost; is = refl; mark = sym (eqb-true k 60 e); plain = rw e refl }
+chosen-some k false true c e f g h = record { what = atLeast; is = refl; mark = sym (eqb-true k 62 f); plain = rw (e, f) refl }
+chosen-some k false false true e f g h = record { what = equal; is = refl; mark = sym (eqb-true k 61 g); plain = rw (e, f) refl }
 chosen-some k false false false e f g h = absurd (false-true h)
 
 chosen-none : (a b c : Bool) → (a || b || c) ≡ false → chosen a b c ≡ none
@@ -100,7 +101,7 @@ module _ (s ns ts : List ℕ) (at : ℕ) (t : Seen) (l : Looks ts at t) where
   relation-yes k p x a e i =
       let o = chosen-some k (eqb k 60) (eqb k 62) (eqb k 61) refl refl refl i in
       gives-at relationIn (IsRelation k) s ns ts at a
-      (λ names d. record { what = o .what; reads = relation-is k p x a names e ∙ ap (λ o. demand o p (from s ts a)) (o .is); holds = record { mark = o .mark } })
+      (λ names d. record { what = o .what; reads = relation-is k p x a names e ∙ ap (λ o. demand o p (from s ts a)) (o .is); holds = record { mark = o .mark; plain = o .plain } })
 
   pub relation-no : (k p x a : ℕ) → t ≡ seen.Token k p x a → (eqb k 60 || eqb k 62 || eqb k 61) ≡ false → Gives relationIn (IsRelation 0) s ns ts at (Refused Misplaced p)
   unfolding demand

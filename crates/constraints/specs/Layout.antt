@@ -1,10 +1,10 @@
 -- The words of a row of the table of constraints: the positions of the string and of the left side; in one word the mark of the
--- relation, whether the left side is one variable, and how many entries the domain has; the positions of the right side and of the
--- domain.
+-- relation, whether the left side is one variable, whether there is a floor, and how many entries the domain has; the positions of
+-- the right side, which a floor follows, and of the domain.
 use mathlib.Core.Path.{_≡_}
-use mathlib.Core.Bool.{Bool}
+use mathlib.Core.Bool.{Bool, cond}
 use mathlib.Core.List.{List, [], _∷_}
-use Prim.Native.Nat.{ℕ, _+_, _*_, _/_, _%_, _<_}
+use Prim.Native.Nat.{ℕ, _+_, _*_, _/_, _%_, _<_, _≤_}
 use lib.Dec.{eqb}
 use lib.ListN.{getD}
 
@@ -19,11 +19,20 @@ markPart w = w % 256
 abbrev pub barePart : ℕ → Bool
 barePart w = eqb (w / 256 % 2) 1
 
-abbrev pub entriesPart : ℕ → ℕ
-entriesPart w = w / 512
+abbrev pub floorPart : ℕ → Bool
+floorPart w = eqb (w / 512 % 2) 1
 
--- a mark, whether a side is one variable, and a number of entries in one word
-pub record Packs (m : ℕ) (b : Bool) (n r : ℕ) : Type 0 where
+abbrev pub entriesPart : ℕ → ℕ
+entriesPart w = w / 1024
+
+-- a unit where b holds, else 0
+pub record UnitIf (b : Bool) (unit r : ℕ) : Type 0 where
+  pub is : r ≡ cond b unit 0
+  pub within : r ≤ unit
+
+-- a mark, whether a side is one variable, whether there is a floor, and a number of entries in one word
+pub record Packs (m : ℕ) (b f : Bool) (n r : ℕ) : Type 0 where
   pub mark : m < 256 → markPart r ≡ m
   pub bare : barePart r ≡ b
+  pub floor : floorPart r ≡ f
   pub entries : n < 8 → entriesPart r ≡ n

@@ -9,7 +9,7 @@ use Rattle.language.specs.Reader.{look, readIndex}
 use Rattle.language.specs.Formulas.{isSum, inDomain, entriesOf, optionalDomain}
 use Rattle.onepass.specs.Entries.{read}
 use Rattle.tokens.specs.Stored.{from, size, Named, Stands}
-use Rattle.constraints.specs.Layout.{markPart, barePart, entriesPart}
+use Rattle.constraints.specs.Layout.{markPart, barePart, floorPart, entriesPart}
 use Rattle.constraints.specs.Rows.{SideAt, isBare}
 
 pub record IsAlone (ts : List ℕ) (at : ℕ) (r : Bool) : Type 0 where
@@ -29,8 +29,9 @@ pub record SizeIs (s ns ts : List ℕ) (at r : ℕ) : Type 0 where
   pub is : (names : List Name) → Named s ns names → (d : Spans) → Stands (optionalDomain names) s ts at d → size d ≡ r
   pub few : r ≤ 4
 
--- the third word of a row, by the mark m and the positions of the left side and of the domain
-pub record ShapeIs (s ns ts : List ℕ) (left m domain r : ℕ) : Type 0 where
+-- the third word of a row, by the mark m, whether there is a floor, and the positions of the left side and of the domain
+pub record ShapeIs (s ns ts : List ℕ) (left m : ℕ) (floor : Bool) (domain r : ℕ) : Type 0 where
   pub mark : m < 256 → markPart r ≡ m
+  pub hasFloor : floorPart r ≡ floor
   pub bare : (names : List Name) → Named s ns names → (l : Side) → SideAt s ts left names l → isBare l ≡ barePart r
   pub entries : (names : List Name) → Named s ns names → (d : Spans) → Stands (optionalDomain names) s ts domain d → size d ≡ entriesPart r

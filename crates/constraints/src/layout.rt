@@ -2,17 +2,21 @@
 ghost use mathlib.Core.Path.{_≡_};
 ghost use Prim.Native.Nat.{_+_, _*_};
 ghost use lib.ListN.{getD};
-ghost use Rattle.constraints.specs.Layout.{rowAt, markPart, barePart, entriesPart, Packs};
+ghost use Rattle.constraints.specs.Layout.{rowAt, markPart, barePart, floorPart, entriesPart, UnitIf, Packs};
 
-// The third word of a row: a mark below 256, whether the left side is one variable, and a number of entries below 8.
-pub fn packed(mark: u64, bare: bool, entries: usize) -> u64
-    ensures { λ r. ⌜ Packs mark bare entries r ⌝ }
+// A unit where b holds, else 0.
+fn unit_if(b: bool, unit: u64) -> u64
+    ensures { λ r. ⌜ UnitIf b unit r ⌝ }
 {
-    let word = mark % 256 + entries as u64 % 8 * 512;
-    if bare {
-        return word + 256;
-    }
-    word
+    if b { unit } else { 0 }
+}
+
+// The third word of a row: a mark below 256, whether the left side is one variable, whether there is a floor, and a number of
+// entries below 8.
+pub fn packed(mark: u64, bare: bool, floor: bool, entries: usize) -> u64
+    ensures { λ r. ⌜ Packs mark bare floor entries r ⌝ }
+{
+    mark % 256 + unit_if(bare, 256) + unit_if(floor, 512) + entries as u64 % 8 * 1024
 }
 
 // Word f of row k, 0 past the table's end.
@@ -60,11 +64,18 @@ pub fn is_bare(table: &[u64], k: usize) -> bool
     word(table, k, 2) / 256 % 2 == 1
 }
 
+// Whether a floor follows the right side.
+pub fn has_floor(table: &[u64], k: usize) -> bool
+    ensures { λ r. ⌜ r ≡ floorPart (getD (rowAt (now (table .entry)) k) 2 0) ⌝ }
+{
+    word(table, k, 2) / 512 % 2 == 1
+}
+
 // How many entries the domain has.
 pub fn entries_of(table: &[u64], k: usize) -> usize
     ensures { λ r. ⌜ r ≡ entriesPart (getD (rowAt (now (table .entry)) k) 2 0) ⌝ }
 {
-    (word(table, k, 2) / 512) as usize
+    (word(table, k, 2) / 1024) as usize
 }
 
 // The position of the right side.

@@ -7,11 +7,12 @@ use tokens::Move;
 use tokens::Seen;
 use tokens::kinds;
 ghost use mathlib.Core.Path.{_≡_};
+ghost use mathlib.Core.Bool.{false};
 ghost use Prim.Native.Nat.{_≤_};
 ghost use lib.ListN.{length};
-ghost use Rattle.tokens.specs.Stored.{Moves, Gives};
-ghost use Rattle.constraints.specs.Readers.{titleIn, relationIn, goalIn, constraintIn, moreIn, constraintsIn};
-ghost use Rattle.constraints.specs.Rows.{IsRelation, IsTrue, Located, RowOf, wordsOf, Constrained};
+ghost use Rattle.tokens.specs.Stored.{from, Moves, Gives};
+ghost use Rattle.constraints.specs.Readers.{titleIn, relationIn, floorFormulaIn, floorIn, comparisonIn, goalIn, constraintIn, moreIn, constraintsIn};
+ghost use Rattle.constraints.specs.Rows.{IsRelation, IsFloor, Compares, IsTrue, Located, RowOf, wordsOf, Constrained};
 
 // The mark of a relation, and where its reading ended.
 pub struct Compared {
@@ -31,12 +32,28 @@ struct Joint {
     end: Move,
 }
 
-// Where a constraint's string, sides and domain stand, and the mark of its relation; and where its reading ended.
+// Whether a floor stands there, and where its reading ended.
+struct Floor {
+    present: bool,
+    end: Move,
+}
+
+// The mark of a relation, where its right side stands, and whether it has a floor; and where its reading ended.
+struct Bounds {
+    mark: u64,
+    right: u64,
+    floor: bool,
+    end: Move,
+}
+
+// Where a constraint's string, sides and domain stand, the mark of its relation and whether it has a floor; and where its reading
+// ended.
 struct Sites {
     title: u64,
     left: u64,
     mark: u64,
     right: u64,
+    floor: bool,
     domain: u64,
     end: Move,
 }
@@ -148,19 +165,96 @@ fn more(text: &[u8], names: &[u64], tokens: &[u64], at: usize) -> Joint
 
 // No constraint stands there.
 fn nowhere(end: Move) -> Sites
-    ensures { λ r. ⌜ r ≡ record { title = 0; left = 0; mark = 0; right = 0; domain = 0; end = end } ⌝ }
+    ensures { λ r. ⌜ r ≡ record { title = 0; left = 0; mark = 0; right = 0; floor = false; domain = 0; end = end } ⌝ }
 {
     Sites {
         title: 0,
         left: 0,
         mark: 0,
         right: 0,
+        floor: false,
         domain: 0,
         end: end,
     }
 }
 
-// String, linear form, relation, formula, optional domain.
+// No floor stands there.
+fn no_floor(end: Move) -> Floor
+    ensures { λ r. ⌜ r ≡ record { present = false; end = end } ⌝ }
+{
+    Floor {
+        present: false,
+        end,
+    }
+}
+
+// `>=` and a formula: a floor behind its `,`.
+fn floor_formula(text: &[u8], names: &[u64], tokens: &[u64], at: usize) -> Move
+    ensures { λ r. ⌜ Moves floorFormulaIn (now (text .entry)) (now (names .entry)) (now (tokens .entry)) at r ⌝ }
+{
+    let sign = tokens::expect(text, names, tokens, at, marks::AT_LEAST);
+    let Move::At(a) = sign else {
+        return sign;
+    };
+    formulas::formula(text, names, tokens, a, rules::NESTING_LIMIT)
+}
+
+// A floor, which may follow the right side of a `<=`.
+fn optional_floor(text: &[u8], names: &[u64], tokens: &[u64], mark: u64, at: usize) -> Floor
+    ensures { λ r. ⌜ Gives (floorIn mark) (IsFloor mark (from (now (text .entry)) (now (tokens .entry)) at) (r .present)) (now (text .entry)) (now (names .entry)) (now (tokens .entry)) at (r .end) ⌝ }
+{
+    if mark != marks::AT_MOST as u64 {
+        return no_floor(Move::At(at));
+    }
+    let token = tokens::token_at(tokens, at);
+    match token {
+        Seen::Token(k, p, x, next) => {
+            if k != marks::COMMA as u64 {
+                return no_floor(Move::At(at));
+            }
+            let end = floor_formula(text, names, tokens, next);
+            Floor { present: true, end }
+        }
+        Seen::Refused(n, p) => no_floor(Move::Refused(n, p)),
+    }
+}
+
+// No relation stands there.
+fn no_bounds(end: Move) -> Bounds
+    ensures { λ r. ⌜ r ≡ record { mark = 0; right = 0; floor = false; end = end } ⌝ }
+{
+    Bounds {
+        mark: 0,
+        right: 0,
+        floor: false,
+        end,
+    }
+}
+
+// Relation, formula, optional floor.
+fn comparison(text: &[u8], names: &[u64], tokens: &[u64], at: usize) -> Bounds
+    ensures { λ r. ⌜ Gives comparisonIn (Compares (now (text .entry)) (now (tokens .entry)) r) (now (text .entry)) (now (names .entry)) (now (tokens .entry)) at (r .end) ⌝ }
+{
+    let compared = relation(text, names, tokens, at);
+    let sign = compared.end;
+    let Move::At(a) = sign else {
+        return no_bounds(sign);
+    };
+    let right = formulas::formula(text, names, tokens, a, rules::NESTING_LIMIT);
+    let Move::At(b) = right else {
+        return no_bounds(right);
+    };
+    let low = optional_floor(text, names, tokens, compared.mark, b);
+    let end = low.end;
+    Bounds {
+        mark: compared.mark,
+        right: a as u64,
+        floor: low.present,
+        end,
+    }
+}
+
+// String, linear form, relation with its right side, optional domain.
 fn locate(text: &[u8], names: &[u64], tokens: &[u64], at: usize) -> Sites
     ensures { λ r. ⌜ Gives constraintIn (Located (now (text .entry)) (now (tokens .entry)) r) (now (text .entry)) (now (names .entry)) (now (tokens .entry)) at (r .end) ⌝ }
 {
@@ -172,22 +266,19 @@ fn locate(text: &[u8], names: &[u64], tokens: &[u64], at: usize) -> Sites
     let Move::At(b) = left else {
         return nowhere(left);
     };
-    let compared = relation(text, names, tokens, b);
-    let sign = compared.end;
-    let Move::At(d) = sign else {
-        return nowhere(sign);
+    let bounds = comparison(text, names, tokens, b);
+    let behind = bounds.end;
+    let Move::At(d) = behind else {
+        return nowhere(behind);
     };
-    let right = formulas::formula(text, names, tokens, d, rules::NESTING_LIMIT);
-    let Move::At(e) = right else {
-        return nowhere(right);
-    };
-    let end = domains::optional_domain(text, names, tokens, e);
+    let end = domains::optional_domain(text, names, tokens, d);
     Sites {
         title: at as u64,
         left: a as u64,
-        mark: compared.mark,
-        right: d as u64,
-        domain: e as u64,
+        mark: bounds.mark,
+        right: bounds.right,
+        floor: bounds.floor,
+        domain: d as u64,
         end: end,
     }
 }
@@ -204,6 +295,7 @@ fn constraint(text: &[u8], names: &[u64], tokens: &[u64], at: usize) -> Row
         tokens,
         sites.left as usize,
         sites.mark,
+        sites.floor,
         sites.domain as usize,
     );
     Row {

@@ -93,18 +93,20 @@ fn entries_at(text: &[u8], names: &[u64], tokens: &[u64], at: usize) -> usize
     }
 }
 
-// The third word of the row of a constraint with the relation `mark`, whose left side and domain stand at these positions.
+// The third word of the row of a constraint with the relation `mark`, whose left side and domain stand at these positions, and
+// which has a floor or not.
 pub fn word_at(
     text: &[u8],
     names: &[u64],
     tokens: &[u64],
     left: usize,
     mark: u64,
+    floor: bool,
     domain: usize,
 ) -> u64
-    ensures { λ r. ⌜ ShapeIs (now (text .entry)) (now (names .entry)) (now (tokens .entry)) left mark domain r ⌝ }
+    ensures { λ r. ⌜ ShapeIs (now (text .entry)) (now (names .entry)) (now (tokens .entry)) left mark floor domain r ⌝ }
 {
     let bare = is_bare(text, names, tokens, left);
     let count = entries_at(text, names, tokens, domain);
-    layout::packed(mark, bare, count)
+    layout::packed(mark, bare, floor, count)
 }

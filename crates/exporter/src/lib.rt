@@ -6,9 +6,9 @@ ghost use Prim.Native.Nat.{_+_, _-_, _<_, _≤_, _^_};
 ghost use lib.ListN.{length};
 ghost use Rattle.value.specs.Printed.{natural, shown, Written};
 ghost use Rattle.rows.specs.Read.{valueOf};
-ghost use Rattle.rows.specs.Upper.{bound};
-ghost use Rattle.mps.specs.Export.{named, cellHead};
-ghost use Rattle.exporter.specs.Texts.{textFrom, shownLine, shownCell, shownUpper, rowText, cellText, objectiveText, columnText, discreteText, rightText, boundText, rowsText, columnsText, rightsText, boundsText};
+ghost use Rattle.rows.specs.End.{endOf};
+ghost use Rattle.mps.specs.Export.{named};
+ghost use Rattle.exporter.specs.Texts.{textFrom, shownLine, floorAt, floorRow, cellStart, shownTwice, shownCell, shownFloor, shownUpper, rowText, cellText, objectiveText, columnText, discreteText, rightText, boundText, rowsText, columnsText, rightsText, boundsText};
 ghost use Rattle.exporter.specs.Exports.{formed, Exports};
 
 // ---- pieces
@@ -69,44 +69,96 @@ fn value_line(w: &[u8], n: usize, mid: &[u8], v: value::Value, out: &mut [u8], a
 
 // ---- rows
 
-// The lines of the rows of a kind, from number i up to number n.
-fn row_lines(w: &[u8], from: usize, n: usize, out: &mut [u8], at: usize) -> usize
-    requires { ⌜ (length (now w) ≤ 16) × (from ≤ n) × (n ≤ 512) × (at < 2 ^ 38) ⌝ }
-    ensures { λ r. ⌜ (Written (now (out .entry)) at (textFrom (rowText (now (w .entry))) (n - from) from) r (now (out .exit))) × (r ≤ at + 32768) ⌝ }
+// The floor of row i, if it is one of the first `less` and has one.
+fn floor_at(slots: &[u64], less: usize, i: usize) -> rows::End
+    ensures { λ r. ⌜ endOf r ≡ floorAt (now (slots .entry)) less i ⌝ }
+{
+    if i < less {
+        return rows::floor_of(slots, i);
+    }
+    rows::End::None
+}
+
+// The row that a floor adds, by its number.
+fn floor_row(n: usize, floor: rows::End, out: &mut [u8], at: usize) -> usize
+    requires { ⌜ (n ≤ 512) × (at < 2 ^ 39) ⌝ }
+    ensures { λ r. ⌜ (Written (now (out .entry)) at (floorRow n (endOf floor)) r (now (out .exit))) × (r ≤ at + 64) ⌝ }
+{
+    match floor {
+        rows::End::None => at,
+        rows::End::At(_) => named_line(b" G F", n, b"\n", out, at),
+    }
+}
+
+// The line of row i, and that of its floor.
+fn row_line(slots: &[u64], less: usize, i: usize, out: &mut [u8], at: usize) -> usize
+    requires { ⌜ (i < 512) × (at < 2 ^ 38) ⌝ }
+    ensures { λ r. ⌜ (Written (now (out .entry)) at (rowText (now (slots .entry)) less i) r (now (out .exit))) × (r ≤ at + 128) ⌝ }
+{
+    if i < less {
+        let at = named_line(b" L R", i + 1, b"\n", out, at);
+        return floor_row(i + 1, floor_at(slots, less, i), out, at);
+    }
+    named_line(b" E R", i + 1, b"\n", out, at)
+}
+
+// The lines of n rows.
+fn row_lines(slots: &[u64], less: usize, n: usize, out: &mut [u8], at: usize) -> usize
+    requires { ⌜ (n ≤ 512) × (at < 2 ^ 37) ⌝ }
+    ensures { λ r. ⌜ (Written (now (out .entry)) at (textFrom (rowText (now (slots .entry)) less) n 0) r (now (out .exit))) × (r ≤ at + 65536) ⌝ }
 {
     let mut next = at;
-    let mut i = from;
+    let mut i = 0;
     while i < n {
-        next = named_line(w, i + 1, b"\n", out, next);
+        next = row_line(slots, less, i, out, next);
         i += 1;
     }
     next
 }
 
-// From the first byte on: the first lines, and a line for each row.
-fn rows_section(less: usize, n: usize, out: &mut [u8]) -> usize
-    requires { ⌜ (less ≤ n) × (n ≤ 512) ⌝ }
-    ensures { λ r. ⌜ (Written (now (out .entry)) 0 (rowsText less n) r (now (out .exit))) × (r ≤ 65600) ⌝ }
+// From the first byte on: the first lines, and those of the rows.
+fn rows_section(slots: &[u64], less: usize, n: usize, out: &mut [u8]) -> usize
+    requires { ⌜ n ≤ 512 ⌝ }
+    ensures { λ r. ⌜ (Written (now (out .entry)) 0 (rowsText (now (slots .entry)) less n) r (now (out .exit))) × (r ≤ 65600) ⌝ }
 {
     let at = put_word(b"NAME MODEL\nROWS\n N OBJ\n", out, 0);
-    let at = row_lines(b" L R", 0, less, out, at);
-    row_lines(b" E R", less, n, out, at)
+    row_lines(slots, less, n, out, at)
 }
 
 // ---- coefficients
 
-fn cell_line(j: usize, i: usize, v: value::Value, out: &mut [u8], at: usize) -> usize
-    requires { ⌜ (j ≤ 512) × (i ≤ 512) × (at < 2 ^ 38) ⌝ }
-    ensures { λ r. ⌜ (Written (now (out .entry)) at (shownLine (cellHead j i) v) r (now (out .exit))) × (r ≤ at + 256) ⌝ }
+// The line of variable j in row i, or in its floor, by their numbers and the row's first word.
+fn cell_line(j: usize, w: &[u8], i: usize, v: value::Value, out: &mut [u8], at: usize) -> usize
+    requires { ⌜ (j ≤ 512) × (length (now w) ≤ 16) × (i ≤ 512) × (at < 2 ^ 38) ⌝ }
+    ensures { λ r. ⌜ (Written (now (out .entry)) at (shownLine (cellStart j (now (w .entry)) i) v) r (now (out .exit))) × (r ≤ at + 256) ⌝ }
 {
     let at = numbered(b" C", j, out, at);
-    value_line(b" R", i, b" ", v, out, at)
+    value_line(w, i, b" ", v, out, at)
 }
 
-// A coefficient's line, by its count of millionths; nothing for zero.
-fn cell(j: usize, i: usize, z: i64, out: &mut [u8], at: usize) -> usize
-    requires { ⌜ (j ≤ 512) × (i ≤ 512) × (at < 2 ^ 38) ⌝ }
-    ensures { λ r. ⌜ (Written (now (out .entry)) at (shownCell j i (valueOf z)) r (now (out .exit))) × (r ≤ at + 256) ⌝ }
+// The same in a row and in its floor, if it has one.
+fn cell_lines(
+    j: usize,
+    i: usize,
+    v: value::Value,
+    floor: rows::End,
+    out: &mut [u8],
+    at: usize,
+) -> usize
+    requires { ⌜ (j ≤ 512) × (i ≤ 512) × (at < 2 ^ 37) ⌝ }
+    ensures { λ r. ⌜ (Written (now (out .entry)) at (shownTwice j i v (endOf floor)) r (now (out .exit))) × (r ≤ at + 512) ⌝ }
+{
+    let at = cell_line(j, b" R", i, v, out, at);
+    match floor {
+        rows::End::None => at,
+        rows::End::At(_) => cell_line(j, b" F", i, v, out, at),
+    }
+}
+
+// A coefficient's lines, by its count of millionths; nothing for zero.
+fn cell(j: usize, i: usize, z: i64, floor: rows::End, out: &mut [u8], at: usize) -> usize
+    requires { ⌜ (j ≤ 512) × (i ≤ 512) × (at < 2 ^ 37) ⌝ }
+    ensures { λ r. ⌜ (Written (now (out .entry)) at (shownCell j i (valueOf z) (endOf floor)) r (now (out .exit))) × (r ≤ at + 512) ⌝ }
 {
     if z == 0 {
         return at;
@@ -115,19 +167,28 @@ fn cell(j: usize, i: usize, z: i64, out: &mut [u8], at: usize) -> usize
     if value::is_zero(v) {
         return at;
     }
-    cell_line(j, i, v, out, at)
+    cell_lines(j, i, v, floor, out, at)
 }
 
 // The coefficients of variable j in n rows.
-fn cells(counts: &[i64], less: usize, n: usize, j: usize, out: &mut [u8], at: usize) -> usize
-    requires { ⌜ (n ≤ 512) × (j < 512) × (at < 2 ^ 37) ⌝ }
-    ensures { λ r. ⌜ (Written (now (out .entry)) at (textFrom (cellText (now (counts .entry)) less j) n 0) r (now (out .exit))) × (r ≤ at + 131072) ⌝ }
+fn cells(
+    slots: &[u64],
+    counts: &[i64],
+    less: usize,
+    n: usize,
+    j: usize,
+    out: &mut [u8],
+    at: usize,
+) -> usize
+    requires { ⌜ (n ≤ 512) × (j < 512) × (at < 2 ^ 36) ⌝ }
+    ensures { λ r. ⌜ (Written (now (out .entry)) at (textFrom (cellText (now (slots .entry)) (now (counts .entry)) less j) n 0) r (now (out .exit))) × (r ≤ at + 262144) ⌝ }
 {
     let mut next = at;
     let mut i = 0;
     while i < n {
         let z = rows::count_at(counts, rows::slot(less, i), j);
-        next = cell(j + 1, i + 1, z, out, next);
+        let floor = floor_at(slots, less, i);
+        next = cell(j + 1, i + 1, z, floor, out, next);
         i += 1;
     }
     next
@@ -144,16 +205,25 @@ fn objective_line(counts: &[i64], j: usize, out: &mut [u8], at: usize) -> usize
 }
 
 // The lines of variable j.
-fn column(counts: &[i64], less: usize, n: usize, j: usize, out: &mut [u8], at: usize) -> usize
-    requires { ⌜ (n ≤ 512) × (j < 512) × (at < 2 ^ 37) ⌝ }
-    ensures { λ r. ⌜ (Written (now (out .entry)) at (columnText (now (counts .entry)) less n j) r (now (out .exit))) × (r ≤ at + 131200) ⌝ }
+fn column(
+    slots: &[u64],
+    counts: &[i64],
+    less: usize,
+    n: usize,
+    j: usize,
+    out: &mut [u8],
+    at: usize,
+) -> usize
+    requires { ⌜ (n ≤ 512) × (j < 512) × (at < 2 ^ 36) ⌝ }
+    ensures { λ r. ⌜ (Written (now (out .entry)) at (columnText (now (slots .entry)) (now (counts .entry)) less n j) r (now (out .exit))) × (r ≤ at + 262272) ⌝ }
 {
-    let at = cells(counts, less, n, j, out, at);
+    let at = cells(slots, counts, less, n, j, out, at);
     objective_line(counts, j, out, at)
 }
 
 // The lines of the variables from number `from` up to number `to`.
 fn columns(
+    slots: &[u64],
     counts: &[i64],
     less: usize,
     n: usize,
@@ -162,13 +232,13 @@ fn columns(
     out: &mut [u8],
     at: usize,
 ) -> usize
-    requires { ⌜ (n ≤ 512) × (from ≤ to) × (to ≤ 512) × (at < 2 ^ 36) ⌝ }
-    ensures { λ r. ⌜ (Written (now (out .entry)) at (textFrom (columnText (now (counts .entry)) less n) (to - from) from) r (now (out .exit))) × (r ≤ at + 67174400) ⌝ }
+    requires { ⌜ (n ≤ 512) × (from ≤ to) × (to ≤ 512) × (at < 2 ^ 35) ⌝ }
+    ensures { λ r. ⌜ (Written (now (out .entry)) at (textFrom (columnText (now (slots .entry)) (now (counts .entry)) less n) (to - from) from) r (now (out .exit))) × (r ≤ at + 134283264) ⌝ }
 {
     let mut next = at;
     let mut j = from;
     while j < to {
-        next = column(counts, less, n, j, out, next);
+        next = column(slots, counts, less, n, j, out, next);
         j += 1;
     }
     next
@@ -176,6 +246,7 @@ fn columns(
 
 // The lines of k discrete variables, if there are any, between two markers.
 fn discrete_columns(
+    slots: &[u64],
     counts: &[i64],
     less: usize,
     n: usize,
@@ -183,18 +254,19 @@ fn discrete_columns(
     out: &mut [u8],
     at: usize,
 ) -> usize
-    requires { ⌜ (n ≤ 512) × (k ≤ 512) × (at < 2 ^ 35) ⌝ }
-    ensures { λ r. ⌜ (Written (now (out .entry)) at (discreteText (now (counts .entry)) less n k) r (now (out .exit))) × (r ≤ at + 67174500) ⌝ }
+    requires { ⌜ (n ≤ 512) × (k ≤ 512) × (at < 2 ^ 34) ⌝ }
+    ensures { λ r. ⌜ (Written (now (out .entry)) at (discreteText (now (slots .entry)) (now (counts .entry)) less n k) r (now (out .exit))) × (r ≤ at + 134283364) ⌝ }
 {
     if k == 0 {
         return at;
     }
     let at = put_word(b" M 'MARKER' 'INTORG'\n", out, at);
-    let at = columns(counts, less, n, 0, k, out, at);
+    let at = columns(slots, counts, less, n, 0, k, out, at);
     put_word(b" M 'MARKER' 'INTEND'\n", out, at)
 }
 
 fn columns_section(
+    slots: &[u64],
     counts: &[i64],
     less: usize,
     n: usize,
@@ -203,28 +275,41 @@ fn columns_section(
     out: &mut [u8],
     at: usize,
 ) -> usize
-    requires { ⌜ (n ≤ 512) × (discrete ≤ variables) × (variables ≤ 512) × (at < 2 ^ 34) ⌝ }
-    ensures { λ r. ⌜ (Written (now (out .entry)) at (columnsText (now (counts .entry)) less n discrete variables) r (now (out .exit))) × (r ≤ at + 2 ^ 28) ⌝ }
+    requires { ⌜ (n ≤ 512) × (discrete ≤ variables) × (variables ≤ 512) × (at < 2 ^ 33) ⌝ }
+    ensures { λ r. ⌜ (Written (now (out .entry)) at (columnsText (now (slots .entry)) (now (counts .entry)) less n discrete variables) r (now (out .exit))) × (r ≤ at + 2 ^ 29) ⌝ }
 {
     let at = put_word(b"COLUMNS\n", out, at);
-    let at = discrete_columns(counts, less, n, discrete, out, at);
-    columns(counts, less, n, discrete, variables, out, at)
+    let at = discrete_columns(slots, counts, less, n, discrete, out, at);
+    columns(slots, counts, less, n, discrete, variables, out, at)
 }
 
 // ---- right sides
 
-fn right_line(slots: &[u64], less: usize, i: usize, out: &mut [u8], at: usize) -> usize
-    requires { ⌜ (i < 512) × (at < 2 ^ 38) ⌝ }
-    ensures { λ r. ⌜ (Written (now (out .entry)) at (rightText (now (slots .entry)) less i) r (now (out .exit))) × (r ≤ at + 128) ⌝ }
+// A floor's line, by its number.
+fn floor_line(n: usize, floor: rows::End, out: &mut [u8], at: usize) -> usize
+    requires { ⌜ (n ≤ 512) × (at < 2 ^ 39) ⌝ }
+    ensures { λ r. ⌜ (Written (now (out .entry)) at (shownFloor n (endOf floor)) r (now (out .exit))) × (r ≤ at + 128) ⌝ }
 {
-    let v = store::unpack(store::word_at(slots, rows::slot(less, i)));
-    value_line(b" MODEL R", i + 1, b" ", v, out, at)
+    match floor {
+        rows::End::None => at,
+        rows::End::At(v) => value_line(b" MODEL F", n, b" ", v, out, at),
+    }
 }
 
-// The right sides of n rows.
+// The right side of row i, and its floor.
+fn right_line(slots: &[u64], less: usize, i: usize, out: &mut [u8], at: usize) -> usize
+    requires { ⌜ (i < 512) × (at < 2 ^ 38) ⌝ }
+    ensures { λ r. ⌜ (Written (now (out .entry)) at (rightText (now (slots .entry)) less i) r (now (out .exit))) × (r ≤ at + 256) ⌝ }
+{
+    let v = store::unpack(store::word_at(slots, rows::slot(less, i)));
+    let at = value_line(b" MODEL R", i + 1, b" ", v, out, at);
+    floor_line(i + 1, floor_at(slots, less, i), out, at)
+}
+
+// The right sides and floors of n rows.
 fn rights(slots: &[u64], less: usize, n: usize, out: &mut [u8], at: usize) -> usize
     requires { ⌜ (n ≤ 512) × (at < 2 ^ 37) ⌝ }
-    ensures { λ r. ⌜ (Written (now (out .entry)) at (textFrom (rightText (now (slots .entry)) less) n 0) r (now (out .exit))) × (r ≤ at + 65536) ⌝ }
+    ensures { λ r. ⌜ (Written (now (out .entry)) at (textFrom (rightText (now (slots .entry)) less) n 0) r (now (out .exit))) × (r ≤ at + 131072) ⌝ }
 {
     let mut next = at;
     let mut i = 0;
@@ -237,7 +322,7 @@ fn rights(slots: &[u64], less: usize, n: usize, out: &mut [u8], at: usize) -> us
 
 fn rights_section(slots: &[u64], less: usize, n: usize, out: &mut [u8], at: usize) -> usize
     requires { ⌜ (n ≤ 512) × (at < 2 ^ 36) ⌝ }
-    ensures { λ r. ⌜ (Written (now (out .entry)) at (rightsText (now (slots .entry)) less n) r (now (out .exit))) × (r ≤ at + 65540) ⌝ }
+    ensures { λ r. ⌜ (Written (now (out .entry)) at (rightsText (now (slots .entry)) less n) r (now (out .exit))) × (r ≤ at + 131080) ⌝ }
 {
     let at = put_word(b"RHS\n", out, at);
     rights(slots, less, n, out, at)
@@ -245,13 +330,13 @@ fn rights_section(slots: &[u64], less: usize, n: usize, out: &mut [u8], at: usiz
 
 // ---- bounds
 
-fn upper_line(j: usize, upper: rows::Upper, out: &mut [u8], at: usize) -> usize
+fn upper_line(j: usize, upper: rows::End, out: &mut [u8], at: usize) -> usize
     requires { ⌜ (j ≤ 512) × (at < 2 ^ 38) ⌝ }
-    ensures { λ r. ⌜ (Written (now (out .entry)) at (shownUpper j (bound upper)) r (now (out .exit))) × (r ≤ at + 128) ⌝ }
+    ensures { λ r. ⌜ (Written (now (out .entry)) at (shownUpper j (endOf upper)) r (now (out .exit))) × (r ≤ at + 128) ⌝ }
 {
     match upper {
-        rows::Upper::None => named_line(b" PL MODEL C", j, b"\n", out, at),
-        rows::Upper::At(v) => value_line(b" UP MODEL C", j, b" ", v, out, at),
+        rows::End::None => named_line(b" PL MODEL C", j, b"\n", out, at),
+        rows::End::At(v) => value_line(b" UP MODEL C", j, b" ", v, out, at),
     }
 }
 
@@ -316,8 +401,8 @@ pub fn write(
     let less = sizes.less;
     let n = less + sizes.equal;
     let variables = sizes.variables;
-    let at = rows_section(less, n, out);
-    let at = columns_section(counts, less, n, sizes.discrete, variables, out, at);
+    let at = rows_section(slots, less, n, out);
+    let at = columns_section(slots, counts, less, n, sizes.discrete, variables, out, at);
     let at = rights_section(slots, less, n, out, at);
     bounds_section(bounds, variables, out, at)
 }

@@ -57,7 +57,7 @@ fn write(
     tokens: &[u64],
     constraints: &[u64],
     variables: &[u64; 2048],
-    slots: &[u64; 2048],
+    slots: &[u64; 4104],
     bounds: &[u64; 1024],
     counts: &[i64; 263168],
     model: Model,
@@ -101,7 +101,7 @@ fn list_in(
     store: &[u64],
     model: Model,
     variables: &mut [u64; 2048],
-    slots: &mut [u64; 2048],
+    slots: &mut [u64; 4104],
     bounds: &mut [u64; 1024],
     counts: &mut [i64; 263168],
     kind: Report,
@@ -166,7 +166,7 @@ fn list(
     ensures { λ r. ⌜ PrintsModel kind (now (text .entry)) (now (names .entry)) (now (tokens .entry)) (now (constraints .entry)) (now (store .entry)) model (now (out .entry)) r (now (out .exit)) ⌝ }
 {
     let mut variables = [0u64; 2048];
-    let mut slots = [0u64; 2048];
+    let mut slots = [0u64; 4104];
     let mut bounds = [0u64; 1024];
     let mut counts = [0i64; 263168];
     list_in(

@@ -11,11 +11,12 @@ use lib.Dec.{eqb}
 use lib.ListN.{length, getD, drop, drop-of-length-le}
 use lib.Seq.{drop-cons}
 use Rattle.rules.specs.Characters.{bytes}
-use Rattle.mps.specs.Export.{named, cellHead}
+use Rattle.mps.specs.Export.{named}
 use Rattle.mps.specs.Reading.{strip}
 use Rattle.value.specs.Printed.{natural}
 use Rattle.importer.specs.declared.Move.{Move}
 use Rattle.importer.specs.declared.Move.the-variants.{At, Nothing}
+use Rattle.importer.specs.Sections.{headOf}
 use Rattle.importer.specs.Steps.{Strips}
 
 pub drop-here : (s : List ℕ) (i : ℕ) → i < length s → drop i s ≡ getD s i 0 ∷ drop (i + 1) s
@@ -101,17 +102,17 @@ module _ (w : List ℕ) (n : ℕ) (t : List ℕ) where
 
 -- ---- the start of a coefficient's line
 
-module _ (j n : ℕ) where
-  cell-head-is : named (bytes " C") j (bytes " R") ++ (natural n ++ bytes " ") ≡ cellHead j n
-  unfolding named cellHead
-  cell-head-is = ap (λ (l : List ℕ). bytes " C" ++ l) (append-assoc (natural j) (bytes " R") (natural n ++ bytes " "))
+module _ (j : ℕ) (w : List ℕ) (n : ℕ) where
+  head-is : named (bytes " C") j w ++ (natural n ++ bytes " ") ≡ headOf j w n
+  unfolding named headOf
+  head-is = ap (λ (l : List ℕ). bytes " C" ++ l) (append-assoc (natural j) w (natural n ++ bytes " "))
 
-  module _ {text : List ℕ} {at : ℕ} {m : Move} (s : Strips (named (bytes " C") j (bytes " R")) text at m) where
-    pub cell-none : m ≡ Nothing → Strips (cellHead j n) text at Nothing
-    cell-none e = rw cell-head-is at (then-none s (natural n ++ bytes " ") e)
+  module _ {text : List ℕ} {at : ℕ} {m : Move} (s : Strips (named (bytes " C") j w) text at m) where
+    pub head-none : m ≡ Nothing → Strips (headOf j w n) text at Nothing
+    head-none e = rw head-is at (then-none s (natural n ++ bytes " ") e)
 
-    pub cell-number : {k : Move} {x : ℕ} → m ≡ At x → Strips (natural n) text x k → k ≡ Nothing → Strips (cellHead j n) text at Nothing
-    cell-number e u f = rw cell-head-is at (then-some s (natural n ++ bytes " ") e (then-none u (bytes " ") f))
+    pub head-number : {k : Move} {x : ℕ} → m ≡ At x → Strips (natural n) text x k → k ≡ Nothing → Strips (headOf j w n) text at Nothing
+    head-number e u f = rw head-is at (then-some s (natural n ++ bytes " ") e (then-none u (bytes " ") f))
 
-    pub cell-all : {k r : Move} {x y : ℕ} → m ≡ At x → Strips (natural n) text x k → k ≡ At y → Strips (bytes " ") text y r → Strips (cellHead j n) text at r
-    cell-all e u f v = rw cell-head-is at (then-some s (natural n ++ bytes " ") e (then-some u (bytes " ") f v))
+    pub head-all : {k r : Move} {x y : ℕ} → m ≡ At x → Strips (natural n) text x k → k ≡ At y → Strips (bytes " ") text y r → Strips (headOf j w n) text at r
+    head-all e u f v = rw head-is at (then-some s (natural n ++ bytes " ") e (then-some u (bytes " ") f v))

@@ -42,11 +42,6 @@ pub print-part : (l : List ℕ) (v : Value) (k : ℕ) (l′ : List ℕ) → Writ
 print-part l v k l′ w h =
     rw (w .bytes, sets-eq (shown v) l 0 (omega (arith, shown-most v))) (take-at (shown v) _ k (omega (arith, w .next)))
 
-pub number-part : (l : List ℕ) (n : ℕ) (v : Value) (k : ℕ) (l′ : List ℕ) → Written l 0 (shown v) k l′ → 32 ≤ length l → v ≡ ofWhole (toZ w64 n) → n < 1024 → take k l′ ≡ natural n
-unfolding mantissaLimit
-number-part l n v k l′ w h e g =
-    print-part l v k l′ w h ∙ whole-is v (toZ w64 n) e ∙ natural-read n (omega arith) ∙ natural-shown n (omega arith)
-
 -- the buffer has 32 bytes
 module _ (l : List ℕ) (v : Value) (k : ℕ) (l′ : List ℕ) (w : Written l 0 (shown v) k l′) (h : 32 ≤ length l) where
   same-size : length l′ ≡ length l
@@ -58,9 +53,12 @@ module _ (l : List ℕ) (v : Value) (k : ℕ) (l′ : List ℕ) (w : Written l 0
   pub print-size : k ≡ length (take k l′)
   print-size = rw length-take (omega (arith, print-fits))
 
-pub number-strips : (l : List ℕ) (n : ℕ) (v : Value) (k : ℕ) (l′ text : List ℕ) (at : ℕ) (r : Move)
-    → Written l 0 (shown v) k l′ → 32 ≤ length l → v ≡ ofWhole (toZ w64 n) → n < 1024 → Strips (take k l′) text at r → Strips (natural n) text at r
-number-strips l n v k l′ text at r w h e g s = rw (number-part l n v k l′ w h e g) at s
+  pub print-strips : (text : List ℕ) (at : ℕ) (r : Move) → Strips (take k l′) text at r → Strips (shown v) text at r
+  print-strips text at r s = rw (print-part l v k l′ w h) at s
+
+pub number-strips : (n : ℕ) (v : Value) (text : List ℕ) (at : ℕ) (r : Move) → v ≡ ofWhole (toZ w64 n) → n < 1024 → Strips (shown v) text at r → Strips (natural n) text at r
+unfolding mantissaLimit
+number-strips n v text at r e g s = rw (whole-is v (toZ w64 n) e ∙ natural-read n (omega arith) ∙ natural-shown n (omega arith)) at s
 
 -- ---- the line's end
 
@@ -195,13 +193,13 @@ same-strip (a ∷ w) (b ∷ l) = go (eqb a b) (same-strip w l)
     go false e = refl
 
 module _ (w t : List ℕ) (m : Move) (s : Strips w t 0 m) where
-  other : m ≡ move.Nothing → false ≡ sameBytes w t
+  pub print-other : m ≡ move.Nothing → false ≡ sameBytes w t
   unfolding ended
-  other e = sym (same-strip w t ∙ rw (s .is, e))
+  print-other e = sym (same-strip w t ∙ rw (s .is, e))
 
-  same : (n : ℕ) → m ≡ move.At n → leb (length t) n ≡ sameBytes w t
+  pub print-same : (n : ℕ) → m ≡ move.At n → leb (length t) n ≡ sameBytes w t
   unfolding ended
-  same n e = sym (same-strip w t ∙ rw (s .is, e) (go (drop n t) (length-drop n t) (leb (length t) n) refl))
+  print-same n e = sym (same-strip w t ∙ rw (s .is, e) (go (drop n t) (length-drop n t) (leb (length t) n) refl))
     where
       inside : n ≤ length t
       inside = rw e at (s .inside)
@@ -211,16 +209,6 @@ module _ (w t : List ℕ) (m : Move) (s : Strips w t 0 m) where
       go [] h false g = absurd (omega (arith, inside, leb-false (length t) n g))
       go (b ∷ l) h true g = absurd (omega (arith, leb-true (length t) n g))
       go (b ∷ l) h false g = refl
-
-module _ (l : List ℕ) (v : Value) (k : ℕ) (l′ t : List ℕ) (m : Move) (w : Written l 0 (shown v) k l′) (h : 32 ≤ length l) (s : Strips (take k l′) t 0 m) where
-  strips : Strips (shown v) t 0 m
-  strips = rw (print-part l v k l′ w h) at s
-
-  pub print-other : m ≡ move.Nothing → false ≡ sameBytes (shown v) t
-  print-other e = other (shown v) t m strips e
-
-  pub print-same : (n : ℕ) → m ≡ move.At n → leb (length t) n ≡ sameBytes (shown v) t
-  print-same n e = same (shown v) t m strips n e
 
 -- ---- a value and its line feed
 
@@ -261,6 +249,10 @@ module _ (w text : List ℕ) (at : ℕ) (m : Move) (s : Strips w text at m) wher
   unfolding lineValue
   line-some n r e f = record { is = rw (s .is, e) (f .is); inside = f .inside }
 
--- where a value's line ends
-pub found-inside : {m : Reader Value} {text : List ℕ} {at : ℕ} {r : Found} → Finds m text at r → {v : Value} {n : ℕ} → r ≡ found.Value v n → n ≤ length text
-found-inside d e = (rw e at (d .inside)) .1
+-- where a value's line ends, and the value
+module _ {m : Reader Value} {text : List ℕ} {at : ℕ} {r : Found} (d : Finds m text at r) {v : Value} {n : ℕ} (e : r ≡ found.Value v n) where
+  pub found-inside : n ≤ length text
+  found-inside = (rw e at (d .inside)) .1
+
+  pub found-valid : Valid v
+  found-valid = (rw e at (d .inside)) .0

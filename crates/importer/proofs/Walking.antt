@@ -6,22 +6,24 @@ use Prim.Native.Nat.{ℕ, zero, suc, _+_, _-_, _*_, _<_, _≤_}
 use native.Mathlib.Omega.{arith}
 use native.Mathlib.Numerals.{add-one}
 use lib.ListN.{length, drop}
-use Rattle.value.specs.declared.Value.{Value}
 use Rattle.value.specs.Printed.{Written}
 use Rattle.value.proofs.Writing.{written-none, written-then, written-length}
 use Rattle.mps.specs.Reading.{Read, Reader, follow, _>>=_, give}
-use Rattle.importer.specs.declared.Found.{Found}
-use Rattle.importer.specs.declared.Found.the-variants as found
 use Rattle.importer.specs.declared.Step.{Step}
 use Rattle.importer.specs.declared.Step.the-variants.{To, Nothing}
 use Rattle.importer.specs.Sections.{readEach, bytesEach}
-use Rattle.importer.specs.Steps.{Finds, WalksAs, Walks}
+use Rattle.importer.specs.Steps.{WalksAs, Walks}
+
+pub same-what : {A : Type 0} (o : Option (Read A)) (a b : A) (s t : List ℕ) → o ≡ some (record { what = a; rest = s }) → o ≡ some (record { what = b; rest = t }) → a ≡ b
+same-what {A} o a b s t e f =
+    let z : _≡_ {A = Read A} (record { what = a; rest = s }) (record { what = b; rest = t }) = cc in
+    ap (λ (q : Read A). q .what) z
 
 -- to read and write what is left of n things, from thing i on, is to read and write all of them
 pub record Each {A : Type 0} (g : ℕ → Reader A) (f : ℕ → A → List ℕ) (n : ℕ) (text : List ℕ) (at : ℕ) (out : List ℕ) (place i next : ℕ) (o : List ℕ) (p : ℕ) : Type 0 where
   pub few : i ≤ n
   pub inside : next ≤ length text
-  pub short : p ≤ place + 128 * i
+  pub short : p ≤ place + 256 * i
   pub size : length o ≡ length out
   pub whole : (r : Step) (l : List ℕ) → WalksAs (readEach g (n - i) i) (bytesEach f i) text next o p r l → WalksAs (readEach g n 0) (bytesEach f 0) text at out place r l
 
@@ -50,7 +52,7 @@ module _ {A : Type 0} (g : ℕ → Reader A) (f : ℕ → A → List ℕ) where
         record { few = omega arith; inside = h; short = omega arith; size = refl; whole = λ r l w. rw z at w }
 
     module _ (i next : ℕ) (o : List ℕ) (p : ℕ) (h : Each g f n text at out place i next o p) where
-      pub each-more : i < n → (a : A) (next′ p′ : ℕ) (o′ : List ℕ) → g i (drop next text) ≡ some (record { what = a; rest = drop next′ text }) → next′ ≤ length text → Written o p (f i a) p′ o′ → p′ ≤ p + 128
+      pub each-more : i < n → (a : A) (next′ p′ : ℕ) (o′ : List ℕ) → g i (drop next text) ≡ some (record { what = a; rest = drop next′ text }) → next′ ≤ length text → Written o p (f i a) p′ o′ → p′ ≤ p + 256
           → Each g f n text at out place (i + 1) next′ o′ p′
       each-more b a next′ p′ o′ e k v s =
           let z : n - i ≡ suc (n - suc i) = omega arith in
@@ -67,7 +69,7 @@ module _ {A : Type 0} (g : ℕ → Reader A) (f : ℕ → A → List ℕ) where
           let z : n - i ≡ suc (n - suc i) = omega arith in
           h .whole Nothing o (rw z (stop (drop next text) (n - suc i) i e))
 
-      pub each-end : n ≤ i → Walks (readEach g n 0) (bytesEach f 0) (128 * n) text at out place (To next p) o
+      pub each-end : n ≤ i → Walks (readEach g n 0) (bytesEach f 0) (256 * n) text at out place (To next p) o
       each-end b =
           let z : n - i ≡ 0 = omega arith in
           let k : i ≡ n = omega (arith, h .few) in
@@ -88,15 +90,6 @@ module _ {A : Type 0} (g : ℕ → Reader A) (f : ℕ → A → List ℕ) where
   unfolding readEach
   each-length zero i l q e = let z : _≡_ {A = Read (List A)} (record { what = []; rest = l }) q = cc in rw (← z)
   each-length (suc k) i l q e = first-length k (readEach g k (suc i)) (g i l) q (each-length k (suc i)) e
-
--- ---- a value each time
-
-module _ (g : ℕ → Reader Value) (f : ℕ → Value → List ℕ) (n : ℕ) (text : List ℕ) (at : ℕ) (out : List ℕ) (place i next : ℕ) (o : List ℕ) (p : ℕ) (h : Each g f n text at out place i next o p) (b : i < n) (r : Found) (d : Finds (g i) text next r) where
-  pub found-more : (v : Value) (x p′ : ℕ) (o′ : List ℕ) → r ≡ found.Value v x → Written o p (f i v) p′ o′ → p′ ≤ p + 128 → Each g f n text at out place (i + 1) x o′ p′
-  found-more v x p′ o′ e w s = each-more g f n text at out place i next o p h b v x p′ o′ (rw e at (d .is)) ((rw e at (d .inside)) .1) w s
-
-  pub found-stop : (most : ℕ) (l : List ℕ) → r ≡ found.Nothing → Walks (readEach g n 0) (bytesEach f 0) most text at out place Nothing l
-  found-stop most l e = record { is = each-stop g f n text at out place i next o p h b (rw e at (d .is)); inside = tt }
 
 -- ---- where a step ends
 

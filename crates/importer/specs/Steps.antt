@@ -1,5 +1,6 @@
 -- What the code's steps answer, tied to the reader of exports (`mps`): the text from a position on is what is left to read.
 use mathlib.Core.Path.{_≡_}
+use mathlib.Core.Bool.{Bool}
 use mathlib.Core.Option.{Option, none, some}
 use mathlib.Core.List.{List}
 use Prim.Native.Nat.{ℕ, _+_, _-_, _*_, _≤_}
@@ -8,11 +9,11 @@ use Rattle.value.specs.declared.Value.{Value}
 use Rattle.value.specs.Decimal.{Valid}
 use Rattle.value.specs.Printed.{Written}
 use Rattle.lexer.specs.Text.{front, behind}
-use Rattle.language.specs.Valid.{ValidUpper}
-use Rattle.rows.specs.Upper.{bound}
+use Rattle.language.specs.Valid.{ValidIfAny}
+use Rattle.rows.specs.End.{endOf}
 use Rattle.mps.specs.Sheet.{Column, Bounds}
-use Rattle.mps.specs.Reading.{Read, Reader, strip, inLine, countRows, Kinds, readUpper}
-use Rattle.importer.specs.Sections.{kindLine, opening, columnsBytes, readMatrix, matrixBytes}
+use Rattle.mps.specs.Reading.{Read, Reader, strip, inLine, floorHere, lessRows, equalRows, Kinds}
+use Rattle.importer.specs.Sections.{opening, columnsBytes, readMatrix, matrixBytes}
 use Rattle.importer.specs.declared.Move.{Move}
 use Rattle.importer.specs.declared.Move.the-variants as move
 use Rattle.importer.specs.declared.Found.{Found}
@@ -27,8 +28,9 @@ use Rattle.importer.specs.declared.MatrixRead.{MatrixRead}
 use Rattle.importer.specs.declared.MatrixRead.the-variants as matrix
 use Rattle.importer.specs.declared.Limits.{Limits}
 use Rattle.importer.specs.declared.Limits.the-variants as limits
-use Rattle.importer.specs.declared.UpperFound.{UpperFound}
-use Rattle.importer.specs.declared.UpperFound.the-variants as upper
+use Rattle.importer.specs.declared.EndFound.{EndFound}
+use Rattle.importer.specs.declared.EndFound.the-variants as end
+use Rattle.importer.specs.declared.Floor.{Floor}
 use Rattle.importer.specs.declared.Count.{Count}
 
 -- ---- a word that was awaited
@@ -68,22 +70,33 @@ pub record Finds (m : Reader Value) (text : List ℕ) (at : ℕ) (r : Found) : T
 
 -- ---- rows
 
-pub record Counts (w text : List ℕ) (at from limit : ℕ) (r : Count) : Type 0 where
-  pub is : countRows (kindLine w) limit from (drop at text) ≡ record { what = r .rows; rest = drop (r .at) text }
+pub record FindsFloor (i : ℕ) (text : List ℕ) (at : ℕ) (r : Floor) : Type 0 where
+  pub is : floorHere i (drop at text) ≡ record { what = r .has; rest = drop (r .at) text }
+  pub inside : r .at ≤ length text
+
+-- the rows of `<=` and `>=`: whether they have floors is what the list starts with
+pub record Lists (text : List ℕ) (at : ℕ) (r : Count) (floors : List Bool) : Type 0 where
+  pub is : lessRows 512 0 (drop at text) ≡ record { what = take (r .rows) floors; rest = drop (r .at) text }
+  pub few : r .rows ≤ 512
+  pub size : 512 ≤ length floors
+  pub inside : r .at ≤ length text
+
+pub record Counts (text : List ℕ) (at from limit : ℕ) (r : Count) : Type 0 where
+  pub is : equalRows limit from (drop at text) ≡ record { what = r .rows; rest = drop (r .at) text }
   pub few : r .rows ≤ limit
   pub inside : r .at ≤ length text
 
-abbrev pub kindsOf : List ℕ → RowsRead → Option (Read Kinds)
-kindsOf text (opened.At n less equal) = some (record { what = record { less = less; equal = equal }; rest = drop n text })
-kindsOf text opened.Nothing = none
+abbrev pub kindsOf : List ℕ → List Bool → RowsRead → Option (Read Kinds)
+kindsOf text floors (opened.At n less equal) = some (record { what = record { less = take less floors; equal = equal }; rest = drop n text })
+kindsOf text floors opened.Nothing = none
 
-abbrev pub OpeningInside : List ℕ → RowsRead → Type 0
-OpeningInside text (opened.At n less equal) = (n ≤ length text) × (less + equal ≤ 512)
-OpeningInside text opened.Nothing = Unit {0}
+abbrev pub OpeningInside : List ℕ → List Bool → RowsRead → Type 0
+OpeningInside text floors (opened.At n less equal) = (n ≤ length text) × (less + equal ≤ 512) × (512 ≤ length floors)
+OpeningInside text floors opened.Nothing = Unit {0}
 
-pub record Opens (text : List ℕ) (r : RowsRead) : Type 0 where
-  pub is : opening text ≡ kindsOf text r
-  pub inside : OpeningInside text r
+pub record Opens (text : List ℕ) (r : RowsRead) (floors : List Bool) : Type 0 where
+  pub is : opening text ≡ kindsOf text floors r
+  pub inside : OpeningInside text floors r
 
 -- ---- what is written of what is read: from position `at` on, at a place of the output
 
@@ -116,7 +129,7 @@ ColumnsAs m j text at out place (columns.To n p k) out′ = WalkedColumns m j te
 ColumnsAs m j text at out place columns.Nothing out′ = m (drop at text) ≡ none
 
 abbrev pub ColumnsInside : List ℕ → ℕ → ℕ → ColumnsRead → Type 0
-ColumnsInside text place limit (columns.To n p k) = (n ≤ length text) × (k ≤ limit) × (p ≤ place + 65664 * k)
+ColumnsInside text place limit (columns.To n p k) = (n ≤ length text) × (k ≤ limit) × (p ≤ place + 131328 * k)
 ColumnsInside text place limit columns.Nothing = Unit {0}
 
 -- from variable j on, at most so many
@@ -124,45 +137,47 @@ pub record WalksColumns (m : Reader (List Column)) (j limit : ℕ) (text : List 
   pub is : ColumnsAs m j text at out place r out′
   pub inside : ColumnsInside text place limit r
 
-pub record WalkedMatrix (rows : ℕ) (text : List ℕ) (at : ℕ) (out : List ℕ) (place n p d v : ℕ) (out′ : List ℕ) : Type 0 where
-  pub walked : Walked (readMatrix rows) matrixBytes text at out place n p out′
+pub record WalkedMatrix (bs : List Bool) (rows : ℕ) (text : List ℕ) (at : ℕ) (out : List ℕ) (place n p d v : ℕ) (out′ : List ℕ) : Type 0 where
+  pub walked : Walked (readMatrix bs rows) matrixBytes text at out place n p out′
   pub discrete : length (walked .what .discrete) ≡ d
   pub variables : length (walked .what .discrete) + length (walked .what .continuous) ≡ v
 
-abbrev pub MatrixAs : ℕ → List ℕ → ℕ → List ℕ → ℕ → MatrixRead → List ℕ → Type 0
-MatrixAs rows text at out place (matrix.To n p d v) out′ = WalkedMatrix rows text at out place n p d v out′
-MatrixAs rows text at out place matrix.Nothing out′ = readMatrix rows (drop at text) ≡ none
+abbrev pub MatrixAs : List Bool → ℕ → List ℕ → ℕ → List ℕ → ℕ → MatrixRead → List ℕ → Type 0
+MatrixAs bs rows text at out place (matrix.To n p d v) out′ = WalkedMatrix bs rows text at out place n p d v out′
+MatrixAs bs rows text at out place matrix.Nothing out′ = readMatrix bs rows (drop at text) ≡ none
 
 abbrev pub MatrixInside : List ℕ → MatrixRead → Type 0
 MatrixInside text (matrix.To n p d v) = (n ≤ length text) × (v ≤ 512)
 MatrixInside text matrix.Nothing = Unit {0}
 
-pub record WalksMatrix (rows : ℕ) (text : List ℕ) (at : ℕ) (out : List ℕ) (place : ℕ) (r : MatrixRead) (out′ : List ℕ) : Type 0 where
-  pub is : MatrixAs rows text at out place r out′
+pub record WalksMatrix (bs : List Bool) (rows : ℕ) (text : List ℕ) (at : ℕ) (out : List ℕ) (place : ℕ) (r : MatrixRead) (out′ : List ℕ) : Type 0 where
+  pub is : MatrixAs bs rows text at out place r out′
   pub inside : MatrixInside text r
 
 -- ---- bounds
 
 abbrev pub boundsOf : List ℕ → Limits → Option (Read Bounds)
-boundsOf text (limits.At l u n) = some (record { what = record { lower = l; upper = bound u }; rest = drop n text })
+boundsOf text (limits.At l u n) = some (record { what = record { lower = l; upper = endOf u }; rest = drop n text })
 boundsOf text limits.Nothing = none
 
 abbrev pub LimitsInside : List ℕ → Limits → Type 0
-LimitsInside text (limits.At l u n) = Valid l × ValidUpper (bound u) × (n ≤ length text)
+LimitsInside text (limits.At l u n) = Valid l × ValidIfAny (endOf u) × (n ≤ length text)
 LimitsInside text limits.Nothing = Unit {0}
 
 pub record FindsBounds (m : Reader Bounds) (text : List ℕ) (at : ℕ) (r : Limits) : Type 0 where
   pub is : m (drop at text) ≡ boundsOf text r
   pub inside : LimitsInside text r
 
-abbrev pub upperOf : List ℕ → UpperFound → Option (Read (Option Value))
-upperOf text (upper.At u n) = some (record { what = bound u; rest = drop n text })
-upperOf text upper.Nothing = none
+-- ---- an upper bound or a floor
 
-abbrev pub UpperInside : List ℕ → UpperFound → Type 0
-UpperInside text (upper.At u n) = ValidUpper (bound u) × (n ≤ length text)
-UpperInside text upper.Nothing = Unit {0}
+abbrev pub endIn : List ℕ → EndFound → Option (Read (Option Value))
+endIn text (end.At u n) = some (record { what = endOf u; rest = drop n text })
+endIn text end.Nothing = none
 
-pub record FindsUpper (j : ℕ) (text : List ℕ) (at : ℕ) (r : UpperFound) : Type 0 where
-  pub is : readUpper j (drop at text) ≡ upperOf text r
-  pub inside : UpperInside text r
+abbrev pub EndInside : List ℕ → EndFound → Type 0
+EndInside text (end.At u n) = ValidIfAny (endOf u) × (n ≤ length text)
+EndInside text end.Nothing = Unit {0}
+
+pub record FindsEnd (m : Reader (Option Value)) (text : List ℕ) (at : ℕ) (r : EndFound) : Type 0 where
+  pub is : m (drop at text) ≡ endIn text r
+  pub inside : EndInside text r

@@ -4,6 +4,8 @@ use mathlib.Core.Logic.{_⊎_, inl, inr}
 use mathlib.Core.Bool.{Bool, true, false, cond}
 use mathlib.Core.Option.{Option, none, some}
 use mathlib.Core.List.{List, [], _∷_}
+use Prim.Native.Nat.{ℕ}
+use lib.Dec.{eqb}
 use Rattle.value.specs.Number.{exactly}
 use Rattle.language.specs.Listed.{In}
 use Rattle.language.proofs.Listed.{in-nil, in-cons, in-here, in-later}
@@ -12,8 +14,26 @@ use Rattle.value.proofs.Rational.{⊑-trans, ⊑-refl}
 use Rattle.language.proofs.Outcome.{none-some, some-injective}
 use Rattle.value.specs.declared.Value.{Value}
 use Rattle.value.specs.Decimal.{zeroValue, isAtMost}
-use Rattle.language.specs.Numbering.{Entry, picked, extreme, isAtLeast, largest, smallest}
+use Rattle.language.specs.Numbering.{Fact, bound, row, Entry, boundAt, floorFor, picked, extreme, isAtLeast, largest, smallest}
 use Rattle.value.proofs.Numbers.{isAtMost-yes, isAtMost-no}
+
+-- ---- a floor on a bare variable stands where its bound stands
+
+pub floor-bound : (f : Fact) (w : Option Value) (j : ℕ) (u : Value) → floorFor f w j ≡ some u → (t : Value) × (boundAt f j ≡ some t) × (w ≡ some u)
+floor-bound (bound i v) w j u e = go (eqb i j) e
+  where
+    go : (t : Bool) → cond t w none ≡ some u → (b : Value) × (cond t (some v) none ≡ some b) × (w ≡ some u)
+    go true e = (v, refl, e)
+    go false e = absurd (none-some e)
+floor-bound (row r v) w j u e = absurd (none-some e)
+
+pub bound-floor : (f : Fact) (w : Option Value) (j : ℕ) (t : Value) → boundAt f j ≡ some t → floorFor f w j ≡ w
+bound-floor (bound i v) w j t e = go (eqb i j) e
+  where
+    go : (b : Bool) → cond b (some v) none ≡ some t → cond b w none ≡ w
+    go true e = refl
+    go false e = absurd (none-some e)
+bound-floor (row r v) w j t e = absurd (none-some e)
 
 -- ---- the stated values
 

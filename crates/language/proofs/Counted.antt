@@ -10,9 +10,10 @@ use lib.ListN.{length, length-append}
 use Rattle.rules.specs.declared.Refusal.the-variants.{LongText, Full}
 use Rattle.rules.specs.Limits.{byteLimit, tokenLimit}
 use Rattle.lexer.specs.Text.{Token, mark, wrong, uncounted, counted, tokensFrom, tokens}
-use Rattle.language.specs.Syntax.{Name, Relation, atMost, atLeast, equal, Structure}
+use Rattle.language.specs.Syntax.{Name, Relation, Structure}
 use Rattle.language.specs.Phrases
-use Rattle.language.specs.Phrases.{relationSign, goalWord, Phrase, Writes, oneTerm, plusTerm, minusTerm, addition, difference, onePrimary, product, integer, real, declared, sumOver, nested, runOver, unsubscripted, inBrackets, lastFormula, oneFormula, between, lastEntry, oneEntry, inParentheses, noDomain, aDomain, unsigned, signed, noTerm, plusNext, minusNext, multiple, aVariable, aSigma, discrete, continuous, sigmaOver, innerSigma, innerForm, oneConstraint, alone, withSign, withFactor, withSigma, withSecond, lastConstraint, moreConstraints, noSubscripts, withDomain, lastIndex, oneIndex, indexSort, integerSort, realSort, formulaSort, discreteSort, continuousSort, WritesList, lastName, oneName, WritesOptionalList, noList, aList, WritesDeclarations, sixLists, WritesStructure, wholeModel}
+use Rattle.language.specs.Phrases.{relationSign, goalWord, Phrase, Writes, oneTerm, plusTerm, minusTerm, addition, difference, onePrimary, product, integer, real, declared, sumOver, nested, runOver, unsubscripted, inBrackets, lastFormula, oneFormula, between, lastEntry, oneEntry, inParentheses, noDomain, aDomain, unsigned, signed, noTerm, plusNext, minusNext, multiple, aVariable, aSigma, discrete, continuous, sigmaOver, innerSigma, innerForm, oneConstraint, noFloor, aFloor, alone, withSign, withFactor, withSigma, withSecond, lastConstraint, moreConstraints, noSubscripts, withDomain, lastIndex, oneIndex, indexSort, integerSort, realSort, formulaSort, discreteSort, continuousSort, WritesList, lastName, oneName, WritesOptionalList, noList, aList, WritesDeclarations, sixLists, WritesStructure, wholeModel}
+use Rattle.language.proofs.Relations.{by-sign}
 
 -- how many tokens count
 unfoldable pub live : List Token → ℕ
@@ -63,9 +64,7 @@ join {l} {k} c d = record { passed = λ ts. rw (append-assoc l k ts, length-appe
 
 relation-counts : (r : Relation) → uncounted (mark (relationSign r)) ≡ false
 unfolding uncounted
-relation-counts atMost = refl
-relation-counts atLeast = refl
-relation-counts equal = refl
+relation-counts = by-sign (λ c. uncounted (mark c) ≡ false) refl refl refl
 
 pub phrase-counts : {names : List Name} {x : Phrase} {l : List Token} → Writes names x l → Counted l
 unfolding uncounted
@@ -107,7 +106,9 @@ phrase-counts (continuous p m w) = cons refl (phrase-counts w)
 phrase-counts (sigmaOver p q v w) = cons refl (join (phrase-counts v) (join (phrase-counts w) (cons refl nil)))
 phrase-counts (innerSigma w) = phrase-counts w
 phrase-counts (innerForm w) = phrase-counts w
-phrase-counts (oneConstraint p q r u v w) = cons refl (join (phrase-counts u) (cons (relation-counts r) (join (phrase-counts v) (phrase-counts w))))
+phrase-counts (oneConstraint p q r u v w x) = cons refl (join (phrase-counts u) (cons (relation-counts r) (join (phrase-counts v) (join (phrase-counts w) (phrase-counts x)))))
+phrase-counts (noFloor h) = nil
+phrase-counts (aFloor p q w) = cons refl (cons refl (phrase-counts w))
 phrase-counts (alone w) = phrase-counts w
 phrase-counts (withSign w) = phrase-counts w
 phrase-counts (withFactor w) = phrase-counts w

@@ -1,5 +1,5 @@
--- In a model from which a problem is generated every written value is defined: the objective, both sides of each constraint at
--- each written element, and the limits of every domain.
+-- In a model from which a problem is generated every written value is defined: the objective, both sides and the floor of each
+-- constraint at each written element, and the limits of every domain.
 use mathlib.Core.Path.{_≡_, refl, ap, subst}
 use mathlib.Core.Bool.{not}
 use mathlib.Core.Logic.{_⊎_, inl, inr}
@@ -23,12 +23,12 @@ use Rattle.language.specs.Syntax
 use Rattle.language.specs.Evaluation.{over, isNone}
 use Rattle.language.specs.Store.{isGiven, givenBy, allGiven}
 use Rattle.language.specs.Model.{Model, start, Declaration, asDiscrete, asContinuous, declared, discretes, continuouses}
-use Rattle.language.specs.Numbering.{Variable, addVariable, addVariables, gathered, factOf, Source, Entry, addEntry, addEntries, Lp, generate}
+use Rattle.language.specs.Numbering.{Variable, addVariable, addVariables, gathered, factOf, floorAt, Source, Entry, addEntry, addEntries, Lp, generate}
 use Rattle.language.specs.Written.{InDomain, bindAll, Written, Declared, scopeAt}
 use Rattle.language.specs.Named.{NamedDomain, NamedSort, NamedEntry, NamedConstraint, NamedStructure}
-use Rattle.language.specs.Defined.{Has, Defined, DefinedDomain, DefinedSide, DefinedSort, DefinedModel}
+use Rattle.language.specs.Defined.{Has, Defined, DefinedDomain, DefinedSide, DefinedSort, DefinedFloor, DefinedModel}
 use Rattle.language.proofs.Numbered.{variables-made, variable-numbers}
-use Rattle.language.proofs.Defined.{over-defined, over-at, gathered-defined, fact-defined}
+use Rattle.language.proofs.Defined.{over-defined, over-at, gathered-defined, fact-defined, floor-defined}
 use Rattle.language.proofs.EachNumbered.{declared-in}
 
 -- ---- data: each element of a declared domain has a value
@@ -117,8 +117,9 @@ module _ (m : Model) (vs : List Variable) (fs : List Entry) (taken : addEntries 
       let o = addEntries-at vs (start m) 0 (m .structure .constraints) [] fs taken c n in
       over-defined (m .structure .names) (c .domain) (start m) (addEntry vs (o .0) c) (o .1) (o .2) (all-in (NamedConstraint (m .structure .names)) (m .structure .constraints) c n named .domain) (o .3)
 
+  -- both sides, and the floor
   sides-defined : (P : Variable → Type 0) → ((j : ℕ) (v : Variable) → At vs j v → P v) → (o : Source) → Written m o
-      → DefinedSide P (o .constraint .left) (scopeAt m o) × Defined (o .constraint .right) (scopeAt m o)
+      → DefinedSide P (o .constraint .left) (scopeAt m o) × Defined (o .constraint .right) (scopeAt m o) × DefinedFloor (o .constraint .relation) (scopeAt m o)
   unfolding scopeAt addEntry
   sides-defined P numbered o w =
       let c = o .constraint in
@@ -126,8 +127,11 @@ module _ (m : Model) (vs : List Variable) (fs : List Entry) (taken : addEntries 
       let h = all-in (NamedConstraint (m .structure .names)) (m .structure .constraints) c n named in
       let t = addEntries-at vs (start m) 0 (m .structure .constraints) [] fs taken c n in
       let x = over-at (c .domain) (start m) (addEntry vs (t .0) c) (t .1) (t .2) (t .3) (o .element) (w .inside) in
-      after (factOf vs (c .left) (c .relation) (c .right) (bindAll (c .domain) (o .element) (start m))) _ (x .1) (x .2) λ f cf _.
-      fact-defined (m .structure .names) vs P numbered (c .left) (c .relation) (c .right) _ f (h .left) (h .right) cf
+      let s = bindAll (c .domain) (o .element) (start m) in
+      after (factOf vs (c .left) (c .relation) (c .right) s) _ (x .1) (x .2) λ f cf e.
+      after (floorAt (c .relation) s) _ (x .1) e λ v cv _.
+      let d = fact-defined (m .structure .names) vs P numbered (c .left) (c .relation) (c .right) s f (h .left) (h .right) cf in
+      (d .0, d .1, floor-defined (m .structure .names) (c .relation) s v (h .floor) cv)
 
 -- ---- names
 
@@ -175,4 +179,5 @@ defined m p named e =
       domains = domain-defined m vs es taken (named .constraints);
       left = λ o w. sides-defined m vs es taken (named .constraints) (Declared m) numbered o w .0;
       right = λ o w. sides-defined m vs es taken (named .constraints) (Declared m) numbered o w .1;
+      floor = λ o w. sides-defined m vs es taken (named .constraints) (Declared m) numbered o w .2;
     }

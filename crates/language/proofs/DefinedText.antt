@@ -19,4 +19,6 @@ model-named text m e =
     subst NamedStructure (r .structure-is) (structure-named (structure-written text (r .first) (r .structure-done) .writes))
 
 pub accepted-defined : (text : List ℕ) (a : Accepted) → accepted text ≡ done a → DefinedModel (a .model)
-accepted-defined text a e = let r = accepted-of text a e in defined (a .model) (a .problem) (model-named text (a .model) (r .0)) (r .1)
+accepted-defined text a e =
+    let r = accepted-of text a e in
+    defined (a .model) (a .problem) (model-named text (a .model) (r .0)) (r .1)

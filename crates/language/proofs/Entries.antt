@@ -1,7 +1,8 @@
 -- What the declarations and constraints become: variables and entries, each from its written element, with their values.
 use mathlib.Core.Path.{_≡_, refl, sym, _∙_, ap, subst}
 use mathlib.Core.Logic.{_↔_, _⊎_, inl, inr}
-use mathlib.Core.Bool.{Bool, true, false}
+use mathlib.Core.Bool.{Bool, true, false, cond}
+use mathlib.Core.Option.{Option, none, some}
 use mathlib.Core.List.{List, [], _∷_, _++_, map, append-assoc, append-nil}
 use Prim.Native.Nat.{ℕ, zero, suc, _+_, _<_}
 use native.Mathlib.Omega.{arith}
@@ -11,7 +12,7 @@ use lib.IntN.{ℤ}
 use Rattle.value.specs.Number.{exactly}
 use Rattle.language.specs.Listed.{At, In}
 use Rattle.language.proofs.Listed.{in-nil, in-cons, in-here, in-later}
-use Rattle.value.specs.Rational.{ℚ, 𝟎, neg}
+use Rattle.value.specs.Rational.{ℚ, 𝟎, neg, _⊑_}
 use Rattle.value.proofs.Rational.{neg-mono, neg-neg, neg-add, neg-mul, neg-zero}
 use Rattle.rules.specs.declared.Refusal.the-variants.{Full, Outside}
 use Rattle.language.specs.Outcome.{Outcome, done, _>>=_}
@@ -19,12 +20,14 @@ use Rattle.language.proofs.Outcome.{after, after-check, some-of, done-i
 use Rattle.rules.specs.Limits.{variableLimit}
 use Rattle.value.specs.declared.Value.{Value}
 use Rattle.language.specs.Scope.{Scope, unbound}
-use Rattle.language.specs.Syntax.{Formula, Formulas, Spans, Form, Constraint, Relation, atMost, atLeast, equal, bare, form}
+use Rattle.language.specs.Syntax.{Formula, Formulas, Spans, Form, Constraint, Relation, atMost, atLeast, equal, between, bare, form}
 use Rattle.language.specs.Evaluation.{eval, evalAll, within, over}
 use Rattle.language.specs.Written.{value, subscripts, formValue, negatedIf, Written, scopeAt}
 use Rattle.language.specs.Model.{Model, start, Declaration}
-use Rattle.language.specs.Numbering.{Variable, addVariable, addVariables, numberOf, variableAt, Row, signed, gathered, Source, Entry, Fact, bound, row, flips, isEqual, factOf, rowCount, addEntry, addEntries}
-use Rattle.language.specs.Demand3.{Holds, RowMet, Rising}
+use Rattle.language.specs.Numbering.{Variable, addVariable, addVariables, numberOf, variableAt, Row, signed, gathered, Source, Entry, Fact, bound, row, flips, isEqual, factOf, floorAt, rowCount, addEntry, addEntries}
+use Rattle.language.specs.Listing.{kindOf, kindBy}
+use Rattle.language.specs.Listing as Listing
+use Rattle.language.specs.Demand3.{Holds, RowMet, FloorIs, Rising}
 use Rattle.value.proofs.Numbers.{exactly-negate}
 use Rattle.language.proofs.Evaluated.{eval-done, evalAll-done}
 use Rattle.language.proofs.Gathered.{dot, numberOf-at, gathered-done, gathered-long}
@@ -54,12 +57,42 @@ unfolding negatedIf
 dot-signed true r xs = dot-neg r xs
 dot-signed false r xs = ap (λ l. dot l xs) (map-same r)
 
--- a row is met exactly when the written constraint holds
-pub met : (r : Relation) (p q : ℚ) → RowMet (isEqual r) (negatedIf (flips r) p) (negatedIf (flips r) q) ↔ Holds r p q
+-- ---- floors
+
+-- a floor that is read is the written one
+pub floor-done : (r : Relation) (s : Scope) (w : Option Value) → floorAt r s ≡ done w → FloorIs r s w
+unfolding floorAt
+floor-done atMost s w e = sym (done-injective e)
+floor-done atLeast s w e = sym (done-injective e)
+floor-done equal s w e = sym (done-injective e)
+floor-done (between h) s w e = after (eval h s) _ w e λ v hv e. (v, sym (done-injective e), sym (eval-done h s v hv))
+
+-- a row's kind, by its floor
+pub floor-kind : (r : Relation) (s : Scope) (w : Option Value) → FloorIs r s w → kindOf r ≡ cond (isEqual r) Listing.equal (kindBy w)
+floor-kind atMost s w h = ap kindBy (sym h)
+floor-kind atLeast s w h = ap kindBy (sym h)
+floor-kind equal s w h = refl
+floor-kind (between f) s w h = ap kindBy (sym (h .1))
+
+-- a row's value is not below its floor, if it has one
+abbrev pub AboveFloor : Option Value → ℚ → Type 0
+AboveFloor none p = Unit
+AboveFloor (some v) p = exactly v ⊑ p
+
+no-floor : (w : Option Value) (p : ℚ) → w ≡ none → AboveFloor w p
+no-floor w p e = subst (λ w. AboveFloor w p) (sym e) tt
+
+-- a row and its floor are met exactly when the written constraint holds
+pub met : (r : Relation) (s : Scope) (w : Option Value) (p q : ℚ) → FloorIs r s w
+    → (RowMet (kindOf r) (negatedIf (flips r) p) (negatedIf (flips r) q) × AboveFloor w (negatedIf (flips r) p)) ↔ Holds r s p q
 unfolding negatedIf
-met atMost p q = (λ h. h, λ h. h)
-met atLeast p q = (λ h. rw (neg-neg p, neg-neg q) at (neg-mono h), λ h. neg-mono h)
-met equal p q = (λ h. h, λ h. h)
+met atMost s w p q f = (λ h. h .0, λ h. (h, no-floor w p f))
+met atLeast s w p q f = (λ h. rw (neg-neg p, neg-neg q) at (neg-mono (h .0)), λ h. (neg-mono h, no-floor w (neg p) f))
+met equal s w p q f = (λ h. h .0, λ h. (h, no-floor w p f))
+met (between g) s w p q (v, is, same) = (
+  λ h. (h .0, subst (λ z. z ⊑ p) same (subst (λ w. AboveFloor w p) is (h .1))),
+  λ h. (h .0, subst (λ w. AboveFloor w p) (sym is) (subst (λ z. z ⊑ p) (sym same) (h .1))),
+)
 
 -- ---- one fact
 
@@ -132,22 +165,30 @@ unfoldable pub placed : ℕ → List Constraint → List Placed
 placed n [] = []
 placed n (c ∷ cs) = record { ordinal = n; constraint = c } ∷ placed (suc n) cs
 
+abbrev entryWith : Source → Fact → Option Value → Entry
+entryWith o f w = record { source = o; fact = f; floor = w }
+
+abbrev sourceAt : Placed → List ℤ → Source
+sourceAt c e = record { ordinal = c .ordinal; constraint = c .constraint; element = e }
+
 unfoldable pub entryFor : List Variable → Placed → Scope → List ℤ → Outcome (List Entry)
 entryFor vs c s e = do
   f ← factOf vs (c .constraint .left) (c .constraint .relation) (c .constraint .right) s
-  done (record { source = record { ordinal = c .ordinal; constraint = c .constraint; element = e }; fact = f } ∷ [])
+  w ← floorAt (c .constraint .relation) s
+  done (entryWith (sourceAt c e) f w ∷ [])
 
 entryFor-done : (vs : List Variable) (c : Placed) (s : Scope) (e : List ℤ) (l : List Entry) → entryFor vs c s e ≡ done l
-    → (f : Fact) × (factOf vs (c .constraint .left) (c .constraint .relation) (c .constraint .right) s ≡ done f)
-    × (record { source = record { ordinal = c .ordinal; constraint = c .constraint; element = e }; fact = f } ∷ [] ≡ l)
+    → (f : Fact) × (w : Option Value) × (factOf vs (c .constraint .left) (c .constraint .relation) (c .constraint .right) s ≡ done f)
+    × (floorAt (c .constraint .relation) s ≡ done w) × (entryWith (sourceAt c e) f w ∷ [] ≡ l)
 unfolding entryFor
 entryFor-done vs c s e l h =
-    after (factOf vs (c .constraint .left) (c .constraint .relation) (c .constraint .right) s) _ l h λ f made one.
-    (f, made, done-injective one)
+    after (factOf vs (c .constraint .left) (c .constraint .relation) (c .constraint .right) s) _ l h λ f made h.
+    after (floorAt (c .constraint .relation) s) _ l h λ w floored one.
+    (f, w, made, floored, done-injective one)
 
 pub entry-one : (vs : List Variable) (c : Placed) (t : Scope) (e : List ℤ) (l : List Entry) → entryFor vs c t e ≡ done l
     → (x : Entry) × (x ∷ [] ≡ l) × (c .ordinal ≡ x .source .ordinal) × (e ≡ x .source .element)
-entry-one vs c t e l h = let a = entryFor-done vs c t e l h in (_, a .2, refl, refl)
+entry-one vs c t e l h = let a = entryFor-done vs c t e l h in (_, a .4, refl, refl)
 
 abbrev pub entries : List Variable → Walk Placed Entry
 entries vs =
@@ -184,8 +225,9 @@ entry-grown : (vs : List Variable) (n : ℕ) (c : Constraint) (t : Scope) (e : L
 unfolding addEntry entryFor
 entry-grown vs n c t e a b h =
     after (factOf vs (c .left) (c .relation) (c .right) t) _ b h λ f fd h.
+    after (floorAt (c .relation) t) _ b h λ w wd h.
     after (rowCount f (c .place) a) _ b h λ _ _ h.
-    record { new = record { source = record { ordinal = n; constraint = c; element = e }; fact = f } ∷ []; gives = rw fd refl; appended = done-injective h }
+    record { new = record { source = record { ordinal = n; constraint = c; element = e }; fact = f; floor = w } ∷ []; gives = rw (fd, wd) refl; appended = done-injective h }
 
 pub entries-grown : (vs : List Variable) (s : Scope) (n : ℕ) (cs : List Constraint) (a b : List Entry) → addEntries vs s n cs a ≡ done b
     → Grown (walk (entries vs) s (placed n cs)) a b
@@ -235,6 +277,7 @@ module _ (m : Model) (vs : List Variable) where
   pub record Made (e : Entry) : Type 0 where
     pub written : Written m (e .source)
     pub made : madeOf (e .source) ≡ done (e .fact)
+    pub floor : floorAt (e .source .constraint .relation) (scopeAt m (e .source)) ≡ done (e .floor)
 
   is-placed : (o : Source) → Written m o → In (placed 0 (m .structure .constraints)) (record { ordinal = o .ordinal; constraint = o .constraint })
   is-placed o w =
@@ -251,13 +294,14 @@ module _ (m : Model) (vs : List Variable) where
         let a = entryFor-done vs c _ (e .source .element) (e ∷ []) (w .gives) in
         let q = placed-in 0 (m .structure .constraints) c (w .listed) in
         let same : q .0 ≡ c .ordinal = omega (arith, q .1) in
-        subst Made (only _ e (e ∷ []) (a .2) (in-here e []))
-        (record { written = record { listed = subst (λ i. At (m .structure .constraints) i (c .constraint)) same (q .2); inside = w .inside }; made = a .1 })
+        subst Made (only _ e (e ∷ []) (a .4) (in-here e []))
+        (record { written = record { listed = subst (λ i. At (m .structure .constraints) i (c .constraint)) same (q .2); inside = w .inside }; made = a .2; floor = a .3 })
 
-    pub made-entry : (o : Source) → Written m o → (f : Fact) × (madeOf o ≡ done f) × In es (record { source = o; fact = f })
+    pub made-entry : (o : Source) → Written m o
+        → (f : Fact) × (w : Option Value) × Made (record { source = o; fact = f; floor = w }) × In es (record { source = o; fact = f; floor = w })
     unfolding scopeAt
     made-entry o w =
         let c : Placed = record { ordinal = o .ordinal; constraint = o .constraint } in
         let r = in-walk (entries vs) (start m) (placed 0 (m .structure .constraints)) es generated c (is-placed o w) (o .element) (w .inside) in
         let a = entryFor-done vs c _ (o .element) (r .0 ∷ []) (r .1) in
-        (a .0, a .1, subst (In es) (sym (only _ (r .0) (r .0 ∷ []) (a .2) (in-here (r .0) []))) (r .2))
+        (a .0, a .1, record { written = w; made = a .2; floor = a .3 }, subst (In es) (sym (only _ (r .0) (r .0 ∷ []) (a .4) (in-here (r .0) []))) (r .2))

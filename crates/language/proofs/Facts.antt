@@ -82,7 +82,7 @@ module _ (P : Value → Type 0) where
   -- ---- titles of constraints
 
   title-fine : {names : List Name} {c : Constraint} {l : List Token} → Writes names (constraint c) l → AllShaped P l → Printable (c .title)
-  title-fine (oneConstraint p q r u v w) a = a .0
+  title-fine (oneConstraint p q r u v w x) a = a .0
 
   titles-fine : {names : List Name} {cs : List Constraint} {l : List Token} → Writes names (constraints cs) l → AllShaped P l → All (λ c. Printable (c .title)) cs
   titles-fine (lastConstraint w) a = (title-fine w a, tt)
@@ -100,7 +100,7 @@ RisingPlaces p (c ∷ cs) = (p ≤ c .place) × RisingPlaces (suc (c .place)) cs
 
 -- a constraint begins at its place
 begins : {names : List Name} {c : Constraint} {l : List Token} (k : List Token) (p : ℕ) → Writes names (constraint c) l → Rising p (l ++ k) → (p ≤ c .place) × Rising (suc (c .place)) k
-begins k p (oneConstraint {a = a} {b = b} {c = c} q r s u v w) h = (h .0, rising-behind (suc q) (a ++ (_ ∷ b ++ c)) k (h .1))
+begins k p (oneConstraint {a = a} {b = b} {c = c} {e = e} q r s u v w x) h = (h .0, rising-behind (suc q) (a ++ (_ ∷ b ++ (c ++ e))) k (h .1))
 
 places-rise : {names : List Name} {cs : List Constraint} {l : List Token} (p : ℕ) → Writes names (constraints cs) l → Rising p l → RisingPlaces p cs
 places-rise p (lastConstraint {l = l} w) h = (begins [] p w (rw append-nil h) .0, tt)

@@ -1,22 +1,27 @@
--- Numbers and values as they are printed: which bytes they have, and that printing tells them apart.
-use mathlib.Core.Path.{_≡_, refl, sym, _∙_, ap, subst}
+-- Numbers and values as they are printed: which bytes they have, and that they can be read back.
+use mathlib.Core.Path.{_≡_, refl, sym, _∙_, ap}
+use mathlib.Core.Bool.{cond}
 use mathlib.Core.Option.{Option, none, some}
-use mathlib.Core.List.{List, [], _∷_, map, append-nil, head-eq-of-cons-eq, tail-eq-of-cons-eq}
+use mathlib.Core.List.{List, [], _∷_, map, append-nil}
 use Prim.Native.Nat.{ℕ, zero, suc, _/_, _^_, _<_, _≤_}
 use native.Mathlib.Omega.{arith}
-use lib.ListN.{length}
+use lib.Dec.{eqb, leb}
+use lib.ListN.{length, getD}
 use lib.IntN.{ℤ, pos, negsuc, natAbs}
+use borrow.Author.Tests.{le-leb}
+use Rattle.rules.specs.Characters.{code}
 use Rattle.rules.specs.Limits.{mantissaLimit}
 use Rattle.value.specs.declared.Value.{Value}
-use Rattle.value.specs.declared.Fit.the-variants.{Fits}
-use Rattle.value.specs.Decimal.{Valid, ofWhole}
+use Rattle.value.specs.declared.Fit.{Fit}
+use Rattle.value.specs.declared.Fit.the-variants.{Fits, TooBig}
+use Rattle.value.specs.Decimal.{Valid, zeroValue, ofWhole}
 use Rattle.value.proofs.Operations.{ofWhole-valid}
 use Rattle.value.specs.Printed.{digits, natural, minusSign, places, printed, printedWhole}
-use Rattle.value.proofs.ReadBack.{readBack, read-empty, read-back, printed-unique}
-use Rattle.language.specs.Listing.{upperField}
+use Rattle.value.proofs.ReadBack.{readBack, read-empty, read-back}
+use Rattle.language.specs.Listing.{Kind, less, equal, range, upperField, kindField}
 use Rattle.language.specs.All.{All}
-use Rattle.language.proofs.All.{all-append, all-weaken}
-use Rattle.language.specs.Valid.{Small, SmallElement, ValidUpper}
+use Rattle.language.proofs.All.{all-append, all-getD, all-weaken}
+use Rattle.language.specs.Valid.{Small, SmallElement, ValidIfAny}
 use Rattle.language.specs.Proper.{Visible, Text}
 
 -- ---- the bytes
@@ -64,11 +69,6 @@ pub whole-text : (k : ℤ) → Text (printedWhole k)
 unfolding printedWhole
 whole-text k = printed-text (ofWhole k)
 
--- `inf` is no printed value
-inf-none : (v : Value) → upperField none ≡ printed v → ⊥
-unfolding upperField
-inf-none v e = let f : All Figure (upperField none) = subst (All Figure) (sym e) (printed-figures v) in omega (arith, f .0 .most)
-
 pub upper-text : (u : Option Value) → Text (upperField u)
 unfolding upperField
 upper-text none = omega arith
@@ -82,32 +82,69 @@ printed-some v h = go (printed v) (read-back v h)
     go [] e = absurd (let q = read-empty in let z : _≡_ {A = ℕ} 0 1 = cc in omega arith)
     go (b ∷ s) e = omega arith
 
--- ---- told apart
+-- ---- read back
 
-pub whole-once : (j k : ℤ) → Small j → Small k → printedWhole j ≡ printedWhole k → j ≡ k
-unfolding printedWhole ofWhole
-whole-once j k hj hk e = ap (λ v. v .m) (printed-unique (ofWhole j) (ofWhole k) (ofWhole-valid j hj) (ofWhole-valid k hk) e)
+abbrev fitted : Fit → Value
+fitted (Fits v) = v
+fitted TooBig = zeroValue
+
+unfoldable pub readValue : List ℕ → Value
+readValue s = fitted (readBack s)
+
+pub value-back : (v : Value) → Valid v → readValue (printed v) ≡ v
+unfolding readValue
+value-back v h = ap fitted (read-back v h)
+
+unfoldable pub readWhole : List ℕ → ℤ
+readWhole s = readValue s .m
+
+pub whole-back : (k : ℤ) → Small k → readWhole (printedWhole k) ≡ k
+unfolding readWhole printedWhole ofWhole
+whole-back k h = ap (λ v. v .m) (value-back (ofWhole k) (ofWhole-valid k h))
+
+pub wholes-back : (e : List ℤ) → SmallElement e → map readWhole (map printedWhole e) ≡ e
+wholes-back [] h = refl
+wholes-back (k ∷ e) h = λ i. whole-back k (h .0) i ∷ wholes-back e (h .1) i
 
 -- a natural number is printed as the whole number that it is
 pub natural-whole : (n : ℕ) → printedWhole (pos n) ≡ natural n
 unfolding printedWhole ofWhole printed minusSign places
 natural-whole n = append-nil (natural (n / 10 ^ 0)) ∙ ap natural (omega arith)
 
+unfoldable pub readNatural : List ℕ → ℕ
+readNatural s = natAbs (readWhole s)
+
+pub natural-back : (n : ℕ) → n ≤ mantissaLimit → readNatural (natural n) ≡ n
+unfolding readNatural
+natural-back n h = ap readNatural (sym (natural-whole n)) ∙ ap natAbs (whole-back (pos n) h)
+
 pub natural-once : (m n : ℕ) → m ≤ mantissaLimit → n ≤ mantissaLimit → natural m ≡ natural n → m ≡ n
-natural-once m n hm hn e = ap natAbs (whole-once (pos m) (pos n) hm hn (natural-whole m ∙ e ∙ sym (natural-whole n)))
+natural-once m n hm hn e = sym (natural-back m hm) ∙ ap readNatural e ∙ natural-back n hn
 
-pub wholes-once : (d e : List ℤ) → SmallElement d → SmallElement e → map printedWhole d ≡ map printedWhole e → d ≡ e
-wholes-once [] [] hd he p = refl
-wholes-once [] (k ∷ e) hd he p = absurd (let z : _≡_ {A = ℕ} 0 1 = cc in omega arith)
-wholes-once (j ∷ d) [] hd he p = absurd (let z : _≡_ {A = ℕ} 0 1 = cc in omega arith)
-wholes-once (j ∷ d) (k ∷ e) hd he p =
-    let a = whole-once j k (hd .0) (he .0) (head-eq-of-cons-eq p) in
-    let b = wholes-once d e (hd .1) (he .1) (tail-eq-of-cons-eq p) in
-    λ i. a i ∷ b i
+-- a printed value begins with no letter, `inf` with one
+unfoldable pub readUpper : List ℕ → Option Value
+readUpper s = cond (leb (getD s 0 0) 57) (some (readValue s)) none
 
-pub upper-once : (u w : Option Value) → ValidUpper u → ValidUpper w → upperField u ≡ upperField w → u ≡ w
-unfolding upperField
-upper-once none none hu hw e = refl
-upper-once none (some w) hu hw e = absurd (inf-none w e)
-upper-once (some v) none hu hw e = absurd (inf-none v (sym e))
-upper-once (some v) (some w) hu hw e = ap {B = Option Value} some (printed-unique v w hu hw e)
+pub upper-back : (u : Option Value) → ValidIfAny u → readUpper (upperField u) ≡ u
+unfolding readUpper upperField
+upper-back none h = refl
+upper-back (some v) h =
+    let first : getD (printed v) 0 0 ≤ 57 = all-getD (λ b. b ≤ 57) (printed v) 0 0 (all-weaken Figure (λ b. b ≤ 57) (λ b f. f .most) (printed v) (printed-figures v)) (omega arith) in
+    ap {B = Option Value} (λ t. cond t (some (readValue (printed v))) none) (le-leb (getD (printed v) 0 0) 57 first) ∙ ap {B = Option Value} some (value-back v h)
+
+-- ---- letters
+
+pub kind-text : (q : Kind) → Text (kindField q)
+unfolding kindField
+kind-text less = omega arith
+kind-text equal = omega arith
+kind-text range = omega arith
+
+unfoldable pub readKind : List ℕ → Kind
+readKind s = cond (eqb (getD s 0 0) (code "L")) less (cond (eqb (getD s 0 0) (code "E")) equal range)
+
+pub kind-back : (q : Kind) → readKind (kindField q) ≡ q
+unfolding readKind kindField
+kind-back less = refl
+kind-back equal = refl
+kind-back range = refl

@@ -16,21 +16,21 @@ use Rattle.language.specs.Outcome.{done}
 use Rattle.language.proofs.Outcome.{after, done-injective}
 use Rattle.value.specs.declared.Value.{Value}
 use Rattle.language.specs.Scope.{Scope}
-use Rattle.language.specs.Syntax.{Formula, Name, Relation, atMost, atLeast, equal, Side, bare, form}
-use Rattle.language.specs.Written.{value, subscripts, negatedIf, Written, Declared, scopeAt}
+use Rattle.language.specs.Syntax.{Formula, Name, Relation, atMost, atLeast, equal, between, Side, bare, form}
+use Rattle.language.specs.Written.{value, subscripts, negatedIf, Declared, scopeAt}
 use Rattle.language.specs.Model.{Model, start, discretes, continuouses}
 use Rattle.language.specs.Store.{allGiven}
-use Rattle.language.specs.Numbering.{Variable, Row, signed, gathered, addVariables, addEntries, Source, Entry, Fact, flips, isEqual, factOf, lowerOf, upperOf, Lp, lessRows, equalRows, rows, generate}
-use Rattle.language.specs.Listing.{Line, rowLine, varLine, rightOf, coefficientsOf, linesOf}
-use Rattle.language.specs.Demand3.{Holds, RowMet, States, Lower, Upper, Names, sideValue, leftValue, rightValue, rowValue, BelowUpper, Feasible, byNumber, RowLine, VariableLine, IsLower, IsUpper, Meets, Keeps, OneToOne, IsForm}
+use Rattle.language.specs.Numbering.{Variable, Row, signed, gathered, addVariables, addEntries, Source, Entry, Fact, flips, factOf, lowerOf, upperOf, Lp, lessRows, equalRows, rows, generate}
+use Rattle.language.specs.Listing.{Kind, Line, rowLine, lowLine, varLine, rightOf, coefficientsOf, kindOf, linesOf}
+use Rattle.language.specs.Demand3.{Holds, RowMet, States, Lower, Upper, Names, sideValue, leftValue, rightValue, lowerBy, lowerValue, rowValue, BelowUpper, Feasible, byNumber, RowLine, LowLine, VariableLine, IsLower, IsUpper, FloorIs, Meets, Keeps, OneToOne, IsForm}
 use Rattle.value.proofs.Numbers.{exactly-zero}
 use Rattle.language.proofs.Gathered.{dot, gathered-done, gathered-long}
 use Rattle.language.proofs.Elements.{walk}
-use Rattle.language.proofs.Entries.{dot-signed, met, of-form, entries, placed, entries-grown, Made, entry-made, made-entry}
+use Rattle.language.proofs.Entries.{dot-signed, floor-done, AboveFloor, met, of-form, entries, placed, entries-grown, Made, entry-made, made-entry}
 use Rattle.language.proofs.Numbered.{Variables, variables-made, rowsOf, in-table, variable-numbers, variable-order, discrete-first, row-numbers, row-order, less-first, in-rows, rows-in, row-form, form-row}
 use Rattle.language.proofs.Stated.{names-bound, lower-bound, upper-bound}
 use Rattle.language.proofs.Summed.{by-number, row-lines, objective-lines}
-use Rattle.language.proofs.Lines.{every-line, in-order, lp-line, end-line, row-line, var-line, variable-line, objective-line}
+use Rattle.language.proofs.Lines.{every-line, in-order, lp-line, end-line, row-line, low-line, var-line, variable-line, objective-line}
 
 -- ---- one constraint at one element
 
@@ -43,12 +43,18 @@ module _ (vs : List Variable) (x : Variable → ℚ) (r : Relation) (g : Formula
       let o = of-form vs h r g s f e in
       (ap (λ f. dot (coefficientsOf f) (map x vs)) (o .fact-is) ∙ o .left-value x, ap (λ f. exactly (rightOf f)) (o .fact-is) ∙ o .right-value)
 
-  -- a row is met where the written constraint holds
-  row-met : (d : Side) → factOf vs d r g s ≡ done f → IsForm d
-      → RowMet (isEqual r) (dot (coefficientsOf f) (map x vs)) (exactly (rightOf f)) ↔ Holds r (sideValue x d s) (value g s)
-  row-met d e k =
-      let v = row-values d e k in
-      (λ h. met r _ _ .0 (subst₂ (RowMet (isEqual r)) (v .0) (v .1) h), λ h. subst₂ (RowMet (isEqual r)) (sym (v .0)) (sym (v .1)) (met r _ _ .1 h))
+  -- a row and its floor are met where the written constraint holds
+  row-met : (d : Side) → factOf vs d r g s ≡ done f → IsForm d → (w : Option Value) → FloorIs r s w
+      → (RowMet (kindOf r) (dot (coefficientsOf f) (map x vs)) (exactly (rightOf f)) × AboveFloor w (dot (coefficientsOf f) (map x vs)))
+      ↔ Holds r s (sideValue x d s) (value g s)
+  row-met d e k w is =
+      let v = row-values d e k in (
+        λ h. met r s w _ _ is .0 (subst₂ Both (v .0) (v .1) h),
+        λ h. subst₂ Both (sym (v .0)) (sym (v .1)) (met r s w _ _ is .1 h),
+      )
+    where
+      Both : ℚ → ℚ → Type 0
+      Both p q = RowMet (kindOf r) p q × AboveFloor w p
 
 -- a side that names a variable has its number for a value
 names-value : (x : Variable → ℚ) (d : Side) (s : Scope) (v : Variable) → Names d s v → sideValue x d s ≡ x v
@@ -57,21 +63,26 @@ names-value x (bare n d fs p) s v k = ap x k
 names-value x (form f) s v k = absurd k
 
 -- a relation holds where its lower and its upper bound are kept
-module _ (p q : ℚ) where
-  keeps-lower : (r : Relation) → Lower r → Holds r p q → q ⊑ p
+module _ (s : Scope) (p q : ℚ) where
+  keeps-lower : (r : Relation) → Lower r → Holds r s p q → lowerBy r s q ⊑ p
+  unfolding lowerBy
   keeps-lower atMost k h = absurd k
   keeps-lower atLeast k h = h
   keeps-lower equal k h = subst (λ y. y ⊑ p) h (⊑-refl p)
+  keeps-lower (between f) k h = h .1
 
-  keeps-upper : (r : Relation) → Upper r → Holds r p q → p ⊑ q
+  keeps-upper : (r : Relation) → Upper r → Holds r s p q → p ⊑ q
   keeps-upper atMost k h = h
   keeps-upper atLeast k h = absurd k
   keeps-upper equal k h = subst (λ y. p ⊑ y) h (⊑-refl p)
+  keeps-upper (between f) k h = h .0
 
-  holds-between : (r : Relation) → (Lower r → q ⊑ p) → (Upper r → p ⊑ q) → Holds r p q
+  holds-between : (r : Relation) → (Lower r → lowerBy r s q ⊑ p) → (Upper r → p ⊑ q) → Holds r s p q
+  unfolding lowerBy
   holds-between atMost low high = high tt
   holds-between atLeast low high = low tt
   holds-between equal low high = ⊑-antisym (high tt) (low tt)
+  holds-between (between f) low high = (high tt, low tt)
 
 -- ---- the whole model
 
@@ -96,6 +107,9 @@ module _ (m : Model) (vs : List Variable) (n : ℕ) (variables-made : Variables 
       let o = made e (k .0) in
       (o, row-form vs (e .source .constraint .left) _ _ _ (e .fact) (o .made) (k .1))
 
+  floor-is : (i : ℕ) (e : Entry) → At (rowsOf es) i e → FloorIs (e .source .constraint .relation) (scopeAt m (e .source)) (e .floor)
+  floor-is i e at = floor-done (e .source .constraint .relation) (scopeAt m (e .source)) (e .floor) (row-of i e at .0 .floor)
+
   row-long : (d : Side) (r : Relation) (g : Formula) (s : Scope) (f : Fact) → factOf vs d r g s ≡ done f → IsForm d → length (coefficientsOf f) ≡ length vs
   row-long (bare n d fs p) r g s f e k = absurd k
   row-long (form h) r g s f e k = let o = of-form vs h r g s f e in ap (λ f. length (coefficientsOf f)) (o .fact-is) ∙ o .long
@@ -115,25 +129,31 @@ module _ (m : Model) (vs : List Variable) (n : ℕ) (variables-made : Variables 
     right-is i e at = let o = row-of i e at in row-values vs x _ _ _ (e .fact) (e .source .constraint .left) (o .0 .made) (o .1) .1
 
     record Fits : Type 0 where
-      meets-rows : (i : ℕ) (e : Entry) → At (rowsOf es) i e → RowMet (isEqual (e .source .constraint .relation)) (dot (coefficientsOf (e .fact)) (map x vs)) (exactly (rightOf (e .fact)))
+      meets-rows : (i : ℕ) (e : Entry) → At (rowsOf es) i e → RowMet (kindOf (e .source .constraint .relation)) (dot (coefficientsOf (e .fact)) (map x vs)) (exactly (rightOf (e .fact)))
+      meets-floors : (i : ℕ) (e : Entry) → At (rowsOf es) i e → AboveFloor (e .floor) (dot (coefficientsOf (e .fact)) (map x vs))
       above-lower : (j : ℕ) (v : Variable) → At vs j v → exactly (lowerOf es j) ⊑ x v
       below-upper : (j : ℕ) (v : Variable) → At vs j v → BelowUpper (upperOf es j) (x v)
 
     meets-fits : Meets m x → Fits
-    unfolding leftValue rightValue
+    unfolding leftValue rightValue lowerValue
     meets-fits h =
         record {
-          meets-rows = λ i e at.
-              let o = row-of i e at in
-              row-met vs x _ _ _ (e .fact) (e .source .constraint .left) (o .0 .made) (o .1) .1 (h .constraints (e .source) (o .0 .written));
+          meets-rows = λ i e at. both i e at .0;
+          meets-floors = λ i e at. both i e at .1;
           above-lower = λ j v at. above v (lowerOf es j) (numbered .of-number j v at) (lower-is j v at);
           below-upper = λ j v at. below v (upperOf es j) (upper-is j v at);
         }
       where
+        both : (i : ℕ) (e : Entry) → At (rowsOf es) i e
+            → RowMet (kindOf (e .source .constraint .relation)) (dot (coefficientsOf (e .fact)) (map x vs)) (exactly (rightOf (e .fact))) × AboveFloor (e .floor) (dot (coefficientsOf (e .fact)) (map x vs))
+        both i e at =
+            let o = row-of i e at in
+            row-met vs x _ _ _ (e .fact) (e .source .constraint .left) (o .0 .made) (o .1) (e .floor) (floor-is i e at) .1 (h .constraints (e .source) (o .0 .written))
+
         above : (v : Variable) (l : Value) → Declared m v → IsLower m v l → exactly l ⊑ x v
         above v l d b = elim (b .stated) [
           | inl (o, t, e) ↦ subst₂ _⊑_ e (names-value x (o .constraint .left) (scopeAt m o) v (t .names))
-              (keeps-lower _ _ (o .constraint .relation) (t .kind) (h .constraints o (t .written)))
+              (keeps-lower _ _ _ (o .constraint .relation) (t .kind) (h .constraints o (t .written)))
           | inr (unstated, e) ↦ subst (λ q. q ⊑ x v) (sym (ap exactly e ∙ exactly-zero))
               (h .at-least-0 v d unstated)
         ]
@@ -142,15 +162,15 @@ module _ (m : Model) (vs : List Variable) (n : ℕ) (variables-made : Variables 
         below v none k = tt
         below v (some u) (k, (o, t, e)) =
             subst₂ _⊑_ (names-value x (o .constraint .left) (scopeAt m o) v (t .names)) e
-            (keeps-upper _ _ (o .constraint .relation) (t .kind) (h .constraints o (t .written)))
+            (keeps-upper _ _ _ (o .constraint .relation) (t .kind) (h .constraints o (t .written)))
 
     fits-meets : Fits → Meets m x
-    unfolding leftValue rightValue sideValue
+    unfolding leftValue rightValue sideValue lowerValue
     fits-meets h =
         record {
           constraints = λ o w.
               let a = made-entry m vs es generated o w in
-              holds o w (a .0) (a .1) (a .2) (o .constraint .left) refl;
+              holds o (a .0) (a .1) (a .2) (a .3) (o .constraint .left) refl;
           at-least-0 = λ v d unstated.
               let n = numbered .has-number v d in
               least v (lowerOf es (n .place)) unstated (h .above-lower (n .place) v (n .at)) (lower-is (n .place) v (n .at));
@@ -166,21 +186,22 @@ module _ (m : Model) (vs : List Variable) (n : ℕ) (variables-made : Variables 
         below v o none k b t = absurd (k o t)
         below v o (some u) k b t = ⊑-trans b (k .0 o t)
 
-        holds : (o : Source) → Written m o → (f : Fact) → factOf vs (o .constraint .left) (o .constraint .relation) (o .constraint .right) (scopeAt m o) ≡ done f
-            → In es (record { source = o; fact = f }) → (d : Side) → o .constraint .left ≡ d → Holds (o .constraint .relation) (leftValue m x o) (rightValue m o)
-        holds o w f e k (bare n d fs p) same =
+        holds : (o : Source) (f : Fact) (w : Option Value) → Made m vs (record { source = o; fact = f; floor = w }) → In es (record { source = o; fact = f; floor = w })
+            → (d : Side) → o .constraint .left ≡ d → Holds (o .constraint .relation) (scopeAt m o) (leftValue m x o) (rightValue m o)
+        holds o f w e k (bare n d fs p) same =
             let s : Scope = scopeAt m o in
             let v : Variable = record { name = n; element = subscripts fs s } in
             let named : Names (o .constraint .left) s v = subst (λ d. Names d s v) (sym same) refl in
-            let b = names-bound vs (o .constraint .relation) (o .constraint .right) s f (o .constraint .left) e v named in
-            subst (λ y. Holds (o .constraint .relation) y (rightValue m o)) (sym (names-value x (o .constraint .left) s v named))
-            (holds-between _ _ (o .constraint .relation)
-            (λ t. ⊑-trans (lower-is (b .number) v (b .at) .least o (record { written = w; kind = t; names = named })) (h .above-lower (b .number) v (b .at)))
-            (λ t. below v o (upperOf es (b .number)) (upper-is (b .number) v (b .at)) (h .below-upper (b .number) v (b .at)) (record { written = w; kind = t; names = named })))
-        holds o w f e k (form g) same =
+            let b = names-bound vs (o .constraint .relation) (o .constraint .right) s f (o .constraint .left) (e .made) v named in
+            subst (λ y. Holds (o .constraint .relation) s y (rightValue m o)) (sym (names-value x (o .constraint .left) s v named))
+            (holds-between _ _ _ (o .constraint .relation)
+            (λ t. ⊑-trans (lower-is (b .number) v (b .at) .least o (record { written = e .written; kind = t; names = named })) (h .above-lower (b .number) v (b .at)))
+            (λ t. below v o (upperOf es (b .number)) (upper-is (b .number) v (b .at)) (h .below-upper (b .number) v (b .at)) (record { written = e .written; kind = t; names = named })))
+        holds o f w e k (form g) same =
             let isForm : IsForm (o .constraint .left) = rw same tt in
-            let r = in-rows es (record { source = o; fact = f }) k (form-row vs (o .constraint .left) _ _ _ f e isForm) in
-            row-met vs x _ _ _ f (o .constraint .left) e isForm .0 (h .meets-rows (r .place) _ (r .at))
+            let r = in-rows es (record { source = o; fact = f; floor = w }) k (form-row vs (o .constraint .left) _ _ _ f (e .made) isForm) in
+            row-met vs x _ _ _ f (o .constraint .left) (e .made) isForm w (floor-done (o .constraint .relation) (scopeAt m o) w (e .floor)) .0
+            (h .meets-rows (r .place) _ (r .at), h .meets-floors (r .place) _ (r .at))
 
 -- ---- the printed lines
 
@@ -225,30 +246,41 @@ module _ (m : Model) (p : Lp) (parts : Parts m p) (x : Variable → ℚ) where
       record {
         meets-rows = λ i e at.
             let at′ = are-rows i e at in
-            subst (λ q. RowMet (isEqual (e .source .constraint .relation)) q (exactly (rightOf (e .fact)))) (lines-are i e at′)
-            (h .meets-rows (suc i) (isEqual (e .source .constraint .relation)) (rightOf (e .fact)) (e .source .constraint .title) (e .source .element) (row-line m p i e at′));
+            subst (λ q. RowMet (kindOf (e .source .constraint .relation)) q (exactly (rightOf (e .fact)))) (lines-are i e at′)
+            (h .meets-rows (suc i) (kindOf (e .source .constraint .relation)) (rightOf (e .fact)) (e .source .constraint .title) (e .source .element) (row-line m p i e at′));
+        meets-floors = λ i e at. let at′ = are-rows i e at in subst (AboveFloor (e .floor)) (lines-are i e at′) (above i e at′ (e .floor) refl);
         above-lower = λ j v at.
             subst (λ q. exactly (lowerOf (p .entries) j) ⊑ q) (assigned j v at) (h .above-lower (suc j) _ _ _ _ _ (var-line m p j v at));
         below-upper = λ j v at.
             subst (BelowUpper (upperOf (p .entries) j)) (assigned j v at) (h .below-upper (suc j) _ _ _ _ _ (var-line m p j v at));
       }
+    where
+      above : (i : ℕ) (e : Entry) → At (rows p) i e → (w : Option Value) → e .floor ≡ w → AboveFloor w (rowValue (suc i) y ls)
+      above i e at none f = tt
+      above i e at (some v) f = h .meets-floors (suc i) v (low-line m p i e v at f)
 
   fits-feasible : FitsHere → Feasible ls y
   fits-feasible h =
       record {
         meets-rows = λ n q v s e k. of-row n q v s e (every-line m p (table m p parts) (rowLine n q v s e) k);
+        meets-floors = λ n v k. of-low n v (every-line m p (table m p parts) (lowLine n v) k);
         above-lower = λ n d l u s e k. of-lower n d l u s e (every-line m p (table m p parts) (varLine n d l u s e) k);
         below-upper = λ n d l u s e k. of-upper n d l u s e (every-line m p (table m p parts) (varLine n d l u s e) k);
       }
     where
-      of-row : (n : ℕ) (q : Bool) (v : Value) (s : List ℕ) (e : List ℤ) → RowLine p n q v s e → RowMet q (rowValue n y ls) (exactly v)
+      of-row : (n : ℕ) (q : Kind) (v : Value) (s : List ℕ) (e : List ℤ) → RowLine p n q v s e → RowMet q (rowValue n y ls) (exactly v)
       of-row n q v s t o =
           let e = o .entry in
-          let met = subst (λ z. RowMet (isEqual (e .source .constraint .relation)) z (exactly (rightOf (e .fact)))) (sym (lines-are (o .number) e (o .at)))
+          let met = subst (λ z. RowMet (kindOf (e .source .constraint .relation)) z (exactly (rightOf (e .fact)))) (sym (lines-are (o .number) e (o .at)))
           (h .meets-rows (o .number) e (rows-are (o .number) e (o .at))) in
           subst (λ k. RowMet q (rowValue k y ls) (exactly v)) (sym (o .number-is))
           (subst (λ t. RowMet t (rowValue (suc (o .number)) y ls) (exactly v)) (sym (o .kind-is))
-          (subst (λ w. RowMet (isEqual (e .source .constraint .relation)) (rowValue (suc (o .number)) y ls) (exactly w)) (sym (o .right-is)) met))
+          (subst (λ w. RowMet (kindOf (e .source .constraint .relation)) (rowValue (suc (o .number)) y ls) (exactly w)) (sym (o .right-is)) met))
+
+      of-low : (n : ℕ) (v : Value) → LowLine p n v → exactly v ⊑ rowValue n y ls
+      of-low n v o =
+          subst (λ k. exactly v ⊑ rowValue k y ls) (sym (o .number-is))
+          (subst₂ AboveFloor (o .floor-is) (sym (lines-are (o .number) (o .entry) (o .at))) (h .meets-floors (o .number) (o .entry) (rows-are (o .number) (o .entry) (o .at))))
 
       of-lower : (n : ℕ) (d : Bool) (l : Value) (u : Option Value) (s : List ℕ) (e : List ℤ) → VariableLine m p n d l u s e → exactly l ⊑ y n
       of-lower n d l u s e o =
@@ -275,6 +307,7 @@ of-parts m p parts =
       lp-line = lp-line m p;
       end-line = end-line m p;
       row-line = row-line m p;
+      low-line = low-line m p;
       variable-line = variable-line m p;
       objective-line = objective-line m p;
       variable-numbers = variable-numbers m vs n gv;
@@ -285,6 +318,7 @@ of-parts m p parts =
       less-first = less-first es;
       row-left = λ x i e at. lines-are m p parts x i e at ∙ left-is m vs n gv es ge x i e at;
       row-right = λ i e at. right-is m vs n gv es ge (λ v. 𝟎) i e at;
+      row-floor = floor-is m vs n gv es ge;
       objective = λ x.
           objective-lines m p x
           (ap length (parts .objective-is) ∙ length-map (parts .form-row) (signed minus) ∙ gathered-long vs x (m .structure .objective) (start m) (parts .form-row) (parts .form-made))

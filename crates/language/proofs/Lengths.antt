@@ -5,7 +5,7 @@ use Prim.Native.Nat.{ℕ, _+_, _*_, _<_, _≤_}
 use native.Mathlib.Omega.{arith}
 use lib.Dec.{lit<}
 use lib.ListN.{length, length-append}
-use Rattle.language.specs.Listing.{Line, lpLine, rowLine, varLine, colLine, endLine, fields, bytesOf, bytesOfAll}
+use Rattle.language.specs.Listing.{Line, lpLine, rowLine, lowLine, varLine, colLine, endLine, fields, bytesOf, bytesOfAll}
 use Rattle.language.proofs.Parts.{wordOf, fieldsOf, bytes-parts}
 
 -- a tab for each field, and a line feed
@@ -17,6 +17,7 @@ fields-least (f ∷ fs) = omega (arith, length-append f (fields fs), fields-leas
 parts-least : (l : Line) → 3 ≤ length (wordOf l) + length (fieldsOf l)
 parts-least (lpLine a b c d s t) = omega arith
 parts-least (rowLine n q v s e) = omega arith
+parts-least (lowLine n v) = omega arith
 parts-least (varLine n d l u s e) = omega arith
 parts-least (colLine j i v) = omega arith
 parts-least endLine = omega arith

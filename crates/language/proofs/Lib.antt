@@ -4,6 +4,7 @@ pub mod All
 pub mod Listed
 pub mod Outcome
 pub mod Meant
+pub mod Relations
 pub mod Taken
 pub mod Phrased
 pub mod PhrasedLinear

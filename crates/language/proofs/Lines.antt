@@ -1,16 +1,17 @@
--- The lines of a listing: each says what it must, they stand in order, and each row, each variable and each coefficient of the
--- objective has its line.
+-- The lines of a listing: each says what it must, they stand in order, and each row, each floor, each variable and each
+-- coefficient of the objective has its line.
 use mathlib.Core.Path.{_≡_, refl, sym, _∙_, ap, subst, subst₂}
 use mathlib.Core.Logic.{_⊎_, inl, inr}
 use mathlib.Core.Bool.{Bool, true, false}
-use mathlib.Core.List.{List, [], _∷_, _++_, append-assoc}
+use mathlib.Core.Option.{Option, none, some}
+use mathlib.Core.List.{List, [], _∷_, _++_}
 use Prim.Native.Nat.{ℕ, zero, suc, _+_, _-_, _<_, _≤_}
 use native.Mathlib.Omega.{arith}
 use native.Mathlib.Decide.{ℕ-discrete}
 use lib.Dec.{ltb}
 use lib.ListN.{length, getD}
 use Rattle.language.specs.Listed.{At, In}
-use Rattle.language.proofs.Listed.{at-getD, in-nil, in-cons, in-here, in-later, in-left, in-right}
+use Rattle.language.proofs.Listed.{at-getD, in-nil, in-here, in-later, in-append, in-left, in-right}
 use Rattle.language.specs.All.{All}
 use Rattle.language.proofs.All.{all-in, in-all, all-append, all-weaken}
 use Rattle.value.specs.declared.Value.{Value}
@@ -18,88 +19,124 @@ use Rattle.value.specs.Decimal.{zeroValue, isZero}
 use Rattle.language.specs.Syntax.{Name}
 use Rattle.language.specs.Syntax
 use Rattle.language.specs.Model.{Model}
-use Rattle.language.specs.Numbering.{Variable, Row, Entry, Lp, lessRows, equalRows, rows, isEqual, lowerOf, upperOf}
-use Rattle.language.specs.Listing.{Line, lpLine, rowLine, varLine, colLine, endLine, rightOf, coefficientsOf, rowLines, varLines, columnLines, colLines, linesOf}
+use Rattle.language.specs.Numbering.{Variable, Row, Entry, Lp, lessRows, rows, lowerOf, upperOf}
+use Rattle.language.specs.Listing.{Line, lpLine, rowLine, lowLine, varLine, colLine, endLine, rightOf, coefficientsOf, kindOf, lowLines, rowLines, varLines, columnLines, colLines, linesOf}
 use Rattle.language.specs.Demand3.{Rising, Below, rank, EarlierLine, Says}
 use Rattle.language.proofs.Ordered.{rising-nil, rising-cons, rising-one, rising-append}
-use Rattle.language.proofs.Numbered.{less-in, equal-in}
 
--- ---- a line for each thing of a list, with numbers from n on
+-- ---- lines for each thing of a list, with numbers from n on
 
-module _ {A : Type 0} (line : ℕ → A → Line) where
+-- a line of kind k for the thing of number n
+abbrev RankedAt : ℕ → ℕ → Line → Type 0
+RankedAt k n l = (e : List ℕ) × (rank l ≡ k ∷ n ∷ e)
+
+module _ {A : Type 0} (lines : ℕ → A → List Line) where
   unfoldable numbered : ℕ → List A → List Line
   numbered n [] = []
-  numbered n (a ∷ l) = line n a ∷ numbered (suc n) l
+  numbered n (a ∷ l) = lines n a ++ numbered (suc n) l
 
-  numbered-append : (n : ℕ) (l m : List A) → numbered n (l ++ m) ≡ numbered n l ++ numbered (n + length l) m
-  unfolding numbered
-  numbered-append n [] m = let z : n ≡ n + 0 = omega arith in ap (λ i. numbered i m) z
-  numbered-append n (a ∷ l) m =
-      let z : suc n + length l ≡ n + suc (length l) = omega arith in
-      ap (λ x. line n a ∷ x) (numbered-append (suc n) l m ∙ ap (λ i. numbered (suc n) l ++ numbered i m) z)
-
-  numbered-in : (n : ℕ) (l : List A) (x : Line) → In (numbered n l) x → (k : ℕ) × (a : A) × At l k a × (line (n + k) a ≡ x)
+  numbered-in : (n : ℕ) (l : List A) (x : Line) → In (numbered n l) x → (k : ℕ) × (a : A) × At l k a × In (lines (n + k) a) x
   unfolding numbered
   numbered-in n [] x h = absurd (in-nil x h)
-  numbered-in n (a ∷ l) x h = go (in-cons (line n a) (numbered (suc n) l) x h) (numbered-in (suc n) l x)
+  numbered-in n (a ∷ l) x h = go (in-append (lines n a) (numbered (suc n) l) x h) (numbered-in (suc n) l x)
     where
       Found : ℕ → List A → Type 0
-      Found n l = (k : ℕ) × (a : A) × At l k a × (line (n + k) a ≡ x)
+      Found n l = (k : ℕ) × (a : A) × At l k a × In (lines (n + k) a) x
 
-      go : (line n a ≡ x) ⊎ In (numbered (suc n) l) x → (In (numbered (suc n) l) x → Found (suc n) l) → Found n (a ∷ l)
-      go (inl k) ih = let z : n + 0 ≡ n = omega arith in (0, a, refl, ap (λ i. line i a) z ∙ k)
+      go : In (lines n a) x ⊎ In (numbered (suc n) l) x → (In (numbered (suc n) l) x → Found (suc n) l) → Found n (a ∷ l)
+      go (inl k) ih = let z : n ≡ n + 0 = omega arith in (0, a, refl, subst (λ i. In (lines i a) x) z k)
       go (inr k) ih =
           let r = ih k in
-          let z : n + suc (r .0) ≡ suc n + r .0 = omega arith in
-          (suc (r .0), r .1, r .2, ap (λ i. line i (r .1)) z ∙ r .3)
+          let z : suc n + r .0 ≡ n + suc (r .0) = omega arith in
+          (suc (r .0), r .1, r .2, subst (λ i. In (lines i (r .1)) x) z (r .3))
 
-  in-numbered : (n : ℕ) (l : List A) (k : ℕ) (a : A) → At l k a → In (numbered n l) (line (n + k) a)
+  in-numbered : (n : ℕ) (l : List A) (k : ℕ) (a : A) (x : Line) → At l k a → In (lines (n + k) a) x → In (numbered n l) x
   unfolding numbered
-  in-numbered n [] k a h = absurd h
-  in-numbered n (b ∷ l) zero a h = let z : n ≡ n + 0 = omega arith in record { place = 0; at = λ i. line (z i) (h i) }
-  in-numbered n (b ∷ l) (suc k) a h =
-      let z : suc n + k ≡ n + suc k = omega arith in
-      in-later (line n b) (numbered (suc n) l) _ (subst (λ i. In (numbered (suc n) l) (line i a)) z (in-numbered (suc n) l k a h))
+  in-numbered n [] k a x h i = absurd h
+  in-numbered n (b ∷ l) zero a x h i =
+      let z : n + 0 ≡ n = omega arith in
+      in-left (lines n b) (numbered (suc n) l) x (subst₂ (λ j c. In (lines j c) x) z (sym h) i)
+  in-numbered n (b ∷ l) (suc k) a x h i =
+      let z : n + suc k ≡ suc n + k = omega arith in
+      in-right (lines n b) (numbered (suc n) l) x (in-numbered (suc n) l k a x h (subst (λ j. In (lines j a) x) z i))
 
   -- numbered from 0
-  all-numbered : (P : Line → Type 0) (l : List A) → ((k : ℕ) (a : A) → At l k a → P (line k a)) → All P (numbered 0 l)
+  all-numbered : (P : Line → Type 0) (l : List A) → ((k : ℕ) (a : A) → At l k a → All P (lines k a)) → All P (numbered 0 l)
   all-numbered P l p =
       in-all P (numbered 0 l) λ x h.
       let r = numbered-in 0 l x h in
-      let z : r .0 ≡ 0 + r .0 = omega arith in
-      subst P (ap (λ i. line i (r .1)) z ∙ r .3) (p (r .0) (r .1) (r .2))
+      let z : 0 + r .0 ≡ r .0 = omega arith in
+      all-in P (lines (r .0) (r .1)) x (subst (λ i. In (lines i (r .1)) x) z (r .3)) (p (r .0) (r .1) (r .2))
 
-  has-line : (l : List A) (k : ℕ) (a : A) → At l k a → In (numbered 0 l) (line k a)
-  has-line l k a h = let z : 0 + k ≡ k = omega arith in subst (λ i. In (numbered 0 l) (line i a)) z (in-numbered 0 l k a h)
+  has-line : (l : List A) (k : ℕ) (a : A) (x : Line) → At l k a → In (lines k a) x → In (numbered 0 l) x
+  has-line l k a x h i = let z : k ≡ 0 + k = omega arith in in-numbered 0 l k a x h (subst (λ j. In (lines j a) x) z i)
 
-  rising-numbered : ((i j : ℕ) (a b : A) → i < j → EarlierLine (line i a) (line j b)) → (n : ℕ) (l : List A) → Rising EarlierLine (numbered n l)
+  -- in order, where those of one thing are and have its number
+  rising-numbered : (kind : ℕ) → ((i : ℕ) (a : A) → All (RankedAt kind (suc i)) (lines i a)) → ((i : ℕ) (a : A) → Rising EarlierLine (lines i a))
+      → (n : ℕ) (l : List A) → Rising EarlierLine (numbered n l)
   unfolding numbered
-  rising-numbered by n [] = rising-nil
-  rising-numbered by n (a ∷ l) =
-      rising-cons (line n a) (numbered (suc n) l)
-      (λ x h. let r = numbered-in (suc n) l x h in subst (EarlierLine (line n a)) (r .3) (by n (suc n + r .0) a (r .1) (omega arith)))
-      (rising-numbered by (suc n) l)
+  rising-numbered kind ranked own n [] = rising-nil
+  rising-numbered kind ranked own n (a ∷ l) =
+      rising-append (lines n a) (numbered (suc n) l) (own n a) (rising-numbered kind ranked own (suc n) l)
+      (λ x y h k.
+      let r = numbered-in (suc n) l y k in
+      let u = all-in (RankedAt kind (suc n)) (lines n a) x h (ranked n a) in
+      let v = all-in (RankedAt kind (suc (suc n + r .0))) (lines (suc n + r .0) (r .1)) y (r .3) (ranked (suc n + r .0) (r .1)) in
+      subst₂ Below (sym (u .1)) (sym (v .1)) (inr (refl, inl (omega arith))))
 
--- the line of a row and of a variable, counted from 0
+-- the lines of a row and of a variable, counted from 0
 abbrev rowLineOf : ℕ → Entry → Line
-rowLineOf i e = rowLine (suc i) (isEqual (e .source .constraint .relation)) (rightOf (e .fact)) (e .source .constraint .title) (e .source .element)
+rowLineOf i e = rowLine (suc i) (kindOf (e .source .constraint .relation)) (rightOf (e .fact)) (e .source .constraint .title) (e .source .element)
+
+abbrev rowLinesOf : ℕ → Entry → List Line
+rowLinesOf i e = rowLineOf i e ∷ lowLines (suc i) (e .floor)
 
 abbrev pub variableLine : List Name → Lp → ℕ → Variable → Line
 variableLine names p j v =
     varLine (suc j) (ltb j (p .discrete)) (lowerOf (p .entries) j) (upperOf (p .entries) j)
     (getD names (v .name) (record { spelling = []; place = 0; sort = Syntax.index }) .spelling) (v .element)
 
-row-lines : (n : ℕ) (q : Bool) (es : List Entry) → ((e : Entry) → In es e → isEqual (e .source .constraint .relation) ≡ q)
-    → rowLines (suc n) q es ≡ numbered rowLineOf n es
-unfolding rowLines numbered
-row-lines n q [] kind = refl
-row-lines n q (e ∷ es) kind =
-    rw (kind e (in-here e es), row-lines (suc n) q es (λ d h. kind d (in-later e es d h)))
+abbrev varLinesOf : List Name → Lp → ℕ → Variable → List Line
+varLinesOf names p j v = variableLine names p j v ∷ []
 
-var-lines : (names : List Name) (p : Lp) (j : ℕ) (vs : List Variable) → varLines names p j vs ≡ numbered (variableLine names p) j vs
+row-lines : (n : ℕ) (es : List Entry) → rowLines (suc n) es ≡ numbered rowLinesOf n es
+unfolding rowLines numbered
+row-lines n [] = refl
+row-lines n (e ∷ es) = ap (λ l. rowLinesOf n e ++ l) (row-lines (suc n) es)
+
+var-lines : (names : List Name) (p : Lp) (j : ℕ) (vs : List Variable) → varLines names p j vs ≡ numbered (varLinesOf names p) j vs
 unfolding varLines numbered
 var-lines names p j [] = refl
 var-lines names p j (v ∷ vs) = ap (λ l. variableLine names p j v ∷ l) (var-lines names p (suc j) vs)
+
+-- a floor's line
+low-here : (n : ℕ) (w : Option Value) (v : Value) → w ≡ some v → In (lowLines n w) (lowLine n v)
+unfolding lowLines
+low-here n w v e = subst (λ w. In (lowLines n w) (lowLine n v)) (sym e) (in-here (lowLine n v) [])
+
+all-low : (P : Line → Type 0) (n : ℕ) (w : Option Value) → ((v : Value) → w ≡ some v → P (lowLine n v)) → All P (lowLines n w)
+unfolding lowLines
+all-low P n none h = tt
+all-low P n (some v) h = (h v refl, tt)
+
+row-ranked : (i : ℕ) (e : Entry) → All (RankedAt 1 (suc i)) (rowLinesOf i e)
+unfolding rank
+row-ranked i e = ((_, refl), all-low (RankedAt 1 (suc i)) (suc i) (e .floor) (λ v f. (_, refl)))
+
+row-rising : (i : ℕ) (e : Entry) → Rising EarlierLine (rowLinesOf i e)
+unfolding rank lowLines
+row-rising i e =
+    rising-cons (rowLineOf i e) (lowLines (suc i) (e .floor))
+    (λ l h. all-in (EarlierLine (rowLineOf i e)) (lowLines (suc i) (e .floor)) l h (all-low (EarlierLine (rowLineOf i e)) (suc i) (e .floor) (λ v f. inr (refl, inr (refl, inl (omega arith))))))
+    (own (e .floor))
+  where
+    own : (w : Option Value) → Rising EarlierLine (lowLines (suc i) w)
+    own none = rising-nil
+    own (some v) = rising-one (lowLine (suc i) v)
+
+variable-ranked : (names : List Name) (p : Lp) (j : ℕ) (v : Variable) → All (RankedAt 2 (suc j)) (varLinesOf names p j v)
+unfolding rank
+variable-ranked names p j v = ((_, refl), tt)
 
 -- ---- `col` lines
 
@@ -210,6 +247,10 @@ columns (suc k) j es o = go (column j 1 (suc (length es)) es o (omega arith)) (c
 abbrev OfKind : ℕ → Line → Type 0
 OfKind k l = (e : List ℕ) × (rank l ≡ k ∷ e)
 
+of-kind : {A : Type 0} (lines : ℕ → A → List Line) (k : ℕ) → ((i : ℕ) (a : A) → All (RankedAt k (suc i)) (lines i a)) → (l : List A) → All (OfKind k) (numbered lines 0 l)
+of-kind lines k ranked l =
+    all-numbered lines (OfKind k) l (λ i a at. all-weaken (RankedAt k (suc i)) (OfKind k) (λ x r. (suc i ∷ r .0, r .1)) (lines i a) (ranked i a))
+
 -- of kind k or a later one
 abbrev KindFrom : ℕ → Line → Type 0
 KindFrom k l = (i : ℕ) × (k ≤ i) × OfKind i l
@@ -241,25 +282,16 @@ module _ (m : Model) (p : Lp) where
   lpPart = lpLine (p .discrete) (length (p .variables)) (length (lessRows p)) (length (rows p)) (m .structure .title) (m .given .title) ∷ []
 
   abbrev rowPart : List Line
-  rowPart = numbered rowLineOf 0 (rows p)
+  rowPart = numbered rowLinesOf 0 (rows p)
 
   abbrev varPart : List Line
-  varPart = numbered (variableLine names p) 0 (p .variables)
+  varPart = numbered (varLinesOf names p) 0 (p .variables)
 
   abbrev colPart : List Line
   colPart = colLines (length (p .variables)) 0 (rows p) (p .objective)
 
   abbrev endPart : List Line
   endPart = endLine ∷ []
-
-  row-part : rowLines 1 false (lessRows p) ++ rowLines (suc (length (lessRows p))) true (equalRows p) ≡ rowPart
-  unfolding rows lessRows equalRows
-  row-part =
-      let z : length (lessRows p) ≡ 0 + length (lessRows p) = omega arith in
-      ap (λ l. l ++ rowLines (suc (length (lessRows p))) true (equalRows p)) (row-lines 0 false (lessRows p) (λ e h. less-in (p .entries) e h .1))
-      ∙ ap (λ l. numbered rowLineOf 0 (lessRows p) ++ l)
-      (row-lines (length (lessRows p)) true (equalRows p) (λ e h. equal-in (p .entries) e h .1) ∙ ap (λ n. numbered rowLineOf n (equalRows p)) z)
-      ∙ sym (numbered-append rowLineOf 0 (lessRows p) (equalRows p))
 
   -- a `col` line of the problem
   abbrev OnAny : Line → Type 0
@@ -272,20 +304,25 @@ module _ (m : Model) (p : Lp) where
   unfolding linesOf
   lines-are =
       ap (λ l. lpPart ++ l)
-      (sym (append-assoc (rowLines 1 false (lessRows p)) (rowLines (suc (length (lessRows p))) true (equalRows p)) (varLines names p 0 (p .variables) ++ (colPart ++ endPart)))
-      ∙ ap (λ l. l ++ (varLines names p 0 (p .variables) ++ (colPart ++ endPart))) row-part
+      (ap (λ l. l ++ (varLines names p 0 (p .variables) ++ (colPart ++ endPart))) (row-lines 0 (rows p))
       ∙ ap (λ l. rowPart ++ (l ++ (colPart ++ endPart))) (var-lines names p 0 (p .variables)))
 
   in-lines : (l : Line) → In (lpPart ++ (rowPart ++ (varPart ++ (colPart ++ endPart)))) l → In (linesOf m p) l
   in-lines l h = subst (λ ls. In ls l) (sym lines-are) h
 
-  -- each row has its line
+  -- each row has its line, and its floor's
+  of-row : (i : ℕ) (e : Entry) (l : Line) → At (rows p) i e → In (rowLinesOf i e) l → In (linesOf m p) l
+  of-row i e l h k = in-lines _ (in-right lpPart _ _ (in-left rowPart _ _ (has-line rowLinesOf (rows p) i e l h k)))
+
   pub row-line : (i : ℕ) (e : Entry) → At (rows p) i e → In (linesOf m p) (rowLineOf i e)
-  row-line i e h = in-lines _ (in-right lpPart _ _ (in-left rowPart _ _ (has-line rowLineOf (rows p) i e h)))
+  row-line i e h = of-row i e _ h (in-here (rowLineOf i e) _)
+
+  pub low-line : (i : ℕ) (e : Entry) (v : Value) → At (rows p) i e → e .floor ≡ some v → In (linesOf m p) (lowLine (suc i) v)
+  low-line i e v h f = of-row i e _ h (in-later (rowLineOf i e) _ _ (low-here (suc i) (e .floor) v f))
 
   -- each variable has its line
   pub var-line : (j : ℕ) (v : Variable) → At (p .variables) j v → In (linesOf m p) (variableLine names p j v)
-  var-line j v h = in-lines _ (in-right lpPart _ _ (in-right rowPart _ _ (in-left varPart _ _ (has-line (variableLine names p) (p .variables) j v h))))
+  var-line j v h = in-lines _ (in-right lpPart _ _ (in-right rowPart _ _ (in-left varPart _ _ (has-line (varLinesOf names p) (p .variables) j v _ h (in-here (variableLine names p j v) [])))))
 
   spelled : (v : Variable) (x : Name) (d : Name) → At names (v .name) x → getD names (v .name) d .spelling ≡ x .spelling
   spelled v x d at = ap (λ (y : Name). y .spelling) (at-getD names (v .name) x d at)
@@ -314,9 +351,12 @@ module _ (m : Model) (p : Lp) where
       all-in (Says m p) (lpPart ++ (rowPart ++ (varPart ++ (colPart ++ endPart)))) l (subst (λ ls. In ls l) lines-are h) (
         record { discrete-is = refl; variables-is = refl; less-is = refl; rows-is = refl; title-is = refl; data-title-is = refl },
         all-append (Says m p) rowPart _
-            (all-numbered rowLineOf (Says m p) (rows p)
-            (λ i e at. record { number = i; entry = e; at = at; number-is = refl; kind-is = refl; right-is = refl; title-is = refl; element-is = refl }))
-            (all-append (Says m p) varPart _ (all-numbered (variableLine names p) (Says m p) (p .variables) of-variable)
+            (all-numbered rowLinesOf (Says m p) (rows p)
+            (λ i e at. (
+              record { number = i; entry = e; at = at; number-is = refl; kind-is = refl; right-is = refl; title-is = refl; element-is = refl },
+              all-low (Says m p) (suc i) (e .floor) (λ v f. record { number = i; entry = e; at = at; number-is = refl; floor-is = f }),
+            )))
+            (all-append (Says m p) varPart _ (all-numbered (varLinesOf names p) (Says m p) (p .variables) (λ j v at. (of-variable j v at, tt)))
             (all-append (Says m p) colPart _ (all-weaken OnAny (Says m p) of-column colPart (col-part .lines)) (tt, tt))),
       )
     where
@@ -356,9 +396,9 @@ module _ (m : Model) (p : Lp) where
   in-order =
       subst (Rising EarlierLine) (sym lines-are)
       (and-then 0 lpPart _ (rising-one _) (([], refl), tt)
-      (and-then 1 rowPart _ (rising-numbered rowLineOf (λ i j a b h. inr (refl, inl (omega arith))) 0 (rows p)) (all-numbered rowLineOf (OfKind 1) (rows p) (λ i e at. (suc i ∷ [], refl)))
-      (and-then 2 varPart _ (rising-numbered (variableLine names p) (λ i j a b h. inr (refl, inl (omega arith))) 0 (p .variables))
-      (all-numbered (variableLine names p) (OfKind 2) (p .variables) (λ j v at. (suc j ∷ [], refl)))
+      (and-then 1 rowPart _ (rising-numbered rowLinesOf 1 row-ranked row-rising 0 (rows p)) (of-kind rowLinesOf 1 row-ranked (rows p))
+      (and-then 2 varPart _ (rising-numbered (varLinesOf names p) 2 (variable-ranked names p) (λ j v. rising-one (variableLine names p j v)) 0 (p .variables))
+      (of-kind (varLinesOf names p) 2 (variable-ranked names p) (p .variables))
       (and-then 3 colPart endPart (col-part .rising)
       (all-weaken OnAny (OfKind 3) (λ l c. subst (OfKind 3) (c .on .is) (_, refl)) colPart (col-part .lines))
       (record { rising = rising-one endLine; kinds = ((4, omega arith, ([], refl)), tt) })))) .rising)

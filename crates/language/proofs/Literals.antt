@@ -8,10 +8,11 @@ use Rattle.lexer.specs.Text.{Token}
 use Rattle.language.specs.Syntax.{Sort, Name}
 use Rattle.language.specs.All.{All}
 use Rattle.language.proofs.All.{all-at}
-use Rattle.language.specs.Literals.{AllFormula, AllFormulas, AllSpans, AllForm, AllTerm, AllSide, AllConstraint, AllSort, AllName, AllNames}
+use Rattle.language.specs.Literals.{AllFormula, AllFormulas, AllSpans, AllForm, AllTerm, AllSide, AllRelation, AllConstraint, AllSort, AllName, AllNames}
 use Rattle.language.specs.Phrases
-use Rattle.language.specs.Phrases.{Means, Phrase, formula, primary, run, subscripts, formulas, entry, entries, domain, anyDomain, formTerm, signedTerms, linearForm, body, side, constraint, constraints, indexList, declaredDomain, sort, Writes, oneTerm, plusTerm, minusTerm, addition, difference, onePrimary, product, integer, real, declared, sumOver, nested, runOver, unsubscripted, inBrackets, lastFormula, oneFormula, between, lastEntry, oneEntry, inParentheses, noDomain, aDomain, unsigned, signed, noTerm, plusNext, minusNext, multiple, aVariable, aSigma, discrete, continuous, sigmaOver, innerSigma, innerForm, oneConstraint, alone, withSign, withFactor, withSigma, withSecond, lastConstraint, moreConstraints, noSubscripts, withDomain, lastIndex, oneIndex, indexSort, integerSort, realSort, formulaSort, discreteSort, continuousSort}
+use Rattle.language.specs.Phrases.{Means, Phrase, formula, primary, run, subscripts, formulas, entry, entries, domain, anyDomain, formTerm, signedTerms, linearForm, body, side, floor, constraint, constraints, indexList, declaredDomain, sort, Writes, oneTerm, plusTerm, minusTerm, addition, difference, onePrimary, product, integer, real, declared, sumOver, nested, runOver, unsubscripted, inBrackets, lastFormula, oneFormula, between, lastEntry, oneEntry, inParentheses, noDomain, aDomain, unsigned, signed, noTerm, plusNext, minusNext, multiple, aVariable, aSigma, discrete, continuous, sigmaOver, innerSigma, innerForm, oneConstraint, noFloor, aFloor, alone, withSign, withFactor, withSigma, withSecond, lastConstraint, moreConstraints, noSubscripts, withDomain, lastIndex, oneIndex, indexSort, integerSort, realSort, formulaSort, discreteSort, continuousSort}
 use Rattle.language.proofs.Shapes.{AllShaped, shaped-left, shaped-right}
+use Rattle.language.proofs.Relations.{by-plain}
 
 module _ (P : Value → Type 0) where
   -- of all that a phrase writes
@@ -33,6 +34,7 @@ module _ (P : Value → Type 0) where
   AllPhrase (Phrases.sigma t) = AllTerm P t
   AllPhrase (body f) = AllForm P f
   AllPhrase (side s) = AllSide P s
+  AllPhrase (floor r) = AllRelation P r
   AllPhrase (constraint c) = AllConstraint P c
   AllPhrase (constraints cs) = All (AllConstraint P) cs
   AllPhrase (indexList is) = Unit {0}
@@ -83,7 +85,12 @@ module _ (P : Value → Type 0) where
     phrase-all (sigmaOver {l = l} {k = k} p q v w) a = let r = phrase-all v (shaped-left P l _ (a .1)) in (r .0, r .1, phrase-all w (shaped-left P k _ (shaped-right P l _ (a .1))))
     phrase-all (innerSigma w) a = (phrase-all w a, tt)
     phrase-all (innerForm w) a = phrase-all w a
-    phrase-all (oneConstraint {a = l} {b = k} p q r u v w) a = let b = shaped-right P l _ (a .1) .1 in (phrase-all u (shaped-left P l _ (a .1)), phrase-all v (shaped-left P k _ b), phrase-all w (shaped-right P k _ b))
+    phrase-all (oneConstraint {a = l} {b = k} {c = j} p q r u v w x) a =
+        let b = shaped-right P l _ (a .1) .1 in
+        let c = shaped-right P k _ b in
+        (phrase-all u (shaped-left P l _ (a .1)), phrase-all v (shaped-left P k _ b), phrase-all w (shaped-left P j _ c), phrase-all x (shaped-right P j _ c))
+    phrase-all (noFloor {r = r} h) a = by-plain (AllRelation P) tt tt tt r h
+    phrase-all (aFloor p q w) a = phrase-all w (a .1 .1)
     phrase-all (alone w) a = phrase-all w a
     phrase-all (withSign w) a = phrase-all w a
     phrase-all (withFactor w) a = phrase-all w a

@@ -285,13 +285,13 @@ equal-is true u e = (refl, e)
 equal-is false u e = true-false (sym e)
 
 -- rows from `<=` and `>=`, and rows from `=`
-pub less-in : (es : List Entry) (e : Entry) → In (keep lessRow es) e → In es e × (isEqual (e .source .constraint .relation) ≡ false) × (isRow (e .fact) ≡ true)
+less-in : (es : List Entry) (e : Entry) → In (keep lessRow es) e → In es e × (isEqual (e .source .constraint .relation) ≡ false) × (isRow (e .fact) ≡ true)
 less-in es e h =
     let r = keep-in lessRow es e h in
     let s = less-is (isEqual (e .source .constraint .relation)) (isRow (e .fact)) (r .1) in
     (r .0, s .0, s .1)
 
-pub equal-in : (es : List Entry) (e : Entry) → In (keep equalRow es) e → In es e × (isEqual (e .source .constraint .relation) ≡ true) × (isRow (e .fact) ≡ true)
+equal-in : (es : List Entry) (e : Entry) → In (keep equalRow es) e → In es e × (isEqual (e .source .constraint .relation) ≡ true) × (isRow (e .fact) ≡ true)
 equal-in es e h =
     let r = keep-in equalRow es e h in
     let s = equal-is (isEqual (e .source .constraint .relation)) (isRow (e .fact)) (r .1) in
@@ -338,8 +338,8 @@ module _ (m : Model) (vs : List Variable) (es : List Entry) (generated : walk (e
       record {
         has-number = λ o r.
             let a = made-entry m vs es generated o (r .written) in
-            in-map sourceOf (rowsOf es) (record { source = o; fact = a .0 })
-            (in-rows es (record { source = o; fact = a .0 }) (a .2) (form-row vs (o .constraint .left) _ _ _ (a .0) (a .1) (r .no-bound)));
+            let e : Entry = record { source = o; fact = a .0; floor = a .1 } in
+            in-map sourceOf (rowsOf es) e (in-rows es e (a .3) (form-row vs (o .constraint .left) _ _ _ (a .0) (a .2 .made) (r .no-bound)));
         of-number = λ i o h.
             let r = map-in sourceOf (rowsOf es) o (record { place = i; at = h }) in
             let k = rows-in es (r .0) (r .1) in

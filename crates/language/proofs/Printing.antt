@@ -1,41 +1,42 @@
 -- Printing loses nothing: the bytes of a listing are those of no other proper lines.
 use mathlib.Core.Path.{_≡_, refl, sym, _∙_, ap}
-use mathlib.Core.Logic.{_≢_}
 use mathlib.Core.Bool.{Bool, true, false, cond}
-use mathlib.Core.List.{List, [], _∷_, _++_, map, append-assoc, append-nil, head-eq-of-cons-eq}
+use mathlib.Core.List.{List, [], _∷_, _++_, map, append-assoc, append-nil}
 use Prim.Native.Nat.{ℕ, zero, suc, _<_}
 use native.Mathlib.Omega.{arith}
-use lib.Dec.{lit<}
-use lib.ListN.{getD, replicate}
+use lib.Dec.{eqb, lit<}
+use lib.ListN.{getD, drop, replicate}
 use lib.IntN.{ℤ}
-use Rattle.rules.specs.Characters.{code, tab, lineFeed}
+use Rattle.rules.specs.Characters.{code, bytes, tab, lineFeed}
 use Rattle.value.specs.Printed.{printedWhole}
-use Rattle.value.proofs.ReadBack.{printed-unique}
-use Rattle.language.specs.Listing.{Line, lpLine, rowLine, varLine, colLine, endLine, fields, bytesOf, bytesOfAll}
+use Rattle.lexer.specs.Text.{sameBytes}
+use Rattle.language.specs.Listing.{Line, lpLine, rowLine, lowLine, varLine, colLine, endLine, fields, bytesOf, bytesOfAll}
 use Rattle.language.specs.All.{All}
 use Rattle.language.proofs.All.{all-append}
-use Rattle.language.specs.Proper.{Visible, Text, Proper}
+use Rattle.language.specs.Proper.{Text, Proper}
 use Rattle.language.proofs.Parts.{wordOf, fieldsOf, partsOf, bytes-parts}
 use Rattle.language.proofs.Fields.{NoLineFeed, text-line, fields-once, fields-line}
-use Rattle.language.proofs.Figures.{natural-text, printed-text, whole-text, upper-text, natural-once, wholes-once, upper-once}
+use Rattle.language.proofs.Figures.{natural-text, printed-text, whole-text, upper-text, readValue, value-back, readWhole, wholes-back, readNatural, natural-back, readUpper, upper-back, kind-text, readKind, kind-back}
 
 word-text : (l : Line) → Text (wordOf l)
 word-text (lpLine a b c d s t) = omega arith
 word-text (rowLine n q v s e) = omega arith
+word-text (lowLine n v) = omega arith
 word-text (varLine n d l u s e) = omega arith
 word-text (colLine j i v) = omega arith
 word-text endLine = omega arith
 
--- one of two letters
-kind-text : (x y : ℕ) → Visible x → Visible y → (q : Bool) → Text (cond q x y ∷ [])
-kind-text x y hx hy true = (hx, tt)
-kind-text x y hx hy false = (hy, tt)
+-- a variable is discrete or continuous
+abbrev letterOf : Bool → List ℕ
+letterOf d = cond d (code "D") (code "C") ∷ []
 
-kind-once : (x y : ℕ) → x ≢ y → (q r : Bool) → cond q x y ∷ [] ≡ cond r x y ∷ [] → q ≡ r
-kind-once x y h true true e = refl
-kind-once x y h true false e = absurd (h (head-eq-of-cons-eq e))
-kind-once x y h false true e = absurd (h (sym (head-eq-of-cons-eq e)))
-kind-once x y h false false e = refl
+letter-text : (d : Bool) → Text (letterOf d)
+letter-text true = omega arith
+letter-text false = omega arith
+
+letter-back : (d : Bool) → eqb (getD (letterOf d) 0 0) (code "D") ≡ d
+letter-back true = refl
+letter-back false = refl
 
 wholes-text : (e : List ℤ) → All Text (map printedWhole e)
 wholes-text [] = tt
@@ -43,8 +44,9 @@ wholes-text (k ∷ e) = (whole-text k, wholes-text e)
 
 fields-text : (l : Line) → Proper l → All Text (fieldsOf l)
 fields-text (lpLine a b c d s t) h = (natural-text a, (natural-text b, (natural-text c, (natural-text d, (h .title, (h .data-title, tt))))))
-fields-text (rowLine n q v s e) h = (natural-text n, (kind-text (code "E") (code "L") (omega arith) (omega arith) q, (printed-text v, (h .title, wholes-text e))))
-fields-text (varLine n d l u s e) h = (natural-text n, (kind-text (code "D") (code "C") (omega arith) (omega arith) d, (printed-text l, (upper-text u, (h .name, wholes-text e)))))
+fields-text (rowLine n q v s e) h = (natural-text n, (kind-text q, (printed-text v, (h .title, wholes-text e))))
+fields-text (lowLine n v) h = (natural-text n, (printed-text v, tt))
+fields-text (varLine n d l u s e) h = (natural-text n, (letter-text d, (printed-text l, (upper-text u, (h .name, wholes-text e)))))
 fields-text (colLine j i v) h = (natural-text j, (natural-text i, (printed-text v, tt)))
 fields-text endLine h = tt
 
@@ -65,6 +67,7 @@ line-starts : (l : Line) (r : List ℕ) → 0 < getD (bytesOf l ++ r) 0 0
 unfolding bytesOf
 line-starts (lpLine a b c d s t) r = lit< tt
 line-starts (rowLine n q v s e) r = lit< tt
+line-starts (lowLine n v) r = lit< tt
 line-starts (varLine n d l u s e) r = lit< tt
 line-starts (colLine j i v) r = lit< tt
 line-starts endLine r = lit< tt
@@ -76,56 +79,29 @@ not-zeros l r a e = let z : _≡_ {A = ℕ} (getD (replicate a 0) 0 0) (getD (by
     starts zero = refl
     starts (suc a) = refl
 
--- the words differ
-apart : {x y : ℕ} {f g : List ℕ} {fs gs : List (List ℕ)} → (x ∷ f) ∷ fs ≡ (y ∷ g) ∷ gs → x ≢ y → ⊥
-apart e h = h (head-eq-of-cons-eq (head-eq-of-cons-eq e))
+-- a line read back from its word and its fields
+unfoldable lineBy : List ℕ → List (List ℕ) → Line
+lineBy w fs =
+    let f : ℕ → List ℕ = λ i. getD fs i [] in
+    cond (sameBytes w (bytes "lp")) (lpLine (readNatural (f 0)) (readNatural (f 1)) (readNatural (f 2)) (readNatural (f 3)) (f 4) (f 5))
+    (cond (sameBytes w (bytes "row")) (rowLine (readNatural (f 0)) (readKind (f 1)) (readValue (f 2)) (f 3) (map readWhole (drop 4 fs)))
+    (cond (sameBytes w (bytes "low")) (lowLine (readNatural (f 0)) (readValue (f 1)))
+    (cond (sameBytes w (bytes "var")) (varLine (readNatural (f 0)) (eqb (getD (f 1) 0 0) (code "D")) (readValue (f 2)) (readUpper (f 3)) (f 4) (map readWhole (drop 5 fs)))
+    (cond (sameBytes w (bytes "col")) (colLine (readNatural (f 0)) (readNatural (f 1)) (readValue (f 2))) endLine))))
 
-parts-once : (k l : Line) → Proper k → Proper l → partsOf k ≡ partsOf l → k ≡ l
-parts-once (lpLine a b c d s t) (lpLine a′ b′ c′ d′ s′ t′) h h′ e =
-    let ea : a ≡ a′ = natural-once a a′ (h .discrete) (h′ .discrete) (cc) in
-    let eb : b ≡ b′ = natural-once b b′ (h .variables) (h′ .variables) (cc) in
-    let ec : c ≡ c′ = natural-once c c′ (h .less) (h′ .less) (cc) in
-    let ed : d ≡ d′ = natural-once d d′ (h .rows) (h′ .rows) (cc) in
-    cc
-parts-once (lpLine a b c d s t) (rowLine m p w r y) h h′ e = absurd (apart e (omega arith))
-parts-once (lpLine a b c d s t) (varLine m p w o r y) h h′ e = absurd (apart e (omega arith))
-parts-once (lpLine a b c d s t) (colLine k l w) h h′ e = absurd (apart e (omega arith))
-parts-once (lpLine a b c d s t) endLine h h′ e = absurd (apart e (omega arith))
-parts-once (rowLine n q v s x) (rowLine m p w r y) h h′ e =
-    let en : n ≡ m = natural-once n m (h .number) (h′ .number) (cc) in
-    let eq : q ≡ p = kind-once (code "E") (code "L") (omega arith) q p (cc) in
-    let ev : v ≡ w = printed-unique v w (h .right) (h′ .right) (cc) in
-    let ex : x ≡ y = wholes-once x y (h .element) (h′ .element) (cc) in
-    cc
-parts-once (rowLine n q v s x) (lpLine a b c d r t) h h′ e = absurd (apart e (omega arith))
-parts-once (rowLine n q v s x) (varLine m p w o r y) h h′ e = absurd (apart e (omega arith))
-parts-once (rowLine n q v s x) (colLine k l w) h h′ e = absurd (apart e (omega arith))
-parts-once (rowLine n q v s x) endLine h h′ e = absurd (apart e (omega arith))
-parts-once (varLine n q v u s x) (varLine m p w o r y) h h′ e =
-    let en : n ≡ m = natural-once n m (h .number) (h′ .number) (cc) in
-    let eq : q ≡ p = kind-once (code "D") (code "C") (omega arith) q p (cc) in
-    let ev : v ≡ w = printed-unique v w (h .lower) (h′ .lower) (cc) in
-    let eu : u ≡ o = upper-once u o (h .upper) (h′ .upper) (cc) in
-    let ex : x ≡ y = wholes-once x y (h .element) (h′ .element) (cc) in
-    cc
-parts-once (varLine n q v u s x) (lpLine a b c d r t) h h′ e = absurd (apart e (omega arith))
-parts-once (varLine n q v u s x) (rowLine m p w r y) h h′ e = absurd (apart e (omega arith))
-parts-once (varLine n q v u s x) (colLine k l w) h h′ e = absurd (apart e (omega arith))
-parts-once (varLine n q v u s x) endLine h h′ e = absurd (apart e (omega arith))
-parts-once (colLine j i v) (colLine k l w) h h′ e =
-    let ej : j ≡ k = natural-once j k (h .variable) (h′ .variable) (cc) in
-    let ei : i ≡ l = natural-once i l (h .row) (h′ .row) (cc) in
-    let ev : v ≡ w = printed-unique v w (h .coefficient) (h′ .coefficient) (cc) in
-    cc
-parts-once (colLine j i v) (lpLine a b c d r t) h h′ e = absurd (apart e (omega arith))
-parts-once (colLine j i v) (rowLine m p w r y) h h′ e = absurd (apart e (omega arith))
-parts-once (colLine j i v) (varLine m p w o r y) h h′ e = absurd (apart e (omega arith))
-parts-once (colLine j i v) endLine h h′ e = absurd (apart e (omega arith))
-parts-once endLine endLine h h′ e = refl
-parts-once endLine (lpLine a b c d r t) h h′ e = absurd (apart e (omega arith))
-parts-once endLine (rowLine m p w r y) h h′ e = absurd (apart e (omega arith))
-parts-once endLine (varLine m p w o r y) h h′ e = absurd (apart e (omega arith))
-parts-once endLine (colLine k l w) h h′ e = absurd (apart e (omega arith))
+lineOf : List (List ℕ) → Line
+lineOf ps = lineBy (getD ps 0 []) (drop 1 ps)
+
+line-back : (l : Line) → Proper l → lineOf (partsOf l) ≡ l
+unfolding lineOf lineBy sameBytes
+line-back (lpLine a b c d s t) h =
+    λ i. lpLine (natural-back a (h .discrete) i) (natural-back b (h .variables) i) (natural-back c (h .less) i) (natural-back d (h .rows) i) s t
+line-back (rowLine n q v s e) h = λ i. rowLine (natural-back n (h .number) i) (kind-back q i) (value-back v (h .right) i) s (wholes-back e (h .element) i)
+line-back (lowLine n v) h = λ i. lowLine (natural-back n (h .row) i) (value-back v (h .floor) i)
+line-back (varLine n d l u s e) h =
+    λ i. varLine (natural-back n (h .number) i) (letter-back d i) (value-back l (h .lower) i) (upper-back u (h .upper) i) s (wholes-back e (h .element) i)
+line-back (colLine j n v) h = λ i. colLine (natural-back j (h .variable) i) (natural-back n (h .row) i) (value-back v (h .coefficient) i)
+line-back endLine h = refl
 
 -- a line, and what follows it
 line-once : (k l : Line) (r t : List ℕ) → Proper k → Proper l → bytesOf k ++ r ≡ bytesOf l ++ t → (k ≡ l) × (r ≡ t)
@@ -133,7 +109,7 @@ unfolding fields
 line-once k l r t hk hl e =
     let e′ : fields (partsOf k) ++ r ≡ fields (partsOf l) ++ t = ap (λ f. tab ∷ f) (ap (λ f. f ++ r) (sym (bytes-parts k)) ∙ e ∙ ap (λ f. f ++ t) (bytes-parts l)) in
     let p = fields-once (partsOf k) (partsOf l) r t (parts-text k hk) (parts-text l hl) e′ in
-    (parts-once k l hk hl (p .0), p .1)
+    (sym (line-back k hk) ∙ ap lineOf (p .0) ∙ line-back l hl, p .1)
 
 -- bytes after the listing are zero
 pub printed-once-filled : (ks ls : List Line) (a b : ℕ) → All Proper ks → All Proper ls → bytesOfAll ks ++ replicate a 0 ≡ bytesOfAll ls ++ replicate b 0 → ks ≡ ls

@@ -2,6 +2,7 @@
 use mathlib.Core.Path.{_≡_, refl}
 use mathlib.Core.Bool.{Bool, true, false, _&&_, _||_, not}
 use mathlib.Core.Logic.{inl, inr}
+use mathlib.Core.Option.{Option, none, some}
 use mathlib.Core.List.{List, [], _∷_}
 use Prim.Native.Nat.{ℕ, zero, suc, _+_, _≤_}
 use native.Mathlib.Omega.{arith}
@@ -9,6 +10,7 @@ use lib.Dec.{eqb, leb}
 use lib.ListN.{length, getD, length-append}
 use borrow.Author.Tests.{leb-true}
 use Rattle.rules.specs.Limits.{mantissaLimit, variableLimit, rowLimit}
+use Rattle.value.specs.declared.Value.{Value}
 use Rattle.value.specs.Decimal.{Valid, zeroValue, isZero}
 use Rattle.value.specs.Literal.{isDigit}
 use Rattle.value.proofs.Operations.{zero-valid}
@@ -17,16 +19,16 @@ use Rattle.value.proofs.Reading.{literal-valid}
 use Rattle.lexer.specs.Text.{isSmall, inName, inString}
 use Rattle.language.proofs.Listed.{at-map}
 use Rattle.language.specs.All.{All}
-use Rattle.language.proofs.All.{all-at, in-all, all-append, all-left, all-right, all-getD, all-weaken}
+use Rattle.language.proofs.All.{all-at, in-all, all-append, all-getD, all-weaken}
 use Rattle.language.specs.Outcome.{done}
 use Rattle.language.specs.Syntax.{Name, Constraint}
 use Rattle.language.specs.Syntax
 use Rattle.language.specs.Model.{Model}
 use Rattle.language.specs.Numbering.{Variable, Row, Fact, bound, row, Entry, keep, lessRow, equalRow, Lp, lessRows, equalRows, rows, generate}
-use Rattle.language.specs.Listing.{colLine, endLine, rightOf, coefficientsOf, rowLines, varLines, columnLines, colLines, linesOf}
+use Rattle.language.specs.Listing.{colLine, endLine, rightOf, coefficientsOf, lowLines, rowLines, varLines, columnLines, colLines, linesOf}
 use Rattle.language.specs.Answer.{Accepted, accepted}
 use Rattle.language.proofs.Answer.{accepted-of}
-use Rattle.language.specs.Valid.{ValidRow, ValidVariable, ValidFact, ValidEntry, ValidProblem}
+use Rattle.language.specs.Valid.{ValidRow, ValidVariable, ValidFact, ValidEntry, ValidIfAny, ValidProblem}
 use Rattle.language.specs.Proper.{Visible, Text, Proper}
 use Rattle.language.specs.Demand3.{sourceOf}
 use Rattle.language.proofs.Shapes.{Spelled, Printable, tokens-shaped}
@@ -103,12 +105,17 @@ coefficients-valid : (f : Fact) → ValidFact f → ValidRow (coefficientsOf f)
 coefficients-valid (bound j v) h = tt
 coefficients-valid (row r v) h = h .0
 
-rowLines-proper : (n : ℕ) (q : Bool) (es : List Entry) → n + length es ≤ suc mantissaLimit → All ValidEntry es → All TextRow es → All Proper (rowLines n q es)
+lowLines-proper : (n : ℕ) (w : Option Value) → n ≤ mantissaLimit → ValidIfAny w → All Proper (lowLines n w)
+unfolding lowLines
+lowLines-proper n none b h = tt
+lowLines-proper n (some v) b h = (record { row = b; floor = h }, tt)
+
+rowLines-proper : (n : ℕ) (es : List Entry) → n + length es ≤ suc mantissaLimit → All ValidEntry es → All TextRow es → All Proper (rowLines n es)
 unfolding rowLines
-rowLines-proper n q [] b h t = tt
-rowLines-proper n q (e ∷ es) b h t = (
+rowLines-proper n [] b h t = tt
+rowLines-proper n (e ∷ es) b h t = (
   record { number = omega arith; right = rightOf-valid (e .fact) (h .0 .fact); title = t .0; element = h .0 .element },
-  rowLines-proper (suc n) q es (omega arith) (h .1) (t .1),
+  all-append Proper (lowLines n (e .floor)) _ (lowLines-proper n (e .floor) (omega arith) (h .0 .floor)) (rowLines-proper (suc n) es (omega arith) (h .1) (t .1)),
 )
 
 varLines-proper : (names : List Name) (p : Lp) (j : ℕ) (vs : List Variable) → j + length vs ≤ mantissaLimit → All TextName names → All ValidEntry (p .entries)
@@ -159,27 +166,22 @@ kept-all {A} P f (a ∷ l) h = go (f a) (kept-all P f l (h .1))
 lines-proper : (m : Model) (p : Lp) → ValidProblem p → Texts m p → All Proper (linesOf m p)
 unfolding linesOf lessRows equalRows rows mantissaLimit variableLimit rowLimit
 lines-proper m p h t =
-    let less = kept-all ValidEntry lessRow (p .entries) (h .entries) in
-    let same = kept-all ValidEntry equalRow (p .entries) (h .entries) in
-    let counted = length-append (lessRows p) (equalRows p) in (
+    let valid : All ValidEntry (rows p) =
+    all-append ValidEntry (lessRows p) (equalRows p) (kept-all ValidEntry lessRow (p .entries) (h .entries)) (kept-all ValidEntry equalRow (p .entries) (h .entries)) in (
       record {
         discrete = omega (arith, h .few-discrete);
         variables = omega (arith, h .few-variables);
-        less = omega (arith, h .few-rows, counted);
+        less = omega (arith, h .few-rows, length-append (lessRows p) (equalRows p));
         rows = omega (arith, h .few-rows);
         title = t .title;
         data-title = t .data-title;
       },
-      all-append Proper (rowLines 1 false (lessRows p)) _
-          (rowLines-proper 1 false (lessRows p) (omega (arith, h .few-rows, counted)) less (all-left TextRow (lessRows p) (equalRows p) (t .titles)))
-          (all-append Proper (rowLines (suc (length (lessRows p))) true (equalRows p)) _
-          (rowLines-proper (suc (length (lessRows p))) true (equalRows p) (omega (arith, h .few-rows, counted)) same (all-right TextRow (lessRows p) (equalRows p) (t .titles)))
+      all-append Proper (rowLines 1 (rows p)) _ (rowLines-proper 1 (rows p) (omega (arith, h .few-rows)) valid (t .titles))
           (all-append Proper (varLines (m .structure .names) p 0 (p .variables)) _
           (varLines-proper (m .structure .names) p 0 (p .variables) (omega (arith, h .few-variables)) (t .names) (h .entries) (h .variables))
           (all-append Proper (colLines (length (p .variables)) 0 (rows p) (p .objective)) (endLine ∷ [])
-          (colLines-proper (length (p .variables)) 0 (rows p) (p .objective) (omega (arith, h .few-variables)) (omega (arith, h .few-rows))
-          (all-append ValidEntry (lessRows p) (equalRows p) less same) (h .objective))
-          (tt, tt)))),
+          (colLines-proper (length (p .variables)) 0 (rows p) (p .objective) (omega (arith, h .few-variables)) (omega (arith, h .few-rows)) valid (h .objective))
+          (tt, tt))),
     )
 
 pub accepted-proper : (text : List ℕ) (a : Accepted) → accepted text ≡ done a → All Proper (linesOf (a .model) (a .problem))

@@ -14,7 +14,7 @@ use Rattle.language.specs.Syntax.{Formula, Formulas, Spans, Name, Sort, 
 use Rattle.language.specs.Syntax
 use Rattle.language.specs.Reader.{markOf, nameOf, isMark, Used}
 use Rattle.language.specs.Phrases
-use Rattle.language.specs.Phrases.{_at_, Means, relationSign, Phrase, formula, term, primary, run, subscripts, formulas, entry, entries, domain, anyDomain, variable, formTerm, signedTerms, linearForm, sigma, body, side, constraint, constraints, indexList, declaredDomain, sort, Writes, oneTerm, plusTerm, minusTerm, addition, difference, onePrimary, product, integer, real, declared, sumOver, nested, runOver, unsubscripted, inBrackets, lastFormula, oneFormula, between, lastEntry, oneEntry, inParentheses, noDomain, aDomain, unsigned, signed, noTerm, plusNext, minusNext, multiple, aVariable, aSigma, discrete, continuous, sigmaOver, innerSigma, innerForm, oneConstraint, alone, withSign, withFactor, withSigma, withSecond, lastConstraint, moreConstraints, noSubscripts, withDomain, lastIndex, oneIndex, indexSort, integerSort, realSort, formulaSort, discreteSort, continuousSort}
+use Rattle.language.specs.Phrases.{_at_, Means, relationSign, Phrase, formula, term, primary, run, subscripts, formulas, entry, entries, domain, anyDomain, variable, formTerm, signedTerms, linearForm, sigma, body, side, constraint, constraints, indexList, declaredDomain, sort, Writes, oneTerm, plusTerm, minusTerm, addition, difference, onePrimary, product, integer, real, declared, sumOver, nested, runOver, unsubscripted, inBrackets, lastFormula, oneFormula, between, lastEntry, oneEntry, inParentheses, noDomain, aDomain, unsigned, signed, noTerm, plusNext, minusNext, multiple, aVariable, aSigma, discrete, continuous, sigmaOver, innerSigma, innerForm, oneConstraint, noFloor, aFloor, alone, withSign, withFactor, withSigma, withSecond, lastConstraint, moreConstraints, noSubscripts, withDomain, lastIndex, oneIndex, indexSort, integerSort, realSort, formulaSort, discreteSort, continuousSort}
 use Rattle.language.proofs.Meant.{found}
 use Rattle.language.proofs.PhrasedLinear.{bound-written}
 
@@ -97,6 +97,7 @@ Levelled (linearForm a b f) l = Unit {0}
 Levelled (sigma t) l = Unit {0}
 Levelled (body f) l = Unit {0}
 Levelled (side s) l = Unit {0}
+Levelled (Phrases.floor r) l = Unit {0}
 Levelled (constraint c) l = Unit {0}
 Levelled (constraints cs) l = Unit {0}
 Levelled (indexList is) l = Unit {0}
@@ -143,7 +144,9 @@ level (continuous p m w) = tt
 level (sigmaOver p q v w) = tt
 level (innerSigma w) = tt
 level (innerForm w) = tt
-level (oneConstraint p q r u v w) = tt
+level (oneConstraint p q r u v w x) = tt
+level (noFloor h) = tt
+level (aFloor p q w) = tt
 level (alone w) = tt
 level (withSign w) = tt
 level (withFactor w) = tt
@@ -324,4 +327,4 @@ module _ (names : List Name) where
   -- of a constraint, the tokens between its string and its `<=`, `>=` or `=`
   pub constraint-left : {c : Constraint} {l : List Token} → Writes names (constraint c) l
       → (a : List Token) × (b : List Token) × (q : ℕ) × (l ≡ string (c .title) at c .place ∷ a ++ (mark (relationSign (c .relation)) at q ∷ b)) × (IsBare (c .left) ↔ Variable a)
-  constraint-left (oneConstraint {left = left} {a = a} {b = b} {c = d} p q r u v w) = (a, b ++ d, q, refl, bound-exactly left a u)
+  constraint-left (oneConstraint {left = left} {a = a} {b = b} {c = c} {e = e} p q r u v w x) = (a, b ++ (c ++ e), q, refl, bound-exactly left a u)

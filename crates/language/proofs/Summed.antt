@@ -1,6 +1,7 @@
 -- The sum over the listing's `col` lines with a row's number is the row's value.
 use mathlib.Core.Path.{_≡_, refl, sym, _∙_, ap}
 use mathlib.Core.Bool.{Bool, true, false}
+use mathlib.Core.Option.{Option, none, some}
 use mathlib.Core.List.{List, [], _∷_, _++_, map}
 use Prim.Native.Nat.{ℕ, zero, suc, _+_, _-_, _<_}
 use native.Mathlib.Omega.{arith}
@@ -14,8 +15,8 @@ use Rattle.value.specs.declared.Value.{Value}
 use Rattle.value.specs.Decimal.{zeroValue, isZero}
 use Rattle.language.specs.Syntax.{Name}
 use Rattle.language.specs.Model.{Model}
-use Rattle.language.specs.Numbering.{Variable, Row, Entry, Lp, lessRows, equalRows, rows}
-use Rattle.language.specs.Listing.{Line, colLine, endLine, coefficientsOf, rowLines, varLines, columnLines, colLines, linesOf}
+use Rattle.language.specs.Numbering.{Variable, Row, Entry, Lp, rows}
+use Rattle.language.specs.Listing.{Line, colLine, endLine, coefficientsOf, lowLines, rowLines, varLines, columnLines, colLines, linesOf}
 use Rattle.language.specs.Demand3.{columnTerm, rowValue, byNumber}
 use Rattle.language.proofs.Gathered.{dot}
 use Rattle.value.proofs.Numbers.{exactly-isZero}
@@ -31,10 +32,18 @@ module _ (y : ℕ → ℚ) where
   sum-append i (l ∷ a) b = rw (sum-append i a b) (sym (add-assoc _ _ _))
 
   -- lines that are no `col` lines count nothing
-  row-lines-zero : (i n : ℕ) (q : Bool) (es : List Entry) → rowValue i y (rowLines n q es) ≡ 𝟎
+  skip : (i : ℕ) (a b : List Line) → rowValue i y a ≡ 𝟎 → rowValue i y (a ++ b) ≡ rowValue i y b
+  skip i a b e = sum-append i a b ∙ rw e (zero-add _)
+
+  low-lines-zero : (i n : ℕ) (w : Option Value) → rowValue i y (lowLines n w) ≡ 𝟎
+  unfolding rowValue columnTerm lowLines
+  low-lines-zero i n none = refl
+  low-lines-zero i n (some v) = zero-add 𝟎
+
+  row-lines-zero : (i n : ℕ) (es : List Entry) → rowValue i y (rowLines n es) ≡ 𝟎
   unfolding rowValue columnTerm rowLines
-  row-lines-zero i n q [] = refl
-  row-lines-zero i n q (e ∷ es) = zero-add _ ∙ row-lines-zero i (suc n) q es
+  row-lines-zero i n [] = refl
+  row-lines-zero i n (e ∷ es) = zero-add _ ∙ skip i (lowLines n (e .floor)) _ (low-lines-zero i n (e .floor)) ∙ row-lines-zero i (suc n) es
 
   var-lines-zero : (i : ℕ) (names : List Name) (p : Lp) (j : ℕ) (vs : List Variable) → rowValue i y (varLines names p j vs) ≡ 𝟎
   unfolding rowValue columnTerm varLines
@@ -119,16 +128,11 @@ module _ (y : ℕ → ℚ) where
   all-columns es o r i h zero j = nothing i
   all-columns es o r i h (suc n) j = sum-append i (columnLines j 1 es o) (colLines n (suc j) es o) ∙ rw (h j, all-columns es o r i h n (suc j))
 
-  -- the listing's other lines count nothing
-  skip : (i : ℕ) (a b : List Line) → rowValue i y a ≡ 𝟎 → rowValue i y (a ++ b) ≡ rowValue i y b
-  skip i a b e = sum-append i a b ∙ rw e (zero-add _)
-
   pub of-lines : (i : ℕ) (m : Model) (p : Lp) → rowValue i y (linesOf m p) ≡ rowValue i y (colLines (length (p .variables)) 0 (rows p) (p .objective))
   unfolding linesOf rowValue columnTerm
   of-lines i m p =
       zero-add _
-      ∙ skip i (rowLines 1 false (lessRows p)) _ (row-lines-zero i 1 false (lessRows p))
-      ∙ skip i (rowLines (suc (length (lessRows p))) true (equalRows p)) _ (row-lines-zero i _ true (equalRows p))
+      ∙ skip i (rowLines 1 (rows p)) _ (row-lines-zero i 1 (rows p))
       ∙ skip i (varLines (m .structure .names) p 0 (p .variables)) _ (var-lines-zero i _ p 0 (p .variables))
       ∙ sum-append i (colLines (length (p .variables)) 0 (rows p) (p .objective)) (endLine ∷ [])
       ∙ ap (λ q. rowValue i y (colLines (length (p .variables)) 0 (rows p) (p .objective)) ⊕ q) (zero-add 𝟎) ∙ add-zero _

@@ -20,14 +20,15 @@ use Rattle.language.proofs.All.{all-with, all-set, all-replicate, all-m
 use Rattle.language.specs.Outcome.{done}
 use Rattle.language.proofs.Outcome.{check-of, after, after-fits, after-check, done-injective, some-injective, none-some}
 use Rattle.language.specs.Scope.{Scope, bind}
-use Rattle.language.specs.Syntax.{Name, Sort, Spans, Form, Term, also, factor, variable, sigma, Formula, Constraint, Relation, atMost, atLeast, equal, Side, bare, form}
+use Rattle.language.specs.Syntax.{Name, Sort, Spans, Form, Term, also, factor, variable, sigma, Formula, Constraint, Relation, atMost, atLeast, equal, between, Side, bare, form}
 use Rattle.language.specs.Syntax
 use Rattle.language.specs.Evaluation.{limitsOf, runOf, eval, over}
 use Rattle.language.specs.Store.{allGiven}
 use Rattle.language.specs.Model.{Model, start, Declaration, asDiscrete, asContinuous, declared, discretes, continuouses}
-use Rattle.language.specs.Numbering.{Variable, addVariable, addVariables, Row, xor, signed, addAt, variableAt, gather, gatherTerm, gathered, Source, Fact, bound, row, Entry, flips, factOf, isRow, isEqual, keep, anyRow, lessRow, equalRow, rowCount, addEntry, addEntries, boundAt, lowerAt, upperAt, picked, extreme, largest, smallest, isAtLeast, lowerOf, upperOf, Lp, lessRows, equalRows, rows, generate}
-use Rattle.language.specs.Literals.{AllFormula, AllSpans, AllForm, AllTerm, AllSide, AllConstraint, AllSort, AllNames, AllLiterals}
-use Rattle.language.specs.Valid.{SmallElement, ValidScope, ValidRow, ValidVariable, ValidFact, ValidEntry, ValidProblem, ValidUpper}
+use Rattle.language.specs.Numbering.{Variable, addVariable, addVariables, Row, xor, signed, addAt, variableAt, gather, gatherTerm, gathered, Source, Fact, bound, row, Entry, flips, factOf, floorAt, isRow, isEqual, keep, anyRow, lessRow, equalRow, rowCount, addEntry, addEntries, boundAt, lowerAt, upperAt, picked, extreme, largest, smallest, isAtLeast, lowerOf, upperOf, Lp, lessRows, equalRows, rows, generate}
+use Rattle.language.specs.Literals.{AllFormula, AllSpans, AllForm, AllTerm, AllSide, AllRelation, AllConstraint, AllSort, AllNames, AllLiterals}
+use Rattle.language.specs.Valid.{SmallElement, ValidScope, ValidRow, ValidVariable, ValidFact, ValidEntry, ValidProblem, ValidIfAny}
+use Rattle.language.proofs.Bounds.{floor-bound}
 use Rattle.language.proofs.Valid.{bind-valid, each-keeps, eval-valid, run-valid, over-keeps}
 
 -- ---- declared domains
@@ -89,7 +90,7 @@ unfolding largest
 largest-valid [] h = zero-valid
 largest-valid (v ∷ l) h = extreme-valid isAtMost v l (h .0) (h .1)
 
-smallest-valid : (l : List Value) → All Valid l → ValidUpper (smallest l)
+smallest-valid : (l : List Value) → All Valid l → ValidIfAny (smallest l)
 unfolding smallest
 smallest-valid [] h = tt
 smallest-valid (v ∷ l) h = extreme-valid isAtLeast v l (h .0) (h .1)
@@ -102,22 +103,26 @@ boundAt-valid (bound i w) j v h e = go (eqb i j) e
     go false e = absurd (none-some e)
 boundAt-valid (row r w) j v h e = absurd (none-some e)
 
-lowerAt-valid : (r : Relation) (f : Fact) (j : ℕ) (v : Value) → ValidFact f → lowerAt r f j ≡ some v → Valid v
-lowerAt-valid atMost f j v h e = absurd (none-some e)
-lowerAt-valid atLeast f j v h e = boundAt-valid f j v h e
-lowerAt-valid equal f j v h e = boundAt-valid f j v h e
+lowerAt-valid : (r : Relation) (f : Fact) (w : Option Value) (j : ℕ) (v : Value) → ValidFact f → ValidIfAny w → lowerAt r f w j ≡ some v → Valid v
+lowerAt-valid atMost f w j v h k e = absurd (none-some e)
+lowerAt-valid atLeast f w j v h k e = boundAt-valid f j v h e
+lowerAt-valid equal f w j v h k e = boundAt-valid f j v h e
+lowerAt-valid (between g) f w j v h k e = subst ValidIfAny (floor-bound f w j v e .2) k
 
 upperAt-valid : (r : Relation) (f : Fact) (j : ℕ) (v : Value) → ValidFact f → upperAt r f j ≡ some v → Valid v
 upperAt-valid atMost f j v h e = boundAt-valid f j v h e
 upperAt-valid atLeast f j v h e = absurd (none-some e)
 upperAt-valid equal f j v h e = boundAt-valid f j v h e
+upperAt-valid (between g) f j v h e = boundAt-valid f j v h e
 
 pub lower-valid : (es : List Entry) (j : ℕ) → All ValidEntry es → Valid (lowerOf es j)
 unfolding lowerOf
 lower-valid es j h =
-    largest-valid _ (picked-valid (λ e. lowerAt (e .source .constraint .relation) (e .fact) j) (λ e v k o. lowerAt-valid (e .source .constraint .relation) (e .fact) j v (k .fact) o) es h)
+    largest-valid _
+    (picked-valid (λ e. lowerAt (e .source .constraint .relation) (e .fact) (e .floor) j)
+    (λ e v k o. lowerAt-valid (e .source .constraint .relation) (e .fact) (e .floor) j v (k .fact) (k .floor) o) es h)
 
-pub upper-valid : (es : List Entry) (j : ℕ) → All ValidEntry es → ValidUpper (upperOf es j)
+pub upper-valid : (es : List Entry) (j : ℕ) → All ValidEntry es → ValidIfAny (upperOf es j)
 unfolding upperOf
 upper-valid es j h =
     smallest-valid _ (picked-valid (λ e. upperAt (e .source .constraint .relation) (e .fact) j) (λ e v k o. upperAt-valid (e .source .constraint .relation) (e .fact) j v (k .fact) o) es h)
@@ -177,11 +182,11 @@ record ValidEntries (es : List Entry) : Type 0 where
   few : length (keep anyRow es) ≤ rowLimit
 
 -- one more entry, which is counted if it is a row
-counted-few : (es : List Entry) (o : Source) (f : Fact) (p : ℕ) (u : Unit {0}) → length (keep anyRow es) ≤ rowLimit → rowCount f p es ≡ done u
-    → length (keep anyRow (es ++ (record { source = o; fact = f } ∷ []))) ≤ rowLimit
+counted-few : (es : List Entry) (o : Source) (f : Fact) (w : Option Value) (p : ℕ) (u : Unit {0}) → length (keep anyRow es) ≤ rowLimit → rowCount f p es ≡ done u
+    → length (keep anyRow (es ++ (record { source = o; fact = f; floor = w } ∷ []))) ≤ rowLimit
 unfolding rowCount keep
-counted-few es o (bound j v) p u h c = rw (kept-append anyRow es, append-nil) h
-counted-few es o (row r v) p u h c = rw (kept-append anyRow es, length-append) (omega (arith, ltb-true (length (keep anyRow es)) rowLimit (check-of Full p _ u c)))
+counted-few es o (bound j v) w p u h c = rw (kept-append anyRow es, append-nil) h
+counted-few es o (row r v) w p u h c = rw (kept-append anyRow es, length-append) (omega (arith, ltb-true (length (keep anyRow es)) rowLimit (check-of Full p _ u c)))
 
 -- each coefficient is 0 or a sum's result
 addAt-valid : (j : ℕ) (v : Value) (p : ℕ) (r q : Row) → ValidRow r → addAt j v p r ≡ done q → ValidRow q
@@ -238,16 +243,30 @@ module _ (vs : List Variable) where
       subst ValidFact (done-injective e)
       (signedRow-valid (flips r) cs (gathered-valid x s cs l hs xc), signed-valid (flips r) v (eval-valid g s v h hs gv))
 
+  floor-valid : (r : Relation) (s : Scope) (w : Option Value) → AllRelation Valid r → ValidScope s → floorAt r s ≡ done w → ValidIfAny w
+  unfolding floorAt
+  floor-valid atMost s w l hs e = subst ValidIfAny (done-injective e) tt
+  floor-valid atLeast s w l hs e = subst ValidIfAny (done-injective e) tt
+  floor-valid equal s w l hs e = subst ValidIfAny (done-injective e) tt
+  floor-valid (between h) s w l hs e = after (eval h s) _ w e λ v hv e. subst ValidIfAny (done-injective e) (eval-valid h s v l hs hv)
+
   addEntry-valid : (n : ℕ) (c : Constraint) (s : Scope) (e : List ℤ) (es fs : List Entry) → AllConstraint Valid c → ValidScope s → SmallElement e → ValidEntries es
       → addEntry vs n c s e es ≡ done fs → ValidEntries fs
   unfolding addEntry
   addEntry-valid n c s e es fs l hs he h a =
       after (factOf vs (c .left) (c .relation) (c .right) s) _ fs a λ f cf a.
+      after (floorAt (c .relation) s) _ fs a λ w cw a.
       after (rowCount f (c .place) es) _ fs a λ u rc a.
       subst ValidEntries (done-injective a)
       (record {
-        all = all-with ValidEntry es _ (h .all) (record { element = he; fact = factOf-valid (c .left) (c .relation) (c .right) s f (l .0) (l .1) hs cf });
-        few = counted-few es (record { ordinal = n; constraint = c; element = e }) f (c .place) u (h .few) rc;
+        all = all-with ValidEntry es _ (h .all) (
+            record {
+              element = he;
+              fact = factOf-valid (c .left) (c .relation) (c .right) s f (l .0) (l .1) hs cf;
+              floor = floor-valid (c .relation) s w (l .2) hs cw;
+            }
+            );
+        few = counted-few es (record { ordinal = n; constraint = c; element = e }) f w (c .place) u (h .few) rc;
       })
 
   addEntries-valid : (s : Scope) (n : ℕ) (cs : List Constraint) (es fs : List Entry) → ValidScope s → All (AllConstraint Valid) cs → ValidEntries es
@@ -257,7 +276,7 @@ module _ (vs : List Variable) where
   addEntries-valid s n (c ∷ cs) es fs hs l h e =
       after (over (c .domain) s (addEntry vs n c) es) _ fs e λ gs o e.
       addEntries-valid s (suc n) cs gs fs hs (l .1)
-      (over-keeps ValidEntries (c .domain) s (addEntry vs n c) (l .0 .2) hs
+      (over-keeps ValidEntries (c .domain) s (addEntry vs n c) (l .0 .3) hs
       (λ t x a b ht hx ha e. addEntry-valid n c t x a b (l .0) ht hx ha e) es gs h o) e
 
 -- ---- the problem

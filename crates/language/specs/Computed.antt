@@ -15,14 +15,14 @@ use Rattle.language.specs.Reader.{passed, next, look, markOf, nameOf, st
 use Rattle.language.specs.Formulas.{factors, termOf, summands, readSign, formulaOf, partOf, headOf, sumFormula, formulasOf, subscriptsOf, namedBy, nestedOf, primaryBy, primaryOf, insideAt, formulaAt, entryOf, entriesOf as entriesOf·formulas, domainOf, optionalDomain}
 use Rattle.language.specs.Linear.{headBySort, headByName, headBy, linearTerm, linearTerms, linearOf, plainForm, bodyOf, sigmaAt, linearAt, sideOfTerm, sideOf}
 use Rattle.language.specs.Declarations.{newName, indicesOf, isIn, readDue, dueOf, subscripted, indexEntry, formulaEntry, domainEntry, entriesFrom, listOf, declarations}
-use Rattle.language.specs.Grammar.{relationOf, readRelation, constraintOf, constraintsOf, readGoal, structure}
+use Rattle.language.specs.Grammar.{relationOf, readRelation, constraintOf, constraintsOf, readGoal, structure, readFloor}
 use Rattle.language.specs.Scope.{bind, unbound, boundTo, sameWhole, sameElement}
 use Rattle.language.specs.Evaluation.{wholeAt, limitsOf, lengthOf, fresh, runOf, each, eval, over}
 use Rattle.language.specs.Store.{stored, scopeOf, portionBy, setAt, elementOf, positionRun, wholeIf, accept, isGiven, givenBy, allGiven}
 use Rattle.language.specs.Data.{digitsOf, signedEntry, entryBy, readEntry, entriesOf as entriesOf·data, marksOf, noRepeats, allIn, rearranges, positionOf, positionsOf, orderFrom, readOrder, boundOf, valueOf, readNumber, eachRead, runs, subscriptedPortion, portionOf, portionsOf, readClose, dataOf, readEnd, readData}
 use Rattle.language.specs.Model.{model, whatOf, readModel, start, asDiscrete, asContinuous, declared, discretes, continuouses}
-use Rattle.language.specs.Numbering.{addVariable, addVariables, sameVariable, numberOf, addAt, variableAt, gather, gathered, factOf, keep, rowCount, addEntry, addEntries, picked, extreme, largest, smallest, lowerOf, upperOf, lessRows, equalRows, rows, generate}
-use Rattle.language.specs.Listing.{rowLines, varLines, columnLines, colLines, linesOf, fields, upperField, bytesOf, bytesOfAll}
+use Rattle.language.specs.Numbering.{addVariable, addVariables, sameVariable, numberOf, addAt, variableAt, gather, gathered, factOf, keep, rowCount, addEntry, addEntries, picked, extreme, largest, smallest, lowerOf, upperOf, lessRows, equalRows, rows, generate, floorAt}
+use Rattle.language.specs.Listing.{rowLines, varLines, columnLines, colLines, linesOf, fields, upperField, bytesOf, bytesOfAll, lowLines, kindField}
 use Rattle.language.specs.Answer.{accepted, listingOf, fitted, printing, listing, Answer, respond, answer}
 use Rattle.language.specs.Outcome.{Outcome, _>>=_}
 use Rattle.language.specs.Syntax as Syntax
@@ -33,7 +33,7 @@ formulaText text = do
   eval f (scopeOf [])
 
 unfoldable opened : (List ℕ → ℕ → Answer) × (List ℕ → Outcome Value)
-unfolding formulaText byteLimit tokenLimit nameLength stringLength digitLimit powerDigits mantissaLimit scaleLimit nameLimit constraintLimit dataLimit variableLimit rowLimit nestingLimit runLimit indexLimit _⊕_ _⊗_ integer tenths frac withSign seek choose fitOf sumOf productOf negate isAtMost isZero wholeOf ofWhole floorOf ceilingOf isDigit allDigits digitOf numberFrom before after isDecimal decimalNumber decimalOf significand exponent powerBy powerOf scaledBy raisedBy literalOf digits widthFrom natural minusSign places printed printedWhole capitalWords smallWords front behind sameBytes isBlank isSmall inName among nameStep isCapital wordStep isSign orderStep literalKind valued pointed signLength powerSize powerLength powered literalStep noBrace inString strange wellShaped stringStep stepAt isWrong tokensFrom uncounted counted tokens passed next look markOf nameOf stringOf demand require expect bracket readString find found known readKnown isIndex readIndex factors termOf summands readSign formulaOf partOf headOf sumFormula formulasOf subscriptsOf namedBy nestedOf primaryBy primaryOf insideAt formulaAt entryOf entriesOf·formulas domainOf optionalDomain headBySort headByName headBy linearTerm linearTerms linearOf plainForm bodyOf sigmaAt linearAt sideOfTerm sideOf newName indicesOf isIn readDue dueOf subscripted indexEntry formulaEntry domainEntry entriesFrom listOf declarations relationOf readRelation constraintOf constraintsOf readGoal structure bind unbound boundTo sameWhole sameElement wholeAt limitsOf lengthOf fresh runOf each eval over stored scopeOf portionBy setAt elementOf positionRun wholeIf accept isGiven givenBy allGiven digitsOf signedEntry entryBy readEntry entriesOf·data marksOf noRepeats allIn rearranges positionOf positionsOf orderFrom readOrder boundOf valueOf readNumber eachRead runs subscriptedPortion portionOf portionsOf readClose dataOf readEnd readData model readModel start asDiscrete asContinuous declared discretes continuouses addVariable addVariables sameVariable numberOf addAt variableAt gather gathered factOf keep rowCount addEntry addEntries picked extreme largest smallest lowerOf upperOf lessRows equalRows rows generate rowLines varLines columnLines colLines linesOf fields upperField bytesOf bytesOfAll accepted listingOf fitted printing listing respond answer
+unfolding formulaText byteLimit tokenLimit nameLength stringLength digitLimit powerDigits mantissaLimit scaleLimit nameLimit constraintLimit dataLimit variableLimit rowLimit nestingLimit runLimit indexLimit _⊕_ _⊗_ integer tenths frac withSign seek choose fitOf sumOf productOf negate isAtMost isZero wholeOf ofWhole floorOf ceilingOf isDigit allDigits digitOf numberFrom before after isDecimal decimalNumber decimalOf significand exponent powerBy powerOf scaledBy raisedBy literalOf digits widthFrom natural minusSign places printed printedWhole capitalWords smallWords front behind sameBytes isBlank isSmall inName among nameStep isCapital wordStep isSign orderStep literalKind valued pointed signLength powerSize powerLength powered literalStep noBrace inString strange wellShaped stringStep stepAt isWrong tokensFrom uncounted counted tokens passed next look markOf nameOf stringOf demand require expect bracket readString find found known readKnown isIndex readIndex factors termOf summands readSign formulaOf partOf headOf sumFormula formulasOf subscriptsOf namedBy nestedOf primaryBy primaryOf insideAt formulaAt entryOf entriesOf·formulas domainOf optionalDomain headBySort headByName headBy linearTerm linearTerms linearOf plainForm bodyOf sigmaAt linearAt sideOfTerm sideOf newName indicesOf isIn readDue dueOf subscripted indexEntry formulaEntry domainEntry entriesFrom listOf declarations relationOf readRelation readFloor constraintOf constraintsOf readGoal structure bind unbound boundTo sameWhole sameElement wholeAt limitsOf lengthOf fresh runOf each eval over stored scopeOf portionBy setAt elementOf positionRun wholeIf accept isGiven givenBy allGiven digitsOf signedEntry entryBy readEntry entriesOf·data marksOf noRepeats allIn rearranges positionOf positionsOf orderFrom readOrder boundOf valueOf readNumber eachRead runs subscriptedPortion portionOf portionsOf readClose dataOf readEnd readData model readModel start asDiscrete asContinuous declared discretes continuouses addVariable addVariables sameVariable numberOf addAt variableAt gather gathered factOf floorAt keep rowCount addEntry addEntries picked extreme largest smallest lowerOf upperOf lessRows equalRows rows generate lowLines rowLines varLines columnLines colLines linesOf fields upperField kindField bytesOf bytesOfAll accepted listingOf fitted printing listing respond answer
 opened = (λ text n. answer text n, λ text. formulaText text)
 
 unfoldable pub computed : List ℕ → ℕ → Answer

@@ -10,7 +10,7 @@ use lib.IntN.{ℤ}
 use Rattle.value.specs.Rational.{ℚ, whole, floor, _⊑_}
 use Rattle.language.specs.Listed.{At, In}
 use Rattle.language.specs.Scope.{Scope, bind, unbound, boundTo}
-use Rattle.language.specs.Syntax.{Formula, Formulas, Spans, Form, Term, Side, Constraint, Name, Sort, datum, minus, plus, times, sum, more, point, span, also, factor, variable, sigma, bare, form}
+use Rattle.language.specs.Syntax.{Formula, Formulas, Spans, Form, Term, Side, Constraint, Name, Sort, Relation, datum, minus, plus, times, sum, more, point, span, also, factor, variable, sigma, bare, form}
 use Rattle.language.specs.Syntax
 use Rattle.language.specs.Model.{Model, start}
 use Rattle.language.specs.Numbering.{Variable, Source}
@@ -91,9 +91,17 @@ DefinedSort i (Syntax.formula f) s = Unit
 DefinedSort i (Syntax.discrete d) s = DefinedDomain d s
 DefinedSort i (Syntax.continuous d) s = DefinedDomain d s
 
+-- a floor that is written
+abbrev pub DefinedFloor : Relation → Scope → Type 0
+DefinedFloor Syntax.atMost s = Unit
+DefinedFloor Syntax.atLeast s = Unit
+DefinedFloor Syntax.equal s = Unit
+DefinedFloor (Syntax.between h) s = Defined h s
+
 pub record DefinedModel (m : Model) : Type 0 where
   pub names : (i : ℕ) (x : Name) → At (m .structure .names) i x → DefinedSort i (x .sort) (start m)
   pub objective : DefinedForm (Declared m) (m .structure .objective) (start m)
   pub domains : (c : Constraint) → In (m .structure .constraints) c → DefinedDomain (c .domain) (start m)
   pub left : (o : Source) → Written m o → DefinedSide (Declared m) (o .constraint .left) (scopeAt m o)
   pub right : (o : Source) → Written m o → Defined (o .constraint .right) (scopeAt m o)
+  pub floor : (o : Source) → Written m o → DefinedFloor (o .constraint .relation) (scopeAt m o)

@@ -6,9 +6,9 @@ use Prim.Native.Nat.{ℕ, zero, suc}
 use Rattle.rules.specs.declared.Refusal.the-variants.{Misplaced, Full}
 use Rattle.rules.specs.Limits.{nestingLimit, constraintLimit}
 use Rattle.lexer.specs.Marks as Marks
-use Rattle.lexer.specs.Marks.{openWord, maximizeWord, minimizeWord, colon, equals}
+use Rattle.lexer.specs.Marks.{openWord, maximizeWord, minimizeWord, comma, colon, equals}
 use Rattle.lexer.specs.Text.{Token}
-use Rattle.language.specs.Syntax.{Name, Relation, atMost, atLeast, equal, Constraint, Structure}
+use Rattle.language.specs.Syntax.{Name, Relation, atMost, atLeast, equal, between, Constraint, Structure}
 use Rattle.language.specs.Reader.{Reader, _>>=_, give, refuse, next, look, isMark, isString, demand, require, expect, readString}
 use Rattle.language.specs.Formulas.{formulaAt, optionalDomain}
 use Rattle.language.specs.Linear.{linearAt, sideOf}
@@ -27,15 +27,33 @@ readRelation = do
   t ← next
   demand (relationOf t) (t .place)
 
--- Constraint: string, linear form, one of `<= >= =`, formula, optional domain
+-- behind a `<=` right side a floor may stand: `,`, `>=` and a formula. A `,` behind any other right side is left to the reader of
+-- what follows, which refuses it
+unfoldable pub readFloor : List Name → Relation → Reader Relation
+readFloor names atMost = do
+  t ← look
+  elim (isMark comma t) [
+    | true ↦ do
+      _ ← next
+      _ ← expect Marks.atLeast
+      h ← formulaAt names nestingLimit
+      give (between h)
+    | false ↦ give atMost
+  ]
+readFloor names atLeast = give atLeast
+readFloor names equal = give equal
+readFloor names (between h) = give (between h)
+
+-- Constraint: string, linear form, one of `<= >= =`, formula, optional floor, optional domain
 unfoldable pub constraintOf : List Name → Reader Constraint
 constraintOf names = do
   s ← readString
   l ← linearAt names nestingLimit
   r ← readRelation
   f ← formulaAt names nestingLimit
+  q ← readFloor names r
   d ← optionalDomain names
-  give (record { title = s .title; place = s .place; left = sideOf (l .signed) (l .form); relation = r; right = f; domain = d })
+  give (record { title = s .title; place = s .place; left = sideOf (l .signed) (l .form); relation = q; right = f; domain = d })
 
 -- one or more constraints, at most n; one more is 6 at its string, before its linear form (decision 15)
 unfoldable pub constraintsOf : List Name → ℕ → Reader (List Constraint)

@@ -10,15 +10,20 @@ use Rattle.rules.specs.Characters.{code, bytes, tab, lineFeed}
 use Rattle.value.specs.declared.Value.{Value}
 use Rattle.value.specs.Decimal.{zeroValue, isZero}
 use Rattle.value.specs.Printed.{natural, printed, printedWhole}
-use Rattle.language.specs.Syntax.{Name}
+use Rattle.language.specs.Syntax.{Name, Relation, atMost, atLeast, between}
 use Rattle.language.specs.Syntax
 use Rattle.language.specs.Model.{Model}
-use Rattle.language.specs.Numbering.{Variable, Row, Fact, bound, row, Entry, Lp, lessRows, equalRows, rows, lowerOf, upperOf}
+use Rattle.language.specs.Numbering.{Variable, Row, Fact, bound, row, Entry, Lp, lessRows, rows, lowerOf, upperOf}
+
+-- `L`, `E`, and `R` for a row with a floor
+pub data Kind : Type 0 where
+  less equal range : Kind
 
 -- numbers of variables and rows are those printed, from 1
 pub data Line : Type 0 where
   lpLine : (discrete variables less rows : ℕ) → (title dataTitle : List ℕ) → Line  -- N1, N, M1, M, model string, data string
-  rowLine : (number : ℕ) → (equal : Bool) → Value → List ℕ → List ℤ → Line  -- number, `L` or `E`, right side, string, index values
+  rowLine : (number : ℕ) → Kind → Value → List ℕ → List ℤ → Line  -- number, `L`, `E` or `R`, right side, string, index values
+  lowLine : (row : ℕ) → Value → Line  -- row, floor
   varLine : (number : ℕ) → (discrete : Bool) → Value → Option Value → List ℕ → List ℤ → Line  -- number, `D` or `C`, lower, upper or `inf`, name, index values
   colLine : (variable row : ℕ) → Value → Line  -- variable, row, coefficient
   endLine : Line
@@ -33,9 +38,27 @@ abbrev pub coefficientsOf : Fact → Row
 coefficientsOf (bound j v) = []
 coefficientsOf (row r v) = r
 
-unfoldable pub rowLines : ℕ → Bool → List Entry → List Line
-rowLines n q [] = []
-rowLines n q (e ∷ es) = rowLine n q (rightOf (e .fact)) (e .source .constraint .title) (e .source .element) ∷ rowLines (suc n) q es
+abbrev pub kindOf : Relation → Kind
+kindOf atMost = less
+kindOf atLeast = less
+kindOf Syntax.equal = equal
+kindOf (between h) = range
+
+-- of a row from `<=` or `>=`, by its floor
+abbrev pub kindBy : Option Value → Kind
+kindBy none = less
+kindBy (some v) = range
+
+-- a floor's line follows its row's
+unfoldable pub lowLines : ℕ → Option Value → List Line
+lowLines n none = []
+lowLines n (some v) = lowLine n v ∷ []
+
+unfoldable pub rowLines : ℕ → List Entry → List Line
+rowLines n [] = []
+rowLines n (e ∷ es) =
+    rowLine n (kindOf (e .source .constraint .relation)) (rightOf (e .fact)) (e .source .constraint .title) (e .source .element)
+    ∷ (lowLines n (e .floor) ++ rowLines (suc n) es)
 
 noName : Name
 noName = record { spelling = []; place = 0; sort = Syntax.index }
@@ -63,10 +86,10 @@ colLines (suc k) j es o = columnLines j 1 es o ++ colLines k (suc j) es o
 unfoldable pub linesOf : Model → Lp → List Line
 linesOf m p =
     lpLine (p .discrete) (length (p .variables)) (length (lessRows p)) (length (rows p)) (m .structure .title) (m .given .title)
-    ∷ (rowLines 1 false (lessRows p) ++ (rowLines (suc (length (lessRows p))) true (equalRows p)
+    ∷ (rowLines 1 (rows p)
     ++ (varLines (m .structure .names) p 0 (p .variables)
     ++ (colLines (length (p .variables)) 0 (rows p) (p .objective)
-    ++ (endLine ∷ [])))))
+    ++ (endLine ∷ []))))
 
 -- ---- the bytes of a line: fields parted by one tab, a line feed at the end
 
@@ -78,10 +101,16 @@ unfoldable pub upperField : Option Value → List ℕ
 upperField none = bytes "inf"
 upperField (some v) = printed v
 
+unfoldable pub kindField : Kind → List ℕ
+kindField less = bytes "L"
+kindField equal = bytes "E"
+kindField range = bytes "R"
+
 unfoldable pub bytesOf : Line → List ℕ
 -- without a data section the last field of `lp` is empty (decision 42)
 bytesOf (lpLine a b c d s t) = bytes "lp" ++ fields (natural a ∷ natural b ∷ natural c ∷ natural d ∷ s ∷ t ∷ [])
-bytesOf (rowLine n q v s e) = bytes "row" ++ fields (natural n ∷ (cond q (code "E") (code "L") ∷ []) ∷ printed v ∷ s ∷ map printedWhole e)
+bytesOf (rowLine n q v s e) = bytes "row" ++ fields (natural n ∷ kindField q ∷ printed v ∷ s ∷ map printedWhole e)
+bytesOf (lowLine n v) = bytes "low" ++ fields (natural n ∷ printed v ∷ [])
 bytesOf (varLine n d l u s e) = bytes "var" ++ fields (natural n ∷ (cond d (code "D") (code "C") ∷ []) ∷ printed l ∷ upperField u ∷ s ∷ map printedWhole e)
 bytesOf (colLine j i v) = bytes "col" ++ fields (natural j ∷ natural i ∷ printed v ∷ [])
 bytesOf endLine = bytes "end" ++ fields []

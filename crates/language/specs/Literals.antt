@@ -1,7 +1,7 @@
 -- A property P of all literals in the trees that are read.
 use mathlib.Core.List.{List}
 use Rattle.value.specs.declared.Value.{Value}
-use Rattle.language.specs.Syntax.{Formula, Formulas, Spans, Form, Term, Side, Constraint, Sort, Name, Structure, datum, minus, plus, times, sum, more, point, span, also, factor, variable, sigma, bare, form}
+use Rattle.language.specs.Syntax.{Formula, Formulas, Spans, Form, Term, Side, Relation, Constraint, Sort, Name, Structure, datum, minus, plus, times, sum, more, point, span, also, factor, variable, sigma, bare, form}
 use Rattle.language.specs.Syntax
 use Rattle.language.specs.All.{All}
 
@@ -38,8 +38,14 @@ module _ (P : Value → Type 0) where
   AllSide (bare i d fs p) = AllSpans d × AllFormulas fs
   AllSide (form f) = AllForm f
 
+  abbrev pub AllRelation : Relation → Type 0
+  AllRelation Syntax.atMost = Unit
+  AllRelation Syntax.atLeast = Unit
+  AllRelation Syntax.equal = Unit
+  AllRelation (Syntax.between h) = AllFormula h
+
   abbrev pub AllConstraint : Constraint → Type 0
-  AllConstraint c = AllSide (c .left) × AllFormula (c .right) × AllSpans (c .domain)
+  AllConstraint c = AllSide (c .left) × AllFormula (c .right) × AllRelation (c .relation) × AllSpans (c .domain)
 
   abbrev pub AllSort : Sort → Type 0
   AllSort Syntax.index = Unit

@@ -4,7 +4,7 @@ use mathlib.Core.Path.{_≡_}
 use mathlib.Core.Logic.{_⊎_}
 use mathlib.Core.List.{List}
 use Prim.Native.Nat.{ℕ}
-use Rattle.language.specs.Syntax.{Formula, Formulas, Spans, Form, Term, Side, Constraint, Sort, Name, Structure, datum, minus, plus, times, sum, more, point, span, also, factor, variable, sigma, bare, form}
+use Rattle.language.specs.Syntax.{Formula, Formulas, Spans, Form, Term, Side, Relation, Constraint, Sort, Name, Structure, datum, minus, plus, times, sum, more, point, span, also, factor, variable, sigma, bare, form}
 use Rattle.language.specs.Syntax
 use Rattle.language.specs.Listed.{At}
 use Rattle.language.specs.All.{All}
@@ -64,9 +64,17 @@ module _ (names : List Name) where
   NamedSide (bare i d fs p) = NamedVariable i d fs
   NamedSide (form f) = NamedForm f
 
+  -- a floor that is written
+  abbrev pub NamedFloor : Relation → Type 0
+  NamedFloor Syntax.atMost = Unit
+  NamedFloor Syntax.atLeast = Unit
+  NamedFloor Syntax.equal = Unit
+  NamedFloor (Syntax.between h) = Named h
+
   pub record NamedConstraint (c : Constraint) : Type 0 where
     pub left : NamedSide (c .left)
     pub right : Named (c .right)
+    pub floor : NamedFloor (c .relation)
     pub domain : NamedDomain (c .domain)
 
   abbrev pub NamedSort : Sort → Type 0

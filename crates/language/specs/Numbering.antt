@@ -12,7 +12,7 @@ use Rattle.rules.specs.Limits.{variableLimit, rowLimit}
 use Rattle.value.specs.declared.Value.{Value}
 use Rattle.value.specs.Decimal.{zeroValue, oneValue, negate, sumOf, productOf, isAtMost}
 use Rattle.language.specs.Scope.{Scope, bind, unbound, sameElement}
-use Rattle.language.specs.Syntax.{Formula, Formulas, Spans, Form, Term, also, factor, variable, sigma, Constraint, Relation, atMost, atLeast, equal, Side, bare, form}
+use Rattle.language.specs.Syntax.{Formula, Formulas, Spans, Form, Term, also, factor, variable, sigma, Constraint, Relation, atMost, atLeast, equal, between, Side, bare, form}
 use Rattle.language.specs.Syntax
 use Rattle.language.specs.Evaluation.{limitsOf, runOf, each, eval, evalAll, within, over}
 use Rattle.language.specs.Model.{Model, start, Declaration, discretes, continuouses}
@@ -121,12 +121,14 @@ pub data Fact : Type 0 where
 pub record Entry : Type 0 where
   pub source : Source
   pub fact : Fact
+  pub floor : Option Value  -- where one is written
 
 -- a `>=` row is negated on both sides, after gathering (decision 27)
 abbrev pub flips : Relation → Bool
 flips atMost = false
 flips atLeast = true
 flips equal = false
+flips (between h) = false
 
 -- left side, right side
 unfoldable pub factOf : List Variable → Side → Relation → Formula → Scope → Outcome Fact
@@ -139,6 +141,15 @@ factOf vs (form f) r g s = do
   v ← eval g s
   done (row (map (signed (flips r)) cs) (signed (flips r) v))
 
+-- the floor, after both sides
+unfoldable pub floorAt : Relation → Scope → Outcome (Option Value)
+floorAt atMost s = done none
+floorAt atLeast s = done none
+floorAt equal s = done none
+floorAt (between h) s = do
+  v ← eval h s
+  done (some v)
+
 abbrev pub isRow : Fact → Bool
 isRow (bound j v) = false
 isRow (row r v) = true
@@ -147,6 +158,7 @@ abbrev pub isEqual : Relation → Bool
 isEqual atMost = false
 isEqual atLeast = false
 isEqual equal = true
+isEqual (between h) = false
 
 unfoldable pub keep : {A : Type 0} → (A → Bool) → List A → List A
 keep f [] = []
@@ -161,7 +173,7 @@ lessRow e = cond (isEqual (e .source .constraint .relation)) false (isRow (e .fa
 abbrev pub equalRow : Entry → Bool
 equalRow e = cond (isEqual (e .source .constraint .relation)) (isRow (e .fact)) false
 
--- the 513th row is 6 at its string, after both sides (decision 30)
+-- the 513th row is 6 at its string, after both sides and the floor (decision 30)
 unfoldable pub rowCount : Fact → ℕ → List Entry → Outcome (Unit {0})
 rowCount (bound j v) p es = done tt
 rowCount (row r v) p es = check Full p (ltb (length (keep anyRow es)) rowLimit)
@@ -169,8 +181,9 @@ rowCount (row r v) p es = check Full p (ltb (length (keep anyRow es)) rowLimit)
 unfoldable pub addEntry : List Variable → ℕ → Constraint → Scope → List ℤ → List Entry → Outcome (List Entry)
 addEntry vs n c s e es = do
   f ← factOf vs (c .left) (c .relation) (c .right) s
+  w ← floorAt (c .relation) s
   _ ← rowCount f (c .place) es
-  done (es ++ (record { source = record { ordinal = n; constraint = c; element = e }; fact = f } ∷ []))
+  done (es ++ (record { source = record { ordinal = n; constraint = c; element = e }; fact = f; floor = w } ∷ []))
 
 -- constraints in text order from number n on, element by element
 unfoldable pub addEntries : List Variable → Scope → ℕ → List Constraint → List Entry → Outcome (List Entry)
@@ -185,15 +198,22 @@ abbrev pub boundAt : Fact → ℕ → Option Value
 boundAt (bound i v) j = cond (eqb i j) (some v) none
 boundAt (row r v) j = none
 
-abbrev pub lowerAt : Relation → Fact → ℕ → Option Value
-lowerAt atMost f j = none
-lowerAt atLeast f j = boundAt f j
-lowerAt equal f j = boundAt f j
+-- a floor on a bare variable
+abbrev pub floorFor : Fact → Option Value → ℕ → Option Value
+floorFor (bound i v) w j = cond (eqb i j) w none
+floorFor (row r v) w j = none
+
+abbrev pub lowerAt : Relation → Fact → Option Value → ℕ → Option Value
+lowerAt atMost f w j = none
+lowerAt atLeast f w j = boundAt f j
+lowerAt equal f w j = boundAt f j
+lowerAt (between h) f w j = floorFor f w j
 
 abbrev pub upperAt : Relation → Fact → ℕ → Option Value
 upperAt atMost f j = boundAt f j
 upperAt atLeast f j = none
 upperAt equal f j = boundAt f j
+upperAt (between h) f j = boundAt f j
 
 -- what is stated, in text order
 unfoldable pub picked : (Entry → Option Value) → List Entry → List Value
@@ -217,7 +237,7 @@ smallest [] = none
 smallest (v ∷ l) = some (extreme isAtLeast v l)
 
 unfoldable pub lowerOf : List Entry → ℕ → Value
-lowerOf es j = largest (picked (λ e. lowerAt (e .source .constraint .relation) (e .fact) j) es)
+lowerOf es j = largest (picked (λ e. lowerAt (e .source .constraint .relation) (e .fact) (e .floor) j) es)
 
 unfoldable pub upperOf : List Entry → ℕ → Option Value
 upperOf es j = smallest (picked (λ e. upperAt (e .source .constraint .relation) (e .fact) j) es)

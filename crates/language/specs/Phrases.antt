@@ -42,6 +42,14 @@ abbrev pub relationSign : Relation → ℕ
 relationSign atMost = Marks.atMost
 relationSign atLeast = Marks.atLeast
 relationSign equal = equals
+relationSign (Syntax.between h) = Marks.atMost
+
+-- written by its sign alone
+abbrev pub IsPlain : Relation → Type 0
+IsPlain atMost = Unit
+IsPlain atLeast = Unit
+IsPlain equal = Unit
+IsPlain (Syntax.between h) = ⊥
 
 -- ---- what is written
 
@@ -61,6 +69,7 @@ pub data Phrase : Type 0 where
   sigma : Term → Phrase
   body : Form → Phrase
   side : Side → Phrase
+  floor : Relation → Phrase  -- behind the right side
   constraint : Constraint → Phrase
   constraints : List Constraint → Phrase
   indexList : List ℕ → Phrase  -- and the `]`
@@ -142,10 +151,14 @@ module _ (names : List Name) where
         → Writes (run i f g) l → Writes (body h) k → Writes (sigma (Syntax.sigma i f g h p)) (mark sigmaWord at p ∷ l ++ (k ++ (mark closes at q ∷ [])))
     innerSigma : {t : Term} {l : List Token} → Writes (sigma t) l → Writes (body (also false t Syntax.end)) l
     innerForm : {s : Bool} {f : Form} {l : List Token} → Writes (linearForm false s f) l → Writes (body f) l
-    -- Constraint: string, linear form, one of `<= >= =`, formula, optional domain
-    oneConstraint : {s : List ℕ} {left : Side} {right : Formula} {d : Spans} {a b c : List Token} (p q : ℕ) (r : Relation)
-        → Writes (side left) a → Writes (formula right) b → Writes (anyDomain d) c
-        → Writes (constraint (record { title = s; place = p; left = left; relation = r; right = right; domain = d })) (string s at p ∷ a ++ (mark (relationSign r) at q ∷ b ++ c))
+    -- Constraint: string, linear form, one of `<= >= =`, formula, optional floor, optional domain
+    oneConstraint : {s : List ℕ} {left : Side} {right : Formula} {d : Spans} {a b c e : List Token} (p q : ℕ) (r : Relation)
+        → Writes (side left) a → Writes (formula right) b → Writes (floor r) c → Writes (anyDomain d) e
+        → Writes (constraint (record { title = s; place = p; left = left; relation = r; right = right; domain = d })) (string s at p ∷ a ++ (mark (relationSign r) at q ∷ b ++ (c ++ e)))
+    -- behind the right side of a `<=`: nothing, or `,`, `>=` and a formula; behind any other nothing
+    noFloor : {r : Relation} → IsPlain r → Writes (floor r) []
+    aFloor : {h : Formula} {l : List Token} (p q : ℕ)
+        → Writes (formula h) l → Writes (floor (Syntax.between h)) (mark comma at p ∷ mark Marks.atLeast at q ∷ l)
     -- its left side is one variable without sign or factor, or a linear form with a sign in front, a factor, a sigma or a second term
     alone : {i p : ℕ} {d : Spans} {fs : Formulas} {l : List Token} → Writes (variable i d fs p) l → Writes (side (bare i d fs p)) l
     withSign : {f : Form} {l : List Token} → Writes (linearForm true true f) l → Writes (side (form f)) l

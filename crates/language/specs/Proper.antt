@@ -8,8 +8,8 @@ use Rattle.rules.specs.Limits.{mantissaLimit}
 use Rattle.value.specs.declared.Value.{Value}
 use Rattle.value.specs.Decimal.{Valid}
 use Rattle.language.specs.All.{All}
-use Rattle.language.specs.Valid.{SmallElement, ValidUpper}
-use Rattle.language.specs.Listing.{Line, lpLine, rowLine, varLine, colLine, endLine}
+use Rattle.language.specs.Valid.{SmallElement, ValidIfAny}
+use Rattle.language.specs.Listing.{Line, lpLine, rowLine, lowLine, varLine, colLine, endLine}
 
 pub record Visible (b : ℕ) : Type 0 where
   pub least : 32 ≤ b
@@ -33,10 +33,14 @@ pub record ProperRow (n : ℕ) (v : Value) (s : List ℕ) (e : List ℤ) : Type 
   pub title : Text s
   pub element : SmallElement e
 
+pub record ProperFloor (n : ℕ) (v : Value) : Type 0 where
+  pub row : n ≤ mantissaLimit
+  pub floor : Valid v
+
 pub record ProperVariable (n : ℕ) (l : Value) (u : Option Value) (s : List ℕ) (e : List ℤ) : Type 0 where
   pub number : n ≤ mantissaLimit
   pub lower : Valid l
-  pub upper : ValidUpper u
+  pub upper : ValidIfAny u
   pub name : Text s
   pub element : SmallElement e
 
@@ -48,6 +52,7 @@ pub record ProperColumn (j i : ℕ) (v : Value) : Type 0 where
 abbrev pub Proper : Line → Type 0
 Proper (lpLine a b c d s t) = ProperFirst a b c d s t
 Proper (rowLine n q v s e) = ProperRow n v s e
+Proper (lowLine n v) = ProperFloor n v
 Proper (varLine n d l u s e) = ProperVariable n l u s e
 Proper (colLine j i v) = ProperColumn j i v
 Proper endLine = Unit

@@ -36,8 +36,10 @@ mutual
     variable : ℕ → Spans → Formulas → ℕ → Term  -- name, declared domain, subscripts, place
     sigma : ℕ → Formula → Formula → Form → ℕ → Term  -- index, lower, upper, body, place of `S`
 
+-- `between` is `<=` with a floor behind the right side, which the left side must not fall below (document 02, #104)
 pub data Relation : Type 0 where
   atMost atLeast equal : Relation
+  between : Formula → Relation
 
 -- a left side: one variable without sign or factor, which makes the constraint a bound; or any other form
 pub data Side : Type 0 where

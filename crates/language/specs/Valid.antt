@@ -49,14 +49,15 @@ abbrev pub ValidFact : Fact → Type 0
 ValidFact (bound j v) = Valid v
 ValidFact (row r v) = ValidRow r × Valid v
 
+-- an upper bound or a floor, which may be absent
+abbrev pub ValidIfAny : Option Value → Type 0
+ValidIfAny none = Unit
+ValidIfAny (some v) = Valid v
+
 pub record ValidEntry (e : Entry) : Type 0 where
   pub element : SmallElement (e .source .element)
   pub fact : ValidFact (e .fact)
-
--- `inf` is no value
-abbrev pub ValidUpper : Option Value → Type 0
-ValidUpper none = Unit
-ValidUpper (some v) = Valid v
+  pub floor : ValidIfAny (e .floor)
 
 pub record ValidProblem (p : Lp) : Type 0 where
   pub variables : All ValidVariable (p .variables)

@@ -12,9 +12,9 @@ use borrow.Rule.Slice.PartMut.{putMid}
 use Rattle.value.specs.declared.Value.{Value}
 use Rattle.value.specs.Printed.{printedWhole, Written}
 use Rattle.value.proofs.Writing.{written-none, written-then, shown-valid}
-use Rattle.language.specs.Listing.{Line, lpLine, rowLine, varLine, colLine, endLine, fields, upperField, bytesOf, bytesOfAll}
+use Rattle.language.specs.Listing.{Line, lpLine, rowLine, lowLine, varLine, colLine, endLine, fields, upperField, bytesOf, bytesOfAll}
 use Rattle.language.specs.All.{All}
-use Rattle.language.specs.Valid.{SmallElement, ValidUpper}
+use Rattle.language.specs.Valid.{SmallElement, ValidIfAny}
 use Rattle.language.specs.Proper.{Proper}
 use Rattle.language.proofs.Parts.{wordOf, fieldsOf, bytes-parts}
 use Rattle.listing.specs.Shown.{shownWhole, shownUpper, shownFields, shownLine, shownLines}
@@ -27,7 +27,7 @@ wholes-shown : (e : List ℤ) → SmallElement e → map shownWhole e ≡ map pr
 wholes-shown [] h = refl
 wholes-shown (k ∷ e) h = rw (whole-shown k (h .0), wholes-shown e (h .1))
 
-upper-shown : (u : Option Value) → ValidUpper u → shownUpper u ≡ upperField u
+upper-shown : (u : Option Value) → ValidIfAny u → shownUpper u ≡ upperField u
 unfolding shownUpper upperField
 upper-shown none h = refl
 upper-shown (some v) h = shown-valid v h
@@ -36,6 +36,7 @@ fields-shown : (k : Line) → Proper k → shownFields k ≡ fieldsOf k
 fields-shown (lpLine a b c d s t) h =
     cc (natural-shown a (h .discrete), natural-shown b (h .variables), natural-shown c (h .less), natural-shown d (h .rows))
 fields-shown (rowLine n q v s e) h = cc (natural-shown n (h .number), shown-valid v (h .right), wholes-shown e (h .element))
+fields-shown (lowLine n v) h = cc (natural-shown n (h .row), shown-valid v (h .floor))
 fields-shown (varLine n d l u s e) h =
     cc (natural-shown n (h .number), shown-valid l (h .lower), upper-shown u (h .upper), wholes-shown e (h .element))
 fields-shown (colLine j i v) h = cc (natural-shown j (h .variable), natural-shown i (h .row), shown-valid v (h .coefficient))
@@ -56,6 +57,10 @@ pub lines-append : (ks ls : List Line) → shownLines (ks ++ ls) ≡ shownLines 
 unfolding shownLines
 lines-append [] ls = refl
 lines-append (k ∷ ks) ls = ap (λ r. shownLine k ++ r) (lines-append ks ls) ∙ sym (append-assoc (shownLine k) (shownLines ks) (shownLines ls))
+
+pub lines-join : (ks ls : List Line) {l : List ℕ} {at r : ℕ} {l′ : List ℕ} {r′ : ℕ} {l″ : List ℕ} → Written l at (shownLines ks) r l′ → Written l′ r (shownLines ls) r′ l″
+    → Written l at (shownLines (ks ++ ls)) r′ l″
+lines-join ks ls w v = rw (lines-append ks ls) (written-then _ _ _ _ _ _ _ _ w v)
 
 pub lines-none : (l : List ℕ) (at : ℕ) → Written l at (shownLines []) at l
 unfolding shownLines

@@ -1,7 +1,7 @@
 -- Laws of what is shown of a number or a value: how long it is, and that it is what the definition prints.
 use mathlib.Core.Path.{_≡_, refl, sym, _∙_, ap}
-use mathlib.Core.Bool.{Bool, true, false}
-use mathlib.Core.List.{List, [], _++_}
+use mathlib.Core.Bool.{Bool, true, false, cond}
+use mathlib.Core.List.{List, [], _∷_, _++_}
 use Prim.Native.Nat.{ℕ, zero, suc, _+_, _/_, _^_, _<_, _≤_}
 use native.Mathlib.Omega.{arith}
 use borrow.Author.Tests.{le-leb, lt-leb}
@@ -11,7 +11,7 @@ use mir.Facts.{toZ-pos}
 use lib.Dec.{leb}
 use lib.ListN.{length, take, length-append, length-take}
 use lib.IntN.{ℤ, pos, natAbs}
-use Rattle.rules.specs.Characters.{bytes}
+use Rattle.rules.specs.Characters.{code, bytes}
 use Rattle.rules.specs.Limits.{mantissaLimit, scaleLimit, byteLimit}
 use Rattle.value.specs.declared.Value.{Value}
 use Rattle.value.specs.Decimal.{inRange, ofWhole}
@@ -20,10 +20,15 @@ use Rattle.value.proofs.Ranges.{range-places}
 use Rattle.value.proofs.Writing.{length-digits, sign-short, shown-printed, shown-none}
 use Rattle.lexer.specs.View.{partOf}
 use Rattle.language.proofs.Figures.{natural-whole}
-use Rattle.rows.specs.declared.Upper.{Upper}
-use Rattle.rows.specs.declared.Upper.the-variants.{None, At}
+use Rattle.rows.specs.declared.End.{End}
+use Rattle.rows.specs.declared.End.the-variants.{None, At}
+use Rattle.language.specs.Listing.{kindBy, kindField}
+use Rattle.language.specs.Listing as Listing
+use Rattle.listing.specs.declared.Kind.{Kind}
+use Rattle.listing.specs.declared.Kind.the-variants.{Less, Equal, Range}
+use Rattle.listing.specs.Kinds.{kindIn}
 use Rattle.listing.specs.Shown.{shownWhole, shownNatural, shownUpper}
-use Rattle.rows.specs.Upper.{bound}
+use Rattle.rows.specs.End.{endOf}
 
 -- ---- lengths
 
@@ -90,13 +95,42 @@ module _ (n : ℕ) where
 
 -- ---- an upper bound
 
-pub upper-none : (u : Upper) → u ≡ None → shownUpper (bound u) ≡ bytes "inf"
-unfolding shownUpper bound
+pub upper-none : (u : End) → u ≡ None → shownUpper (endOf u) ≡ bytes "inf"
+unfolding shownUpper endOf
 upper-none u e = rw e
 
-pub upper-at : (u : Upper) (v : Value) → u ≡ At v → shownUpper (bound u) ≡ shown v
-unfolding shownUpper bound
+pub upper-at : (u : End) (v : Value) → u ≡ At v → shownUpper (endOf u) ≡ shown v
+unfolding shownUpper endOf
 upper-at u v e = rw e
+
+-- ---- the letter of a kind
+
+module _ (k : Kind) where
+  pub letter-less : k ≡ Less → code "L" ∷ [] ≡ kindField (kindIn k)
+  unfolding kindField kindIn
+  letter-less e = rw e
+
+  pub letter-equal : k ≡ Equal → code "E" ∷ [] ≡ kindField (kindIn k)
+  unfolding kindField kindIn
+  letter-equal e = rw e
+
+  pub letter-range : k ≡ Range → code "R" ∷ [] ≡ kindField (kindIn k)
+  unfolding kindField kindIn
+  letter-range e = rw e
+
+-- the kind of a row, by whether it is one of `=` and by its floor
+module _ (b : Bool) (o : End) where
+  pub kind-equal : b ≡ true → kindIn Equal ≡ cond b Listing.equal (kindBy (endOf o))
+  unfolding kindIn
+  kind-equal e = rw e
+
+  pub kind-less : b ≡ false → o ≡ None → kindIn Less ≡ cond b Listing.equal (kindBy (endOf o))
+  unfolding kindIn endOf
+  kind-less e f = rw (e, f)
+
+  pub kind-range : (v : Value) → b ≡ false → o ≡ At v → kindIn Range ≡ cond b Listing.equal (kindBy (endOf o))
+  unfolding kindIn endOf
+  kind-range v e f = rw (e, f)
 
 -- ---- a string that is cut
 

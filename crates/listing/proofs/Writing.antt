@@ -17,7 +17,7 @@ use Rattle.rules.specs.Characters.{code, bytes, tab, lineFeed}
 use Rattle.value.specs.declared.Value.{Value}
 use Rattle.value.specs.Printed.{shown, Written}
 use Rattle.value.proofs.Writing.{written-none, written-then, written-rest}
-use Rattle.language.specs.Listing.{Line, endLine, fields}
+use Rattle.language.specs.Listing.{Kind, Line, endLine, kindField, fields}
 use Rattle.language.proofs.Parts.{wordOf}
 use Rattle.listing.specs.Shown.{shownNatural, shownUpper, shownFields, shownLine, shownRefused}
 use Rattle.listing.specs.Bare.{bareRow, bareVariable}
@@ -71,8 +71,8 @@ pub refused-then : (n p : ℕ) {l : List ℕ} {r : ℕ} {l′ : List ℕ} {r′ 
 unfolding shownRefused
 refused-then n p w v = written-then _ _ _ _ _ _ _ _ w v
 
-pub row-then : (n : ℕ) (q : Bool) (v : Value) {l : List ℕ} {r : ℕ} {l′ : List ℕ} {r′ : ℕ} {l″ : List ℕ}
-    → Written l 0 (bytes "row") r l′ → Written l′ r (fields (shownNatural n ∷ (cond q (code "E") (code "L") ∷ []) ∷ shown v ∷ [])) r′ l″ → Written l 0 (bareRow n q v) r′ l″
+pub row-then : (n : ℕ) (q : Kind) (v : Value) {l : List ℕ} {r : ℕ} {l′ : List ℕ} {r′ : ℕ} {l″ : List ℕ}
+    → Written l 0 (bytes "row") r l′ → Written l′ r (fields (shownNatural n ∷ kindField q ∷ shown v ∷ [])) r′ l″ → Written l 0 (bareRow n q v) r′ l″
 unfolding bareRow
 row-then n q v w x = written-then _ _ _ _ _ _ _ _ w x
 

@@ -1,6 +1,7 @@
 pub mod Cells
 pub mod Coefficients
 pub mod Words
+pub mod Groups
 pub mod Writing
 pub mod Texts
 pub mod Slots

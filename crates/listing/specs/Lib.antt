@@ -1,3 +1,4 @@
 pub mod Shown
+pub mod Kinds
 pub mod Bare
 pub mod Sheet

@@ -9,7 +9,7 @@ use Rattle.rules.specs.Characters.{code, bytes}
 use Rattle.value.specs.declared.Value.{Value}
 use Rattle.value.specs.Decimal.{ofWhole}
 use Rattle.value.specs.Printed.{shown}
-use Rattle.language.specs.Listing.{Line, lpLine, rowLine, varLine, colLine, endLine, fields}
+use Rattle.language.specs.Listing.{Line, lpLine, rowLine, lowLine, varLine, colLine, endLine, kindField, fields}
 use Rattle.language.proofs.Parts.{wordOf}
 
 unfoldable pub shownWhole : ℤ → List ℕ
@@ -24,7 +24,8 @@ shownUpper (some v) = shown v
 
 abbrev pub shownFields : Line → List (List ℕ)
 shownFields (lpLine a b c d s t) = shownNatural a ∷ shownNatural b ∷ shownNatural c ∷ shownNatural d ∷ s ∷ t ∷ []
-shownFields (rowLine n q v s e) = shownNatural n ∷ (cond q (code "E") (code "L") ∷ []) ∷ shown v ∷ s ∷ map shownWhole e
+shownFields (rowLine n q v s e) = shownNatural n ∷ kindField q ∷ shown v ∷ s ∷ map shownWhole e
+shownFields (lowLine n v) = shownNatural n ∷ shown v ∷ []
 shownFields (varLine n d l u s e) = shownNatural n ∷ (cond d (code "D") (code "C") ∷ []) ∷ shown l ∷ shownUpper u ∷ s ∷ map shownWhole e
 shownFields (colLine j i v) = shownNatural j ∷ shownNatural i ∷ shown v ∷ []
 shownFields endLine = []

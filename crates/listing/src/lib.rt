@@ -13,9 +13,10 @@ ghost use Rattle.rules.specs.Characters.{tab};
 ghost use Rattle.rules.specs.Limits.{byteLimit};
 ghost use Rattle.value.specs.Printed.{shown, Written};
 ghost use Rattle.store.specs.Element.{listOf};
-ghost use Rattle.language.specs.Listing.{lpLine, rowLine, varLine, colLine, endLine, fields};
+ghost use Rattle.language.specs.Listing.{lpLine, rowLine, lowLine, varLine, colLine, endLine, kindField, fields};
 ghost use Rattle.listing.specs.Shown.{shownWhole, shownNatural, shownUpper, shownLine, shownRefused};
-ghost use Rattle.rows.specs.Upper.{bound};
+ghost use Rattle.listing.specs.Kinds.{kindIn};
+ghost use Rattle.rows.specs.End.{endOf};
 
 // ---- bytes at a place, which may lie past the output's end. No place overflows: a text is shorter than 2^63 bytes, and what
 // stands before and after it in a line is short
@@ -94,6 +95,30 @@ fn letter_field(out: &mut [u8], at: usize, b: u8) -> usize
     put(out, next, b)
 }
 
+// What a row is: of `<=` or `>=`, of `=`, or with a floor.
+pub enum Kind {
+    Less,
+    Equal,
+    Range,
+}
+
+fn kind_letter(kind: Kind) -> u8
+    ensures { λ r. ⌜ r ∷ [] ≡ kindField (kindIn kind) ⌝ }
+{
+    match kind {
+        Kind::Less => b'L',
+        Kind::Equal => b'E',
+        Kind::Range => b'R',
+    }
+}
+
+fn kind_field(out: &mut [u8], at: usize, kind: Kind) -> usize
+    requires { ⌜ at < 2 ^ 31 ⌝ }
+    ensures { λ r. ⌜ (Written (now (out .entry)) at (tab ∷ kindField (kindIn kind)) r (now (out .exit))) × (r ≤ at + 32) ⌝ }
+{
+    letter_field(out, at, kind_letter(kind))
+}
+
 fn value_field(out: &mut [u8], at: usize, v: value::Value) -> usize
     requires { ⌜ at < 2 ^ 63 + 2 ^ 31 ⌝ }
     ensures { λ r. ⌜ (Written (now (out .entry)) at (tab ∷ shown v) r (now (out .exit))) × (r ≤ at + 32) ⌝ }
@@ -120,13 +145,13 @@ fn number_field(out: &mut [u8], at: usize, n: usize) -> usize
     put(out, at, b'\t')
 }
 
-fn upper_field(out: &mut [u8], at: usize, upper: rows::Upper) -> usize
+fn upper_field(out: &mut [u8], at: usize, upper: rows::End) -> usize
     requires { ⌜ at < 2 ^ 31 ⌝ }
-    ensures { λ r. ⌜ (Written (now (out .entry)) at (tab ∷ shownUpper (bound upper)) r (now (out .exit))) × (r ≤ at + 32) ⌝ }
+    ensures { λ r. ⌜ (Written (now (out .entry)) at (tab ∷ shownUpper (endOf upper)) r (now (out .exit))) × (r ≤ at + 32) ⌝ }
 {
     match upper {
-        rows::Upper::None => text_field(out, at, b"inf"),
-        rows::Upper::At(v) => value_field(out, at, v),
+        rows::End::None => text_field(out, at, b"inf"),
+        rows::End::At(v) => value_field(out, at, v),
     }
 }
 
@@ -170,32 +195,42 @@ pub fn lp(
 
 pub fn row(
     number: usize,
-    equal: bool,
+    kind: Kind,
     right: value::Value,
     title: &[u8],
     e: store::Element,
     out: &mut [u8],
 ) -> usize
-    ensures { λ r. ⌜ Written (now (out .entry)) 0 (shownLine (rowLine number equal right (now (title .entry)) (listOf e))) r (now (out .exit)) ⌝ }
+    ensures { λ r. ⌜ Written (now (out .entry)) 0 (shownLine (rowLine number (kindIn kind) right (now (title .entry)) (listOf e))) r (now (out .exit)) ⌝ }
 {
     let at = put_text(out, 0, b"row");
     let at = number_field(out, at, number);
-    let at = letter_field(out, at, letter(equal, b'E', b'L'));
+    let at = kind_field(out, at, kind);
     let at = value_field(out, at, right);
     let at = text_field(out, at, title);
     element_fields(out, at, e)
+}
+
+// The floor of a row.
+pub fn low(row: usize, v: value::Value, out: &mut [u8]) -> usize
+    ensures { λ r. ⌜ Written (now (out .entry)) 0 (shownLine (lowLine row v)) r (now (out .exit)) ⌝ }
+{
+    let at = put_text(out, 0, b"low");
+    let at = number_field(out, at, row);
+    let at = value_field(out, at, v);
+    put(out, at, b'\n')
 }
 
 pub fn variable(
     number: usize,
     discrete: bool,
     lower: value::Value,
-    upper: rows::Upper,
+    upper: rows::End,
     name: &[u8],
     e: store::Element,
     out: &mut [u8],
 ) -> usize
-    ensures { λ r. ⌜ Written (now (out .entry)) 0 (shownLine (varLine number discrete lower (bound upper) (now (name .entry)) (listOf e))) r (now (out .exit)) ⌝ }
+    ensures { λ r. ⌜ Written (now (out .entry)) 0 (shownLine (varLine number discrete lower (endOf upper) (now (name .entry)) (listOf e))) r (now (out .exit)) ⌝ }
 {
     let at = put_text(out, 0, b"var");
     let at = number_field(out, at, number);

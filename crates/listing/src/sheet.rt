@@ -3,16 +3,20 @@
 use constraints::layout;
 use evaluator::steps::names;
 ghost use mathlib.Core.Path.{_≡_};
+ghost use mathlib.Core.Bool.{cond};
 ghost use Prim.Native.Nat.{_+_, _<_, _≤_, _^_};
 ghost use lib.ListN.{length};
 ghost use Rattle.value.specs.Printed.{Written};
 ghost use Rattle.lexer.specs.View.{partOf};
-ghost use Rattle.language.specs.Listing.{lpLine, colLine, endLine};
+ghost use Rattle.language.specs.Listing.{lpLine, colLine, endLine, kindBy, lowLines};
+ghost use Rattle.language.specs.Listing as Listing;
 ghost use Rattle.listing.specs.Shown.{shownLine, shownLines};
 ghost use Rattle.rows.specs.Read.{valueOf};
+ghost use Rattle.rows.specs.End.{endOf};
+ghost use Rattle.listing.specs.Kinds.{kindIn};
 ghost use Rattle.listing.specs.Sheet.Columns.{cellLines, columnFrom, columnsFrom};
 ghost use Rattle.listing.specs.Sheet.Strings.{nameAt, stringAt, titleOf, within};
-ghost use Rattle.listing.specs.Sheet.Told.{RowTold, VariableTold, Writes, WritesAll};
+ghost use Rattle.listing.specs.Sheet.Told.{RowAlone, RowTold, VariableTold, Writes, WritesAll};
 ghost use Rattle.listing.specs.Sheet.Shown.{Lists};
 
 // Whether a text of n bytes and a problem of these sizes are within the limits.
@@ -88,6 +92,56 @@ fn last_line(out: &mut [u8], at: usize) -> usize
 
 // ---- rows
 
+// The kind of a row, by whether it is one of `=` and by its floor.
+pub fn kind_of(equal: bool, floor: rows::End) -> super::Kind
+    ensures { λ r. ⌜ kindIn r ≡ cond equal Listing.equal (kindBy (endOf floor)) ⌝ }
+{
+    if equal {
+        return super::Kind::Equal;
+    }
+    match floor {
+        rows::End::None => super::Kind::Less,
+        rows::End::At(v) => super::Kind::Range,
+    }
+}
+
+// The line of a floor, if there is one.
+fn floor_line(row: usize, floor: rows::End, out: &mut [u8], at: usize) -> usize
+    requires { ⌜ at < 2 ^ 41 ⌝ }
+    ensures { λ r. ⌜ (Written (now (out .entry)) at (shownLines (lowLines row (endOf floor))) r (now (out .exit))) × (r ≤ at + 128) ⌝ }
+{
+    match floor {
+        rows::End::None => at,
+        rows::End::At(v) => {
+            let from = super::rest_from(out.len(), at);
+            at + super::low(row, v, &mut out[from..])
+        }
+    }
+}
+
+// The line of the row in slot k, of a number and a kind, without its floor's.
+fn row_alone(
+    text: &[u8],
+    tokens: &[u64],
+    constraints: &[u64],
+    rows: &[u64],
+    k: usize,
+    number: usize,
+    kind: super::Kind,
+    out: &mut [u8],
+    at: usize,
+) -> usize
+    requires { ⌜ (length (now text) ≤ 16384) × (at < 2 ^ 40) ⌝ }
+    ensures { λ r. ⌜ Writes 32000 (RowAlone (now (text .entry)) (now (tokens .entry)) (now (constraints .entry)) (now (rows .entry)) k number (kindIn kind)) (now (out .entry)) at r (now (out .exit)) ⌝ }
+{
+    let right = store::unpack(store::word_at(rows, k));
+    let title = title_of(text, tokens, constraints, store::name_at(rows, k));
+    let e = store::element_at(rows, k);
+    let from = super::rest_from(out.len(), at);
+    at + super::row(number, kind, right, title, e, &mut out[from..])
+}
+
+// The lines of row i: its own, and that of its floor.
 fn row_line(
     text: &[u8],
     tokens: &[u64],
@@ -99,14 +153,13 @@ fn row_line(
     at: usize,
 ) -> usize
     requires { ⌜ (length (now text) ≤ 16384) × (i < 512) × (at < 2 ^ 40) ⌝ }
-    ensures { λ r. ⌜ Writes (RowTold (now (text .entry)) (now (tokens .entry)) (now (constraints .entry)) (now (rows .entry)) less i) (now (out .entry)) at r (now (out .exit)) ⌝ }
+    ensures { λ r. ⌜ Writes 32768 (RowTold (now (text .entry)) (now (tokens .entry)) (now (constraints .entry)) (now (rows .entry)) less i) (now (out .entry)) at r (now (out .exit)) ⌝ }
 {
     let k = rows::slot(less, i);
-    let right = store::unpack(store::word_at(rows, k));
-    let title = title_of(text, tokens, constraints, store::name_at(rows, k));
-    let e = store::element_at(rows, k);
-    let from = super::rest_from(out.len(), at);
-    at + super::row(i + 1, less <= i, right, title, e, &mut out[from..])
+    let floor = rows::floor_of(rows, k);
+    let kind = kind_of(less <= i, floor);
+    let next = row_alone(text, tokens, constraints, rows, k, i + 1, kind, out, at);
+    floor_line(i + 1, floor, out, next)
 }
 
 // The lines of n rows, of which the first `less` are those of `<=` and `>=`.
@@ -145,7 +198,7 @@ fn variable_line(
     at: usize,
 ) -> usize
     requires { ⌜ (length (now text) ≤ 16384) × (j < 512) × (at < 2 ^ 40) ⌝ }
-    ensures { λ r. ⌜ Writes (VariableTold (now (text .entry)) (now (names .entry)) (now (variables .entry)) (now (bounds .entry)) discrete j) (now (out .entry)) at r (now (out .exit)) ⌝ }
+    ensures { λ r. ⌜ Writes 32768 (VariableTold (now (text .entry)) (now (names .entry)) (now (variables .entry)) (now (bounds .entry)) discrete j) (now (out .entry)) at r (now (out .exit)) ⌝ }
 {
     let lower = rows::lower_of(bounds, j);
     let upper = rows::upper_of(bounds, j);

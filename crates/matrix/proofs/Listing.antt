@@ -143,7 +143,7 @@ module _ (ns ts ds : List ℕ) (given : ℕ) (xs : List ℕ) (total : ℕ) (cs :
   pub record AllOn (f : Filled) (t b : List ℕ) (m : List ℤ) (k : ℕ) : Type 0 where
     pub few : total ≤ 512
     pub rowed : 320 ≤ length cs
-    pub room : 2048 ≤ length t
+    pub room : 4104 ≤ length t
     pub words : 1024 ≤ length b
     pub wide : 263168 ≤ length m
     pub slots : length t ≡ length t₀
@@ -154,7 +154,7 @@ module _ (ns ts ds : List ℕ) (given : ℕ) (xs : List ℕ) (total : ℕ) (cs :
     on : (w : Model ns ts ds given xs total) → count ≤ constraintLimit → (l : List Constraint) → Rows (w .world .text) ts (rowsOf count cs) (w .world .names) l
         → ((i : ℕ) → getD b₀ i 0 ≡ 0) → AllAt w l f t b m k
 
-  pub all-start : total ≤ 512 → 320 ≤ length cs → 2048 ≤ length t₀ → 1024 ≤ length b₀ → 263168 ≤ length m₀ → AllOn (record { less = 0; equal = 0 }) t₀ b₀ m₀ 0
+  pub all-start : total ≤ 512 → 320 ≤ length cs → 4104 ≤ length t₀ → 1024 ≤ length b₀ → 263168 ≤ length m₀ → AllOn (record { less = 0; equal = 0 }) t₀ b₀ m₀ 0
   all-start a b c d e =
       record {
         few = a;

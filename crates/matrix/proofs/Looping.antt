@@ -68,7 +68,7 @@ module _ (ns ts ds : List ℕ) (given : ℕ) (xs : List ℕ) (total : ℕ) where
 
     pub record RowsOn (f : Filled) (t : List ℕ) (m : List ℤ) (r : Step) : Type 0 where
       pub few : total ≤ 512
-      pub room : 2048 ≤ length t
+      pub room : 4104 ≤ length t
       pub wide : 263168 ≤ length m
       pub slots : length t ≡ length t₀
       pub counts : length m ≡ length m₀
@@ -76,7 +76,7 @@ module _ (ns ts ds : List ℕ) (given : ℕ) (xs : List ℕ) (total : ℕ) where
       on : (w : Model ns ts ds given xs total) (c : Constraint) → Takes ns ts ds given xs total w n c p → isBare (c .left) ≡ false
           → (b : List ℕ) (es : List Entry) → State (w .variables) t₀ m₀ b f₀ es → RowsAt w c b es f t m r
 
-    pub rows-start : (r : Step) → FirstIs ns ts ds given 64 (p .count) (p .at) r → total ≤ 512 → 2048 ≤ length t₀ → 263168 ≤ length m₀ → RowsOn f₀ t₀ m₀ r
+    pub rows-start : (r : Step) → FirstIs ns ts ds given 64 (p .count) (p .at) r → total ≤ 512 → 4104 ≤ length t₀ → 263168 ≤ length m₀ → RowsOn f₀ t₀ m₀ r
     rows-start r i x y z = record { few = x; room = y; wide = z; slots = refl; counts = refl; stays = refl; on = λ w c k b bs es st. record { entries = es; state = st; remains = left-start w n c p k r i es } }
 
     module _ (f : Filled) (t : List ℕ) (m : List ℤ) (r : Step) (s : RowsOn f t m r) where

@@ -1,2 +1,3 @@
+pub mod EndLaws
 pub mod Bounds
 pub mod RowLaws

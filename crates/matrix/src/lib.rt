@@ -11,7 +11,7 @@ use evaluator::steps::scope::Scope;
 use parts::Parts;
 use rows::Filled;
 use sides::Bounded;
-use sides::Right;
+use sides::Ends;
 use store::Element;
 ghost use mathlib.Core.Path.{_≡_};
 ghost use Prim.Native.Nat.{_≤_};
@@ -43,7 +43,7 @@ fn row(
     slots: &mut [u64],
     counts: &mut [i64],
 ) -> Generated
-    requires { ⌜ (total ≤ 512) × (2048 ≤ length (now slots)) × (263168 ≤ length (now counts)) ⌝ }
+    requires { ⌜ (total ≤ 512) × (4104 ≤ length (now slots)) × (263168 ≤ length (now counts)) ⌝ }
     ensures { λ r. ⌜ RowAdds (now (names .entry)) (now (tokens .entry)) (now (table .entry)) given (now (variables .entry)) total k parts scope (listOf e) filled (now (slots .entry)) (now (counts .entry)) r (now (slots .exit)) (now (counts .exit)) ⌝ }
 {
     let equal = parts.equal;
@@ -65,17 +65,18 @@ fn row(
         cx,
         parts.left,
         parts.right,
+        parts.floor,
         parts.flips,
         &mut counts[a..b],
     );
     match side {
-        Right::At(v) => {
+        Ends::At(v, w) => {
             if !rows::has_room(filled) {
                 return Generated::Refused(rules::Refusal::Full, parts.place);
             }
-            Generated::Of(rows::write(slots, filled, equal, k, e, v))
+            Generated::Of(rows::write(slots, filled, equal, k, e, v, w))
         }
-        Right::Refused(n, p) => Generated::Refused(n, p),
+        Ends::Refused(n, p) => Generated::Refused(n, p),
     }
 }
 
@@ -93,7 +94,7 @@ fn rows_of(
     slots: &mut [u64],
     counts: &mut [i64],
 ) -> Generated
-    requires { ⌜ (total ≤ 512) × (2048 ≤ length (now slots)) × (263168 ≤ length (now counts)) ⌝ }
+    requires { ⌜ (total ≤ 512) × (4104 ≤ length (now slots)) × (263168 ≤ length (now counts)) ⌝ }
     ensures { λ r. ⌜ RowsAdd (now (names .entry)) (now (tokens .entry)) (now (table .entry)) given (now (variables .entry)) total k parts filled (now (slots .entry)) (now (counts .entry)) r (now (slots .exit)) (now (counts .exit)) ⌝ }
 {
     let scope = Scope::none();
@@ -167,10 +168,12 @@ fn bound(
         cx,
         parts.left,
         parts.right,
+        parts.floor,
     );
     match stated {
-        Bounded::At(j, v) => {
+        Bounded::At(j, v, w) => {
             rows::state(bounds, j, parts.lower, parts.upper, v);
+            rows::state_floor(bounds, j, w);
             Passed::Inside
         }
         Bounded::Refused(n, p) => Passed::Refused(n, p),
@@ -245,7 +248,7 @@ fn one(
     bounds: &mut [u64],
     counts: &mut [i64],
 ) -> Generated
-    requires { ⌜ (total ≤ 512) × (2048 ≤ length (now slots)) × (1024 ≤ length (now bounds)) × (263168 ≤ length (now counts)) ⌝ }
+    requires { ⌜ (total ≤ 512) × (4104 ≤ length (now slots)) × (1024 ≤ length (now bounds)) × (263168 ≤ length (now counts)) ⌝ }
     ensures { λ r. ⌜ OneAdds (now (names .entry)) (now (tokens .entry)) (now (table .entry)) given (now (variables .entry)) total (now (constraints .entry)) k filled (now (slots .entry)) (now (bounds .entry)) (now (counts .entry)) r (now (slots .exit)) (now (bounds .exit)) (now (counts .exit)) ⌝ }
 {
     let parts = parts::read(tokens, constraints, k);
@@ -285,7 +288,7 @@ fn all(
     bounds: &mut [u64],
     counts: &mut [i64],
 ) -> Generated
-    requires { ⌜ (total ≤ 512) × (2048 ≤ length (now slots)) × (1024 ≤ length (now bounds)) × (263168 ≤ length (now counts)) × (320 ≤ length (now constraints)) ⌝ }
+    requires { ⌜ (total ≤ 512) × (4104 ≤ length (now slots)) × (1024 ≤ length (now bounds)) × (263168 ≤ length (now counts)) × (320 ≤ length (now constraints)) ⌝ }
     ensures { λ r. ⌜ AllAdd (now (names .entry)) (now (tokens .entry)) (now (table .entry)) given (now (variables .entry)) total (now (constraints .entry)) count (now (bounds .entry)) (now (counts .entry)) r (now (slots .exit)) (now (bounds .exit)) (now (counts .exit)) ⌝ }
 {
     let mut f = Filled { less: 0, equal: 0 };
@@ -324,7 +327,7 @@ pub fn constraints(
     total: usize,
     constraints: &[u64; 320],
     count: usize,
-    slots: &mut [u64; 2048],
+    slots: &mut [u64; 4104],
     bounds: &mut [u64; 1024],
     counts: &mut [i64; 263168],
 ) -> Generated

@@ -6,8 +6,8 @@ use tokens::Seen;
 ghost use Rattle.matrix.specs.Parts.Parts.{PlaceIs, FirstIs, PartsAre};
 
 // A constraint's place, the positions of its sides and of the first entry of its domain, and how many entries there are. `bare`:
-// its left side is one variable; `flips`: both sides of its row are negated; `equal`: it is a row of `=`; `lower`, `upper`: what
-// its bound is.
+// its left side is one variable; `floor`: a floor follows its right side; `flips`: both sides of its row are negated; `equal`: it
+// is a row of `=`; `lower`, `upper`: which bound its right side is.
 pub struct Parts {
     pub place: u64,
     pub left: usize,
@@ -15,6 +15,7 @@ pub struct Parts {
     pub at: usize,
     pub count: usize,
     pub bare: bool,
+    pub floor: bool,
     pub flips: bool,
     pub equal: bool,
     pub lower: bool,
@@ -57,6 +58,7 @@ pub fn read(tokens: &[u64], constraints: &[u64], k: usize) -> Parts
     let mark = layout::relation_of(constraints, k);
     let bare = layout::is_bare(constraints, k);
     let right = layout::right_of(constraints, k);
+    let floor = layout::has_floor(constraints, k);
     let at = first_entry(tokens, layout::domain_of(constraints, k));
     let count = layout::entries_of(constraints, k);
     Parts {
@@ -66,6 +68,7 @@ pub fn read(tokens: &[u64], constraints: &[u64], k: usize) -> Parts
         at,
         count,
         bare,
+        floor,
         flips: mark == marks::AT_LEAST as u64,
         equal: mark == marks::EQUALS as u64,
         lower: mark != marks::AT_MOST as u64,

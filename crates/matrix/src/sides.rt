@@ -3,6 +3,7 @@
 use evaluator::Context;
 use evaluator::Passed;
 use evaluator::steps::names::Listed;
+use evaluator::steps::passing;
 use evaluator::steps::values;
 use evaluator::steps::values::Answer;
 use gatherer::Numbered;
@@ -11,18 +12,46 @@ use tokens::Seen;
 use value::Value;
 ghost use mathlib.Core.List.{map};
 ghost use Rattle.language.specs.Numbering.{signed};
-ghost use Rattle.matrix.specs.Sides.Answers.{NumberOf, BoundIs, GathersTo, asIs, Turns, RightIs};
+ghost use Rattle.matrix.specs.Sides.Answers.{EndsAre, NumberOf, BoundIs, GathersTo, asIs, Turns, RightIs};
 
-// A variable's number from 0 and the right side.
+// A variable's number from 0, the right side, and the word of the floor.
 pub enum Bounded {
-    At(usize, Value),
+    At(usize, Value, u64),
     Refused(rules::Refusal, u64),
 }
 
-// The right side of a row.
-pub enum Right {
-    At(Value),
+// The right side, and the word of the floor: 0 where there is none.
+pub enum Ends {
+    At(Value, u64),
     Refused(rules::Refusal, u64),
+}
+
+// The right side at a position and, where there is one, the floor behind it: two signs and a formula.
+fn ends_at(
+    names: &[u64],
+    tokens: &[u64],
+    table: &[u64],
+    cx: Context,
+    at: usize,
+    floor: bool,
+) -> Ends
+    ensures { λ r. ⌜ EndsAre floor (now (names .entry)) (now (tokens .entry)) (now (table .entry)) (cx .given) (cx .level) (cx .scope) at r ⌝ }
+{
+    let side = evaluator::value(names, tokens, table, cx, at);
+    match side {
+        Answer::Value(v, a) => {
+            if !floor {
+                return Ends::At(v, 0);
+            }
+            let b = passing::skip(tokens, a);
+            let low = evaluator::value(names, tokens, table, cx, passing::skip(tokens, b));
+            match low {
+                Answer::Value(w, c) => Ends::At(v, store::pack(w)),
+                Answer::Refused(n, p) => Ends::Refused(n, p),
+            }
+        }
+        Answer::Refused(n, p) => Ends::Refused(n, p),
+    }
 }
 
 // The number of the variable that is the left side at a position.
@@ -71,7 +100,8 @@ fn number_of(
     }
 }
 
-// The bound that a constraint states at an element: the left side, one variable, stands at `left`, the right side at `right`.
+// What a constraint states at an element: the left side, one variable, stands at `left`, the right side at `right`, and a floor
+// may follow it.
 pub fn bound_at(
     names: &[u64],
     tokens: &[u64],
@@ -81,16 +111,17 @@ pub fn bound_at(
     cx: Context,
     left: usize,
     right: usize,
+    floor: bool,
 ) -> Bounded
-    ensures { λ r. ⌜ BoundIs (now (names .entry)) (now (tokens .entry)) (now (table .entry)) (cx .given) (now (variables .entry)) total (cx .level) (cx .scope) left right r ⌝ }
+    ensures { λ r. ⌜ BoundIs floor (now (names .entry)) (now (tokens .entry)) (now (table .entry)) (cx .given) (now (variables .entry)) total (cx .level) (cx .scope) left right r ⌝ }
 {
     let which = number_of(names, tokens, table, variables, total, cx, left);
     match which {
         Numbered::Number(j, a) => {
-            let side = evaluator::value(names, tokens, table, cx, right);
-            match side {
-                Answer::Value(v, b) => Bounded::At(j, v),
-                Answer::Refused(n, p) => Bounded::Refused(n, p),
+            let ends = ends_at(names, tokens, table, cx, right, floor);
+            match ends {
+                Ends::At(v, w) => Bounded::At(j, v, w),
+                Ends::Refused(n, p) => Bounded::Refused(n, p),
             }
         }
         Numbered::Refused(n, p) => Bounded::Refused(n, p),
@@ -127,8 +158,8 @@ fn turn(negative: bool, counts: &mut [i64])
     }
 }
 
-// The row that a constraint gives at an element, both sides negated where `flips`: its counts, and its right side. The left side
-// stands at `left`, the right side at `right`.
+// The row that a constraint gives at an element, both sides negated where `flips`: its counts, its right side and its floor. The
+// left side stands at `left`, the right side at `right`, and a floor may follow it.
 pub fn row_at(
     names: &[u64],
     tokens: &[u64],
@@ -138,22 +169,23 @@ pub fn row_at(
     cx: Context,
     left: usize,
     right: usize,
+    floor: bool,
     flips: bool,
     counts: &mut [i64],
-) -> Right
-    ensures { λ r. ⌜ RightIs flips (now (names .entry)) (now (tokens .entry)) (now (table .entry)) (cx .given) (now (variables .entry)) total (cx .level) (cx .scope) left right (now (counts .entry)) r (now (counts .exit)) ⌝ }
+) -> Ends
+    ensures { λ r. ⌜ RightIs flips floor (now (names .entry)) (now (tokens .entry)) (now (table .entry)) (cx .given) (now (variables .entry)) total (cx .level) (cx .scope) left right (now (counts .entry)) r (now (counts .exit)) ⌝ }
 {
     let form = gather(names, tokens, table, variables, total, cx, left, counts);
     match form {
         Passed::Inside => {
             turn(flips, counts);
-            let side = evaluator::value(names, tokens, table, cx, right);
-            match side {
-                Answer::Value(v, a) => Right::At(values::signed(flips, v)),
-                Answer::Refused(n, p) => Right::Refused(n, p),
+            let ends = ends_at(names, tokens, table, cx, right, floor);
+            match ends {
+                Ends::At(v, w) => Ends::At(values::signed(flips, v), w),
+                Ends::Refused(n, p) => Ends::Refused(n, p),
             }
         }
-        Passed::Refused(n, p) => Right::Refused(n, p),
+        Passed::Refused(n, p) => Ends::Refused(n, p),
     }
 }
 

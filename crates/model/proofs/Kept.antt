@@ -47,14 +47,17 @@ module _ (s ts ts′ : List ℕ) (same : (at : ℕ) → from s ts′ at ≡ from
   form-kept a names f h = record { linear = h .linear; stands = stands-kept _ a (h .linear) (h .stands); form = h .form }
 
   row-kept : (row : List ℕ) (names : List Name) (x : Constraint) → RowOf s ts row names x → RowOf s ts′ row names x
+  unfolding stands-kept
   row-kept row names x h =
       record {
         title = stands-kept _ _ _ (h .title);
         left = record { linear = h .left .linear; stands = stands-kept _ _ _ (h .left .stands); side = h .left .side };
         relation = h .relation;
         bare = h .bare;
+        floor = h .floor;
         entries = h .entries;
         right = stands-kept _ _ _ (h .right);
+        floorStands = h .floorStands;
         domain = stands-kept _ _ _ (h .domain);
       }
 

@@ -2,6 +2,8 @@
 pub mod Stripped
 -- a value and its line
 pub mod Values
+-- rows with a floor
+pub mod Floors
 -- what is read is the text's sheet
 pub mod Sound
 -- every export is read

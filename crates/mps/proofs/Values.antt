@@ -38,14 +38,17 @@ module _ {A B : Type 0} where
   pub onward : (m : Option (Read A)) (f : A → Reader B) (a : Read A) (o : Option (Read B)) → m ≡ some a → f (a .what) (a .rest) ≡ o → follow m f ≡ o
   onward m f a o e k = ap (λ n. follow n f) e ∙ k
 
+pub word-taken : (w l : List ℕ) (q : Read (Unit {0})) → asRead (strip w l) ≡ some q → l ≡ w ++ q .rest
+word-taken w l q e = go (strip w l) refl e
+  where
+    go : (o : Option (List ℕ)) → strip w l ≡ o → asRead o ≡ some q → l ≡ w ++ q .rest
+    go none p e = absurd (none-some e)
+    go (some r) p e = strip-is w l r p ∙ ap (λ (a : Read (Unit {0})). w ++ a .rest) (some-injective e)
+
 module _ {B : Type 0} where
   -- a word
   pub after-word : {C : Type 0} (w l : List ℕ) (f : Unit {0} → Reader B) (q : Read B) → follow (asRead (strip w l)) f ≡ some q → ((r : List ℕ) → l ≡ w ++ r → f tt r ≡ some q → C) → C
-  after-word {C} w l f q e k = go (strip w l) refl e
-    where
-      go : (o : Option (List ℕ)) → strip w l ≡ o → follow (asRead o) f ≡ some q → C
-      go none p e = absurd (none-some e)
-      go (some r) p e = k r (strip-is w l r p) e
+  after-word w l f q e k = after (asRead (strip w l)) f q e λ a p e. k (a .rest) (word-taken w l a p) e
 
   pub past-word : (w r : List ℕ) (f : Unit {0} → Reader B) (o : Option (Read B)) → f tt r ≡ o → follow (asRead (strip w (w ++ r))) f ≡ o
   past-word w r f o k = ap (λ n. follow (asRead n) f) (strip-own w r) ∙ k

@@ -1,4 +1,5 @@
 -- The sheet of a generated problem, and the export of an accepted model.
+use mathlib.Core.Option.{Option}
 use mathlib.Core.List.{List, [], _∷_, map}
 use Prim.Native.Nat.{ℕ, zero, suc, _-_}
 use lib.ListN.{length, getD}
@@ -12,6 +13,9 @@ use Rattle.mps.specs.Export.{mpsOf}
 
 unfoldable pub entryRight : Entry → Value
 entryRight e = rightOf (e .fact)
+
+unfoldable pub entryFloor : Entry → Option Value
+entryFloor e = e .floor
 
 -- the coefficient of variable j, from 0, in a row
 unfoldable pub cellOf : ℕ → Entry → Value
@@ -30,7 +34,7 @@ each f (suc k) j = f j ∷ each f k (suc j)
 
 unfoldable pub sheetOf : Lp → Sheet
 sheetOf p = record {
-  less = length (lessRows p);
+  floors = map entryFloor (lessRows p);
   equal = length (equalRows p);
   discrete = each (columnAt p) (p .discrete) 0;
   continuous = each (columnAt p) (length (p .variables) - p .discrete) (p .discrete);

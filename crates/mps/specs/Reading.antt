@@ -2,7 +2,7 @@
 -- sheet whose export a text is, and nothing where there is none.
 use mathlib.Core.Bool.{Bool, true, false, cond}
 use mathlib.Core.Option.{Option, none, some}
-use mathlib.Core.List.{List, [], _∷_}
+use mathlib.Core.List.{List, [], _∷_, _++_}
 use Prim.Native.Nat.{ℕ, zero, suc, _+_, _-_}
 use lib.Dec.{eqb}
 use lib.ListN.{length}
@@ -16,7 +16,7 @@ use Rattle.value.specs.Printed.{printed}
 use Rattle.value.proofs.ReadBack.{readBack}
 use Rattle.lexer.specs.Text.{front, behind, sameBytes}
 use Rattle.mps.specs.Sheet.{Column, Bounds, Sheet}
-use Rattle.mps.specs.Export.{lessLine, equalLine, cellHead, objectiveHead, rightHead, lowerHead, upperHead, noUpperLine}
+use Rattle.mps.specs.Export.{lessLine, floorLine, equalLine, cellHead, floorCellHead, objectiveHead, rightHead, floorHead, lowerHead, upperHead, noUpperLine, valueLine}
 
 -- what is read, and the text that follows it
 pub record Read (A : Type 0) : Type 0 where
@@ -86,29 +86,58 @@ lineValue h = do
 
 -- ---- sections
 
--- how many rows of a kind are named, at most k, from row i on
-unfoldable pub countRows : (ℕ → List ℕ) → ℕ → ℕ → List ℕ → Read ℕ
-countRows line zero i l = record { what = 0; rest = l }
-countRows line (suc k) i l = elim (strip (line (suc i)) l) [
+-- whether a floor's line is here
+unfoldable pub floorHere : ℕ → List ℕ → Read Bool
+floorHere i l = elim (strip (floorLine (suc i)) l) [ none ↦ record { what = false; rest = l } | some r ↦ record { what = true; rest = r } ]
+
+-- rows from `<=` and `>=`, at most k, from row i on: which of them have a floor
+unfoldable pub lessRows : ℕ → ℕ → List ℕ → Read (List Bool)
+lessRows zero i l = record { what = []; rest = l }
+lessRows (suc k) i l = elim (strip (lessLine (suc i)) l) [
+  | none ↦ record { what = []; rest = l }
+  | some r ↦
+      let f = floorHere i r in
+      let q = lessRows k (suc i) (f .rest) in
+      record { what = f .what ∷ q .what; rest = q .rest }
+]
+
+-- how many rows from `=` are named, at most k, from row i on
+unfoldable pub equalRows : ℕ → ℕ → List ℕ → Read ℕ
+equalRows zero i l = record { what = 0; rest = l }
+equalRows (suc k) i l = elim (strip (equalLine (suc i)) l) [
   | none ↦ record { what = 0; rest = l }
   | some r ↦
-      let q = countRows line k (suc i) r in
+      let q = equalRows k (suc i) r in
       record { what = suc (q .what); rest = q .rest }
 ]
 
+-- whether the next row has a floor, and the rows that follow
+abbrev pub firstHas : List Bool → Bool
+firstHas [] = false
+firstHas (b ∷ bs) = b
+
+abbrev pub laterHave : List Bool → List Bool
+laterHave [] = []
+laterHave (b ∷ bs) = bs
+
+-- a coefficient again, in the row's floor, if it has one
+unfoldable pub repeated : Bool → ℕ → ℕ → Value → Reader (Unit {0})
+repeated false j i v = give tt
+repeated true j i v = expect (valueLine (floorCellHead (suc j) (suc i)) v)
+
 -- a coefficient, if its line is here, and those of the rows that follow; a line with a zero is none
-unfoldable pub cellBy : Reader (List Value) → List ℕ → Option (List ℕ) → Option (Read (List Value))
-cellBy m l none = follow (m l) (λ vs. give (zeroValue ∷ vs))
-cellBy m l (some r) = follow (readValue r) (λ v. unless (isZero v) (m >>= λ vs. give (v ∷ vs)))
+unfoldable pub cellBy : (Value → Reader (Unit {0})) → Reader (List Value) → List ℕ → Option (List ℕ) → Option (Read (List Value))
+cellBy again m l none = follow (m l) (λ vs. give (zeroValue ∷ vs))
+cellBy again m l (some r) = follow (readValue r) (λ v. unless (isZero v) (again v >>= λ _. m >>= λ vs. give (v ∷ vs)))
 
 -- the coefficients of variable j in k rows from row i on
-unfoldable pub readCells : ℕ → ℕ → ℕ → Reader (List Value)
-readCells j zero i = give []
-readCells j (suc k) i = λ l. cellBy (readCells j k (suc i)) l (strip (cellHead (suc j) (suc i)) l)
+unfoldable pub readCells : ℕ → ℕ → ℕ → List Bool → Reader (List Value)
+readCells j zero i bs = give []
+readCells j (suc k) i bs = λ l. cellBy (repeated (firstHas bs) j i) (readCells j k (suc i) (laterHave bs)) l (strip (cellHead (suc j) (suc i)) l)
 
-unfoldable pub readColumn : ℕ → ℕ → Reader Column
-readColumn rows j = do
-  vs ← readCells j rows 0
+unfoldable pub readColumn : List Bool → ℕ → ℕ → Reader Column
+readColumn bs rows j = do
+  vs ← readCells j rows 0 bs
   v ← lineValue (objectiveHead (suc j))
   give (record { cells = vs; objective = negate v })
 
@@ -118,27 +147,47 @@ columnsBy m ms l none = give [] l
 columnsBy m ms l (some r) = follow (m l) (λ c. ms >>= λ cs. give (c ∷ cs))
 
 -- at most k variables from variable j on, as far as lines of columns go
-unfoldable pub readColumns : ℕ → ℕ → ℕ → Reader (List Column)
-readColumns rows zero j = give []
-readColumns rows (suc k) j = λ l. columnsBy (readColumn rows j) (readColumns rows k (suc j)) l (strip (bytes " C") l)
+unfoldable pub readColumns : List Bool → ℕ → ℕ → ℕ → Reader (List Column)
+readColumns bs rows zero j = give []
+readColumns bs rows (suc k) j = λ l. columnsBy (readColumn bs rows j) (readColumns bs rows k (suc j)) l (strip (bytes " C") l)
 
 abbrev pub isNone : List Column → Bool
 isNone [] = true
 isNone (c ∷ cs) = false
 
-unfoldable pub discreteBy : ℕ → List ℕ → Option (List ℕ) → Option (Read (List Column))
-discreteBy rows l none = give [] l
-discreteBy rows l (some r) =
-    follow (readColumns rows variableLimit 0 r) (λ cs. unless (isNone cs) (expect (bytes " M 'MARKER' 'INTEND'\n") >>= λ _. give cs))
+unfoldable pub discreteBy : List Bool → ℕ → List ℕ → Option (List ℕ) → Option (Read (List Column))
+discreteBy bs rows l none = give [] l
+discreteBy bs rows l (some r) =
+    follow (readColumns bs rows variableLimit 0 r) (λ cs. unless (isNone cs) (expect (bytes " M 'MARKER' 'INTEND'\n") >>= λ _. give cs))
 
-unfoldable pub readDiscrete : ℕ → Reader (List Column)
-readDiscrete rows = λ l. discreteBy rows l (strip (bytes " M 'MARKER' 'INTORG'\n") l)
+unfoldable pub readDiscrete : List Bool → ℕ → Reader (List Column)
+readDiscrete bs rows = λ l. discreteBy bs rows l (strip (bytes " M 'MARKER' 'INTORG'\n") l)
 
-unfoldable pub readRights : ℕ → ℕ → Reader (List Value)
-readRights zero i = give []
-readRights (suc k) i = do
+-- a floor, if the row has one
+unfoldable pub readFloor : Bool → ℕ → Reader (Option Value)
+readFloor false i = give none
+readFloor true i = do
+  w ← lineValue (floorHead (suc i))
+  give (some w)
+
+-- the right sides and floors of the rows from `<=` and `>=`, from row i on
+pub record Sides : Type 0 where
+  pub rights : List Value
+  pub floors : List (Option Value)
+
+unfoldable pub readLess : ℕ → List Bool → Reader Sides
+readLess i [] = give (record { rights = []; floors = [] })
+readLess i (b ∷ bs) = do
   v ← lineValue (rightHead (suc i))
-  vs ← readRights k (suc i)
+  w ← readFloor b i
+  q ← readLess (suc i) bs
+  give (record { rights = v ∷ q .rights; floors = w ∷ q .floors })
+
+unfoldable pub readEqual : ℕ → ℕ → Reader (List Value)
+readEqual zero i = give []
+readEqual (suc k) i = do
+  v ← lineValue (rightHead (suc i))
+  vs ← readEqual k (suc i)
   give (v ∷ vs)
 
 unfoldable pub upperBy : ℕ → List ℕ → Option (List ℕ) → Option (Read (Option Value))
@@ -158,15 +207,15 @@ readBounds (suc k) j = do
 
 -- ---- the whole text
 
--- how many rows there are of either kind
+-- the rows of either kind
 pub record Kinds : Type 0 where
-  pub less : ℕ
+  pub less : List Bool  -- whether each has a floor
   pub equal : ℕ
 
 unfoldable pub readKinds : Reader Kinds
 readKinds = λ l.
-    let a = countRows lessLine rowLimit 0 l in
-    let b = countRows equalLine (rowLimit - a .what) (a .what) (a .rest) in
+    let a = lessRows rowLimit 0 l in
+    let b = equalRows (rowLimit - length (a .what)) (length (a .what)) (a .rest) in
     some (record { what = record { less = a .what; equal = b .what }; rest = b .rest })
 
 unfoldable pub readSheet : Reader Sheet
@@ -174,14 +223,15 @@ readSheet = do
   _ ← expect (bytes "NAME MODEL\nROWS\n N OBJ\n")
   n ← readKinds
   _ ← expect (bytes "COLUMNS\n")
-  ds ← readDiscrete (n .less + n .equal)
-  cs ← readColumns (n .less + n .equal) (variableLimit - length ds) (length ds)
+  ds ← readDiscrete (n .less) (length (n .less) + n .equal)
+  cs ← readColumns (n .less) (length (n .less) + n .equal) (variableLimit - length ds) (length ds)
   _ ← expect (bytes "RHS\n")
-  vs ← readRights (n .less + n .equal) 0
+  q ← readLess 0 (n .less)
+  vs ← readEqual (n .equal) (length (n .less))
   _ ← expect (bytes "BOUNDS\n")
   bs ← readBounds (length ds + length cs) 0
   _ ← expect (bytes "ENDATA\n")
-  give (record { less = n .less; equal = n .equal; discrete = ds; continuous = cs; rights = vs; bounds = bs })
+  give (record { floors = q .floors; equal = n .equal; discrete = ds; continuous = cs; rights = q .rights ++ vs; bounds = bs })
 
 -- nothing may follow
 abbrev pub alone : Option (Read Sheet) → Option Sheet

@@ -1,20 +1,23 @@
--- Request #101, what the reader of an export prints: a listing's `row`, `var` and `col` lines without strings, names and index values.
+-- Request #101, what the reader of an export prints: a listing's `row`, `low`, `var` and `col` lines without strings, names and index values.
 use mathlib.Core.Bool.{cond}
+use mathlib.Core.Option.{Option}
 use mathlib.Core.List.{List, [], _∷_, _++_}
 use Prim.Native.Nat.{ℕ, suc}
-use lib.Dec.{leb, ltb}
+use lib.Dec.{ltb}
 use lib.ListN.{length}
 use Rattle.rules.specs.Characters.{code, bytes}
 use Rattle.value.specs.declared.Value.{Value}
 use Rattle.value.specs.Decimal.{isZero}
 use Rattle.value.specs.Printed.{natural, printed}
-use Rattle.language.specs.Listing.{Line, lpLine, rowLine, varLine, colLine, endLine, fields, upperField}
+use Rattle.language.specs.Listing.{Line, lpLine, rowLine, lowLine, varLine, colLine, endLine, kindBy, lowLines, kindField, fields, upperField}
+use Rattle.language.specs.Listing as Listing
 use Rattle.mps.specs.Sheet.{Column, Bounds, Sheet, columns}
 
 -- a line without its string or name and without its index values; nothing for `lp` and `end`
 unfoldable pub bareLine : Line → List ℕ
 bareLine (lpLine a b c d s t) = []
-bareLine (rowLine n q v s e) = bytes "row" ++ fields (natural n ∷ (cond q (code "E") (code "L") ∷ []) ∷ printed v ∷ [])
+bareLine (rowLine n q v s e) = bytes "row" ++ fields (natural n ∷ kindField q ∷ printed v ∷ [])
+bareLine (lowLine n v) = bytes "low" ++ fields (natural n ∷ printed v ∷ [])
 bareLine (varLine n d l u s e) = bytes "var" ++ fields (natural n ∷ (cond d (code "D") (code "C") ∷ []) ∷ printed l ∷ upperField u ∷ [])
 bareLine (colLine j i v) = bytes "col" ++ fields (natural j ∷ natural i ∷ printed v ∷ [])
 bareLine endLine = []
@@ -25,10 +28,11 @@ bareLines (l ∷ ls) = bareLine l ++ bareLines ls
 
 -- ---- the lines of a sheet; i and j count rows and variables from 0
 
--- the first `less` rows are `L`
-unfoldable pub rowsFrom : ℕ → ℕ → List Value → List Line
-rowsFrom less i [] = []
-rowsFrom less i (v ∷ vs) = rowLine (suc i) (leb less i) v [] [] ∷ rowsFrom less (suc i) vs
+-- rows with a list of floors are `L` or `R`, those behind them `E`
+unfoldable pub rowsFrom : ℕ → List (Option Value) → List Value → List Line
+rowsFrom i ws [] = []
+rowsFrom i [] (v ∷ vs) = rowLine (suc i) Listing.equal v [] [] ∷ rowsFrom (suc i) [] vs
+rowsFrom i (w ∷ ws) (v ∷ vs) = rowLine (suc i) (kindBy w) v [] [] ∷ (lowLines (suc i) w ++ rowsFrom (suc i) ws vs)
 
 -- the first `discrete` variables are `D`
 unfoldable pub variablesFrom : ℕ → ℕ → List Bounds → List Line
@@ -49,7 +53,7 @@ columnsOf j (c ∷ cs) = columnOf j c ++ columnsOf (suc j) cs
 
 unfoldable pub sheetLines : Sheet → List Line
 sheetLines s =
-    rowsFrom (s .less) 0 (s .rights)
+    rowsFrom 0 (s .floors) (s .rights)
     ++ (variablesFrom (length (s .discrete)) 0 (s .bounds)
     ++ columnsOf 0 (columns s))
 

@@ -9,7 +9,7 @@ use Rattle.rules.specs.Limits.{rowLimit, variableLimit}
 use Rattle.value.specs.declared.Value.{Value}
 use Rattle.value.specs.Decimal.{Valid}
 use Rattle.language.specs.All.{All}
-use Rattle.language.specs.Valid.{ValidUpper}
+use Rattle.language.specs.Valid.{ValidIfAny}
 
 -- a variable's coefficients: one for each row, 0 where the row has none, and that of the listing's row M+1, the objective
 pub record Column : Type 0 where
@@ -21,12 +21,15 @@ pub record Bounds : Type 0 where
   pub upper : Option Value
 
 pub record Sheet : Type 0 where
-  pub less : ℕ  -- rows from `<=` and `>=`, numbered first
+  pub floors : List (Option Value)  -- for each row from `<=` and `>=`, numbered first: its floor, if it has one
   pub equal : ℕ  -- rows from `=`
   pub discrete : List Column  -- whole variables, numbered first
   pub continuous : List Column
   pub rights : List Value  -- a right side for each row
   pub bounds : List Bounds  -- for each variable
+
+abbrev pub less : Sheet → ℕ
+less s = length (s .floors)
 
 abbrev pub columns : Sheet → List Column
 columns s = s .discrete ++ s .continuous
@@ -40,14 +43,15 @@ pub record ColumnFormed (rows : ℕ) (c : Column) : Type 0 where
 
 pub record BoundsFormed (b : Bounds) : Type 0 where
   pub lower : Valid (b .lower)
-  pub upper : ValidUpper (b .upper)
+  pub upper : ValidIfAny (b .upper)
 
 pub record Formed (s : Sheet) : Type 0 where
-  pub rowCount : length (s .rights) ≡ s .less + s .equal
-  pub fewRows : s .less + s .equal ≤ rowLimit
+  pub rowCount : length (s .rights) ≡ less s + s .equal
+  pub fewRows : less s + s .equal ≤ rowLimit
   pub variableCount : length (s .bounds) ≡ length (s .discrete) + length (s .continuous)
   pub fewVariables : length (s .discrete) + length (s .continuous) ≤ variableLimit
-  pub discrete : All (ColumnFormed (s .less + s .equal)) (s .discrete)
-  pub continuous : All (ColumnFormed (s .less + s .equal)) (s .continuous)
+  pub floors : All ValidIfAny (s .floors)
+  pub discrete : All (ColumnFormed (less s + s .equal)) (s .discrete)
+  pub continuous : All (ColumnFormed (less s + s .equal)) (s .continuous)
   pub rights : All Valid (s .rights)
   pub bounds : All BoundsFormed (s .bounds)

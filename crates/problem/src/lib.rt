@@ -28,7 +28,7 @@ fn shape(
     minimize: bool,
     constraints: &[u64; 320],
     count: usize,
-    slots: &mut [u64; 2048],
+    slots: &mut [u64; 4104],
     bounds: &mut [u64; 1024],
     counts: &mut [i64; 263168],
 ) -> Problem
@@ -82,7 +82,7 @@ pub fn generate(
     constraints: &[u64; 320],
     count: usize,
     variables: &mut [u64; 2048],
-    slots: &mut [u64; 2048],
+    slots: &mut [u64; 4104],
     bounds: &mut [u64; 1024],
     counts: &mut [i64; 263168],
 ) -> Problem

@@ -7,20 +7,26 @@ use Prim.Native.Nat.{ℕ, _+_, _*_, _<_, _≤_}
 use native.Mathlib.Omega.{arith}
 use native.Mathlib.Decide.{ℕ-discrete}
 use borrow.Author.Tests.{eq-eqb, ne-eqb}
+use lib.Dec.{eqb}
 use lib.ListN.{length, getD, set, length-set}
 use lib.Seq.{getD-set-same, getD-set-other, set-out}
 use Rattle.rules.specs.Limits.{scaleLimit}
 use Rattle.value.specs.declared.Value.{Value}
 use Rattle.value.specs.Decimal.{Valid, isAtMost, inRange}
 use Rattle.value.proofs.Operations.{valid-at-most}
-use Rattle.language.specs.Syntax.{Relation, atMost, atLeast, equal}
+use Rattle.language.specs.Scope.{Scope}
+use Rattle.language.specs.Syntax.{Relation, atMost, atLeast, equal, between}
+use Rattle.language.specs.Valid.{ValidIfAny}
+use Rattle.language.specs.Demand3.{FloorIs}
 use Rattle.language.specs.All.{All}
 use Rattle.language.proofs.All.{all-with}
-use Rattle.language.specs.Numbering.{Fact, bound, row, Entry, isRow, picked, extreme, isAtLeast, boundAt, lowerAt, upperAt}
+use Rattle.language.proofs.Outcome.{none-some}
+use Rattle.language.specs.Numbering.{Fact, bound, row, Entry, isRow, picked, extreme, isAtLeast, boundAt, floorFor, lowerAt, upperAt}
 use Rattle.store.specs.Packed.{packed, unpacked}
 use Rattle.store.proofs.Keys.{digit-above}
 use Rattle.store.proofs.Words.{unpacked-packed, packed-in}
-use Rattle.rows.specs.Bounds.{lowersOf, uppersOf, keptWord, lowerWord, upperWord, BoundsHeld, givesWay, statedWord, stateWord, boundStated, statesLower, statesUpper}
+use Rattle.rows.specs.Slots.{floorWord}
+use Rattle.rows.specs.Bounds.{lowersOf, uppersOf, keptWord, lowerWord, upperWord, BoundsHeld, givesWay, statedWord, stateWord, boundStated, floorStated, statesLower, statesUpper}
 
 -- ---- words
 
@@ -103,15 +109,20 @@ pub record Kept (larger : Bool) (l : List Value) (w : ℕ) : Type 0 where
   pub word : w ≡ keptWord (order larger) l
   pub valid : All Valid l
 
-kept-next : (larger a : Bool) (f : Entry → Option Value) (es : List Entry) (e : Entry) (v : Value) (w : ℕ) → Kept larger (picked f es) w → Valid v → f e ≡ cond a (some v) none
-    → Kept larger (picked f (es ++ (e ∷ []))) (cond a (statedWord larger w v) w)
-kept-next larger true f es e v w h d g =
+-- a word after one bound more, or none
+abbrev statedIfAny : Bool → ℕ → Option Value → ℕ
+statedIfAny larger w (some v) = statedWord larger w v
+statedIfAny larger w none = w
+
+kept-next : (larger : Bool) (f : Entry → Option Value) (es : List Entry) (e : Entry) (o : Option Value) (w : ℕ) → Kept larger (picked f es) w → ValidIfAny o → f e ≡ o
+    → Kept larger (picked f (es ++ (e ∷ []))) (statedIfAny larger w o)
+kept-next larger f es e (some v) w h d g =
     rw (picked-more f es e v g)
     (record {
       word = ap (λ (x : ℕ). statedWord larger x v) (h .word) ∙ sym (kept-more larger (picked f es) v (h .valid) d);
       valid = all-with Valid (picked f es) v (h .valid) d;
     })
-kept-next larger false f es e v w h d g = rw (picked-same f es e g) h
+kept-next larger f es e none w h d g = rw (picked-same f es e g) h
 
 -- ---- words of the table
 
@@ -190,23 +201,95 @@ module _ (t : List ℕ) (j : ℕ) (lower upper : Bool) (v : Value) where
   unfolding boundStated
   bound-in u w e f = f ∙ ap (λ (x : List ℕ). stateWord false upper x (j * 2 + 1) v) e
 
+-- a floor after the right side
+module _ (t : List ℕ) (j : ℕ) where
+  pub floor-out : (w : ℕ) → w ≡ 0 → t ≡ floorStated t j w
+  unfolding floorStated
+  floor-out w z = rw (eq-eqb w 0 z)
+
+  pub floor-in : (w : ℕ) (v : Value) (t′ : List ℕ) → (w ≡ 0 → ⊥) → v ≡ unpacked w → t′ ≡ boundStated t j true false v → t′ ≡ floorStated t j w
+  unfolding floorStated
+  floor-in w v t′ z e f = rw (ne-eqb w 0 z) (f ∙ ap (boundStated t j true false) e)
+
+  floor-none : floorStated t j (floorWord none) ≡ t
+  unfolding floorWord
+  floor-none = sym (floor-out 0 refl)
+
+  floor-some : (v : Value) → Valid v → floorStated t j (floorWord (some v)) ≡ boundStated t j true false v
+  unfolding floorWord
+  floor-some v h = sym (floor-in (packed v) v _ (packed-above v h) (sym (unpacked-packed v (h .small) (h .places))) refl)
+
+-- a right side and a floor: a relation does not state lower bounds by both
+module _ (t : List ℕ) (j : ℕ) (lower upper : Bool) (v : Value) (o : Option Value) (d : ValidIfAny o) where
+  abbrev stated : List ℕ
+  stated = floorStated (boundStated t j lower upper v) j (floorWord o)
+
+  lower-both : (lower ≡ true → o ≡ none) → j * 2 < length t → lowerWord stated j ≡ statedIfAny true (lowerWord t j) (cond lower (some v) o)
+  lower-both one h = go o d lower one
+    where
+      go : (o : Option Value) → ValidIfAny o → (lower : Bool) → (lower ≡ true → o ≡ none)
+          → lowerWord (floorStated (boundStated t j lower upper v) j (floorWord o)) j ≡ statedIfAny true (lowerWord t j) (cond lower (some v) o)
+      go none d true one = ap (λ (x : List ℕ). lowerWord x j) (floor-none _ j) ∙ lower-here t j true upper v h
+      go none d false one = ap (λ (x : List ℕ). lowerWord x j) (floor-none _ j) ∙ lower-here t j false upper v h
+      go (some u) d true one = absurd (none-some (sym (one refl)))
+      go (some u) d false one =
+          ap (λ (x : List ℕ). lowerWord x j) (floor-some _ j u d) ∙ lower-here (boundStated t j false upper v) j true false u (omega (arith, bound-size t j false upper v))
+          ∙ ap (λ (x : ℕ). statedWord true x u) (lower-here t j false upper v h)
+
+  upper-both : j * 2 + 1 < length t → upperWord stated j ≡ statedIfAny false (upperWord t j) (cond upper (some v) none)
+  upper-both h = go o d ∙ upper-here t j lower upper v h ∙ either upper
+    where
+      go : (o : Option Value) → ValidIfAny o → upperWord (floorStated (boundStated t j lower upper v) j (floorWord o)) j ≡ upperWord (boundStated t j lower upper v) j
+      go none d = ap (λ (x : List ℕ). upperWord x j) (floor-none _ j)
+      go (some u) d =
+          ap (λ (x : List ℕ). upperWord x j) (floor-some _ j u d) ∙ upper-here (boundStated t j lower upper v) j true false u (omega (arith, bound-size t j lower upper v))
+
+      either : (b : Bool) → cond b (statedWord false (upperWord t j) v) (upperWord t j) ≡ statedIfAny false (upperWord t j) (cond b (some v) none)
+      either true = refl
+      either false = refl
+
+  both-other : (q : ℕ) → (q ≡ j * 2 → ⊥) → (q ≡ j * 2 + 1 → ⊥) → getD stated q 0 ≡ getD t q 0
+  both-other q a b = go o d ∙ word-other t j lower upper v q a b
+    where
+      go : (o : Option Value) → ValidIfAny o → getD (floorStated (boundStated t j lower upper v) j (floorWord o)) q 0 ≡ getD (boundStated t j lower upper v) q 0
+      go none d = ap (λ (x : List ℕ). getD x q 0) (floor-none _ j)
+      go (some u) d = ap (λ (x : List ℕ). getD x q 0) (floor-some _ j u d) ∙ word-other (boundStated t j lower upper v) j true false u q a b
+
 -- ---- one entry more
 
 -- what an entry states for variable i
-states-lower : (r : Relation) (j : ℕ) (v : Value) → lowerAt r (bound j v) j ≡ cond (statesLower r) (some v) none
-states-lower atMost j v = refl
-states-lower atLeast j v = rw (eq-eqb j j refl)
-states-lower equal j v = rw (eq-eqb j j refl)
+states-lower : (r : Relation) (s : Scope) (w : Option Value) (j : ℕ) (v : Value) → FloorIs r s w → lowerAt r (bound j v) w j ≡ cond (statesLower r) (some v) w
+states-lower atMost s w j v h = sym h
+states-lower atLeast s w j v h = rw (eq-eqb j j refl)
+states-lower equal s w j v h = rw (eq-eqb j j refl)
+states-lower (between g) s w j v h = rw (eq-eqb j j refl)
 
 states-upper : (r : Relation) (j : ℕ) (v : Value) → upperAt r (bound j v) j ≡ cond (statesUpper r) (some v) none
 states-upper atMost j v = rw (eq-eqb j j refl)
 states-upper atLeast j v = refl
 states-upper equal j v = rw (eq-eqb j j refl)
+states-upper (between g) j v = rw (eq-eqb j j refl)
 
-no-bound : (f : Fact) (i : ℕ) → boundAt f i ≡ none → (r : Relation) → (lowerAt r f i ≡ none) × (upperAt r f i ≡ none)
-no-bound f i e atMost = (refl, e)
-no-bound f i e atLeast = (e, refl)
-no-bound f i e equal = (e, e)
+-- it does not state lower bounds by both its right side and its floor
+lower-once : (r : Relation) (s : Scope) (w : Option Value) → FloorIs r s w → statesLower r ≡ true → w ≡ none
+lower-once atMost s w h e = h
+lower-once atLeast s w h e = h
+lower-once equal s w h e = h
+lower-once (between g) s w h e = absurd (let u : _≡_ {A = ℕ} 0 1 = cc in omega arith)
+
+no-floor : (f : Fact) (w : Option Value) (i : ℕ) → boundAt f i ≡ none → floorFor f w i ≡ none
+no-floor (bound j v) w i e = go (eqb j i) e
+  where
+    go : (b : Bool) → cond b (some v) none ≡ none → cond b w none ≡ none
+    go true z = absurd (none-some (sym z))
+    go false z = refl
+no-floor (row r v) w i e = refl
+
+no-bound : (f : Fact) (w : Option Value) (i : ℕ) → boundAt f i ≡ none → (r : Relation) → (lowerAt r f w i ≡ none) × (upperAt r f i ≡ none)
+no-bound f w i e atMost = (refl, e)
+no-bound f w i e atLeast = (e, refl)
+no-bound f w i e equal = (e, e)
+no-bound f w i e (between g) = (no-floor f w i e, e)
 
 module _ (b b′ : List ℕ) (n : ℕ) (es : List Entry) (e : Entry) (h : BoundsHeld b n es) where
   held-lower : (i : ℕ) → i < n → Kept true (lowersOf es i) (lowerWord b i)
@@ -219,46 +302,73 @@ module _ (b b′ : List ℕ) (n : ℕ) (es : List Entry) (e : Entry) (h : Bounds
       → BoundsHeld b′ n (es ++ (e ∷ []))
   held-of x y = record { lower = λ i g. x i g .word; upper = λ i g. y i g .word; validLower = λ i g. x i g .valid; validUpper = λ i g. y i g .valid }
 
-  -- of a variable for which the entry states nothing
-  lower-same : (i : ℕ) → i < n → boundAt (e .fact) i ≡ none → lowerWord b′ i ≡ lowerWord b i → Kept true (lowersOf (es ++ (e ∷ [])) i) (lowerWord b′ i)
+  -- of a variable for which the entry states no more than this
+  lower-kept : (i : ℕ) (o : Option Value) → i < n → ValidIfAny o → lowerAt (e .source .constraint .relation) (e .fact) (e .floor) i ≡ o
+      → lowerWord b′ i ≡ statedIfAny true (lowerWord b i) o → Kept true (lowersOf (es ++ (e ∷ [])) i) (lowerWord b′ i)
   unfolding lowersOf
-  lower-same i g q s = rw (s, picked-same (λ e. lowerAt (e .source .constraint .relation) (e .fact) i) es e (no-bound (e .fact) i q (e .source .constraint .relation) .0)) (held-lower i g)
+  lower-kept i o g d q s = rw s (kept-next true (λ e. lowerAt (e .source .constraint .relation) (e .fact) (e .floor) i) es e o (lowerWord b i) (held-lower i g) d q)
+
+  upper-kept : (i : ℕ) (o : Option Value) → i < n → ValidIfAny o → upperAt (e .source .constraint .relation) (e .fact) i ≡ o → upperWord b′ i ≡ statedIfAny false (upperWord b i) o
+      → Kept false (uppersOf (es ++ (e ∷ [])) i) (upperWord b′ i)
+  unfolding uppersOf
+  upper-kept i o g d q s = rw s (kept-next false (λ e. upperAt (e .source .constraint .relation) (e .fact) i) es e o (upperWord b i) (held-upper i g) d q)
+
+  lower-same : (i : ℕ) → i < n → boundAt (e .fact) i ≡ none → lowerWord b′ i ≡ lowerWord b i → Kept true (lowersOf (es ++ (e ∷ [])) i) (lowerWord b′ i)
+  lower-same i g q s = lower-kept i none g tt (no-bound (e .fact) (e .floor) i q (e .source .constraint .relation) .0) s
 
   upper-same : (i : ℕ) → i < n → boundAt (e .fact) i ≡ none → upperWord b′ i ≡ upperWord b i → Kept false (uppersOf (es ++ (e ∷ [])) i) (upperWord b′ i)
-  unfolding uppersOf
-  upper-same i g q s = rw (s, picked-same (λ e. upperAt (e .source .constraint .relation) (e .fact) i) es e (no-bound (e .fact) i q (e .source .constraint .relation) .1)) (held-upper i g)
+  upper-same i g q s = upper-kept i none g tt (no-bound (e .fact) (e .floor) i q (e .source .constraint .relation) .1) s
 
   -- a bound is stated
   module _ (j : ℕ) (v : Value) (lower upper : Bool) (q : e .fact ≡ bound j v) (lo : statesLower (e .source .constraint .relation) ≡ lower) (up : statesUpper (e .source .constraint .relation) ≡ upper)
-      (d : Valid v) (size : n * 2 ≤ length b) (w : b′ ≡ boundStated b j lower upper v) where
+      (d : Valid v) (c : Scope) (fl : FloorIs (e .source .constraint .relation) c (e .floor)) (vf : ValidIfAny (e .floor)) (size : n * 2 ≤ length b) (x : ℕ) (hx : x ≡ floorWord (e .floor))
+      (w : b′ ≡ floorStated (boundStated b j lower upper v) j x) where
+    -- after both
+    is : b′ ≡ floorStated (boundStated b j lower upper v) j (floorWord (e .floor))
+    is = w ∙ ap (floorStated (boundStated b j lower upper v) j) hx
+
+    other : (k : ℕ) → (k ≡ j * 2 → ⊥) → (k ≡ j * 2 + 1 → ⊥) → getD b′ k 0 ≡ getD b k 0
+    other k y z = ap (λ (t : List ℕ). getD t k 0) is ∙ both-other b j lower upper v (e .floor) vf k y z
+
     nothing-else : (i : ℕ) → (i ≡ j → ⊥) → boundAt (e .fact) i ≡ none
     nothing-else i z = rw (q, ne-eqb j i (λ k. z (sym k)))
 
     lower-next : (i : ℕ) → i < n → Kept true (lowersOf (es ++ (e ∷ [])) i) (lowerWord b′ i)
-    unfolding lowersOf
     lower-next i g = go (ℕ-discrete i j)
       where
-        states : lowerAt (e .source .constraint .relation) (e .fact) j ≡ cond lower (some v) none
-        states = rw (q, sym lo) (states-lower (e .source .constraint .relation) j v)
+        states : lowerAt (e .source .constraint .relation) (e .fact) (e .floor) j ≡ cond lower (some v) (e .floor)
+        states = rw (q, sym lo) (states-lower (e .source .constraint .relation) c (e .floor) j v fl)
+
+        valid : (a : Bool) → ValidIfAny (cond a (some v) (e .floor))
+        valid true = d
+        valid false = vf
+
+        once : lower ≡ true → e .floor ≡ none
+        once z = lower-once (e .source .constraint .relation) c (e .floor) fl (lo ∙ z)
 
         go : Dec (i ≡ j) → Kept true (lowersOf (es ++ (e ∷ [])) i) (lowerWord b′ i)
         go (yes z) =
-            rw (z, w, lower-here b j lower upper v (omega arith))
-            (kept-next true lower (λ e. lowerAt (e .source .constraint .relation) (e .fact) j) es e v (lowerWord b j) (held-lower j (omega arith)) d states)
-        go (no z) = lower-same i g (nothing-else i z) (ap (λ (x : List ℕ). lowerWord x i) w ∙ word-other b j lower upper v (i * 2) (λ k. z (omega arith)) (λ k. omega arith))
+            rw z
+            (lower-kept j _ (omega arith) (valid lower) states
+            (ap (λ (t : List ℕ). lowerWord t j) is ∙ lower-both b j lower upper v (e .floor) vf once (omega arith)))
+        go (no z) = lower-same i g (nothing-else i z) (other (i * 2) (λ k. z (omega arith)) (λ k. omega arith))
 
     upper-next : (i : ℕ) → i < n → Kept false (uppersOf (es ++ (e ∷ [])) i) (upperWord b′ i)
-    unfolding uppersOf
     upper-next i g = go (ℕ-discrete i j)
       where
         states : upperAt (e .source .constraint .relation) (e .fact) j ≡ cond upper (some v) none
         states = rw (q, sym up) (states-upper (e .source .constraint .relation) j v)
 
+        valid : (a : Bool) → ValidIfAny (cond a (some v) none)
+        valid true = d
+        valid false = tt
+
         go : Dec (i ≡ j) → Kept false (uppersOf (es ++ (e ∷ [])) i) (upperWord b′ i)
         go (yes z) =
-            rw (z, w, upper-here b j lower upper v (omega arith))
-            (kept-next false upper (λ e. upperAt (e .source .constraint .relation) (e .fact) j) es e v (upperWord b j) (held-upper j (omega arith)) d states)
-        go (no z) = upper-same i g (nothing-else i z) (ap (λ (x : List ℕ). upperWord x i) w ∙ word-other b j lower upper v (i * 2 + 1) (λ k. omega arith) (λ k. z (omega arith)))
+            rw z
+            (upper-kept j _ (omega arith) (valid upper) states
+            (ap (λ (t : List ℕ). upperWord t j) is ∙ upper-both b j lower upper v (e .floor) vf (omega arith)))
+        go (no z) = upper-same i g (nothing-else i z) (other (i * 2 + 1) (λ k. omega arith) (λ k. z (omega arith)))
 
     pub bound-added : BoundsHeld b′ n (es ++ (e ∷ []))
     bound-added = held-of lower-next upper-next

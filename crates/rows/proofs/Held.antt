@@ -1,8 +1,8 @@
--- Laws of what the tables of a problem tell: the row of a number, its coefficients and right side, the bounds of a variable; and
--- that each of these values is valid.
+-- Laws of what the tables of a problem tell: the row of a number, its coefficients, right side and floor, the bounds of a
+-- variable; and that each of these values is valid.
 use mathlib.Core.Path.{_≡_, refl, sym, _∙_, ap}
 use mathlib.Core.Logic.{inl, inr}
-use mathlib.Core.Option.{some}
+use mathlib.Core.Option.{Option, none, some}
 use mathlib.Core.List.{List, [], _∷_, _++_}
 use Prim.Native.Nat.{ℕ, _-_, _*_, _<_, _≤_}
 use native.Mathlib.Omega.{arith}
@@ -17,17 +17,18 @@ use Rattle.value.specs.Gathering.{ofMillionths}
 use Rattle.value.proofs.Fitting.{fitOf-valid}
 use Rattle.value.proofs.Operations.{zero-valid}
 use Rattle.language.specs.All.{All}
-use Rattle.language.specs.Valid.{ValidUpper}
+use Rattle.language.specs.Valid.{ValidIfAny}
 use Rattle.language.specs.Listed.{At}
 use Rattle.language.proofs.Listed.{Split, at-length, at-append}
 use Rattle.language.specs.Numbering.{Variable, Row, Entry, keep, lessRow, equalRow, extreme, isAtLeast, largest, smallest, lowerOf, upperOf}
 use Rattle.language.proofs.ValidProblem.{extreme-valid}
+use Rattle.store.specs.Table.{wordAt}
 use Rattle.store.specs.Packed.{packed, unpacked}
 use Rattle.store.proofs.Words.{unpacked-packed}
 use Rattle.rows.specs.Counts.{RowOf}
-use Rattle.rows.specs.Slots.{countsAt, Slot, RowsHeld}
+use Rattle.rows.specs.Slots.{countsAt, floorSlot, floorWord, Slot, RowsHeld}
 use Rattle.rows.specs.Bounds.{lowersOf, uppersOf, keptWord}
-use Rattle.rows.specs.Read.{slotAt, countAt, fitted, valueOf, lowerIn, upperIn}
+use Rattle.rows.specs.Read.{slotAt, countAt, fitted, valueOf, lowerIn, endIn}
 use Rattle.rows.proofs.Bounding.{packed-above}
 
 -- ---- rows
@@ -71,8 +72,8 @@ lower-back (v ∷ l) h =
     let x = extreme-valid isAtMost v l (h .0) (h .1) in
     rw (ne-eqb (packed (extreme isAtMost v l)) 0 (packed-above _ x)) (word-back _ x)
 
-upper-back : (l : List Value) → All Valid l → upperIn (keptWord isAtLeast l) ≡ smallest l
-unfolding upperIn keptWord smallest
+upper-back : (l : List Value) → All Valid l → endIn (keptWord isAtLeast l) ≡ smallest l
+unfolding endIn keptWord smallest
 upper-back [] h = refl
 upper-back (v ∷ l) h =
     let x = extreme-valid isAtLeast v l (h .0) (h .1) in
@@ -83,9 +84,19 @@ module _ (es : List Entry) (j w : ℕ) where
   unfolding lowerOf lowersOf
   lower-told e h = rw e (lower-back (lowersOf es j) h)
 
-  pub upper-told : w ≡ keptWord isAtLeast (uppersOf es j) → All Valid (uppersOf es j) → upperIn w ≡ upperOf es j
+  pub upper-told : w ≡ keptWord isAtLeast (uppersOf es j) → All Valid (uppersOf es j) → endIn w ≡ upperOf es j
   unfolding upperOf uppersOf
   upper-told e h = rw e (upper-back (uppersOf es j) h)
+
+-- ---- floors
+
+end-back : (o : Option Value) → ValidIfAny o → endIn (floorWord o) ≡ o
+unfolding endIn floorWord
+end-back none h = refl
+end-back (some v) h = rw (ne-eqb (packed v) 0 (packed-above v h)) (ap some (word-back v h))
+
+pub floor-told : (vs : List Variable) (t : List ℕ) (m : List ℤ) (k : ℕ) (e : Entry) → Slot vs t m k e → endIn (wordAt t (floorSlot k)) ≡ e .floor
+floor-told vs t m k e h = ap endIn (h .floor) ∙ end-back (e .floor) (h .validFloor)
 
 -- ---- every value is valid
 
@@ -99,7 +110,7 @@ unfolding largest
 lower-kept [] h = zero-valid
 lower-kept (v ∷ l) h = extreme-valid isAtMost v l (h .0) (h .1)
 
-upper-kept : (l : List Value) → All Valid l → ValidUpper (smallest l)
+upper-kept : (l : List Value) → All Valid l → ValidIfAny (smallest l)
 unfolding smallest
 upper-kept [] h = tt
 upper-kept (v ∷ l) h = extreme-valid isAtLeast v l (h .0) (h .1)
@@ -110,6 +121,6 @@ module _ (es : List Entry) (j : ℕ) where
   unfolding lowerOf lowersOf
   lower-held h = lower-kept _ h
 
-  pub upper-held : All Valid (uppersOf es j) → ValidUpper (upperOf es j)
+  pub upper-held : All Valid (uppersOf es j) → ValidIfAny (upperOf es j)
   unfolding upperOf uppersOf
   upper-held h = upper-kept _ h

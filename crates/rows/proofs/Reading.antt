@@ -18,13 +18,14 @@ use Rattle.value.specs.Gathering.{millionths, ofMillionths}
 use Rattle.value.proofs.Gathering.{ofMillionths-own}
 use Rattle.value.proofs.Operations.{zero-valid}
 use Rattle.value.proofs.Ranges.{and-false, and-left, and-right}
+use Rattle.store.specs.Table.{wordAt}
 use Rattle.store.specs.Packed.{unpacked}
 use Rattle.rows.specs.declared.Sizes.{Sizes}
-use Rattle.rows.specs.declared.Upper.the-variants.{None, At}
-use Rattle.rows.specs.Upper.{bound}
-use Rattle.rows.specs.Slots.{lessSlot, equalSlot}
+use Rattle.rows.specs.declared.End.the-variants.{None, At}
+use Rattle.rows.specs.End.{endOf}
+use Rattle.rows.specs.Slots.{floorSlot, lessSlot, equalSlot}
 use Rattle.rows.specs.Bounds.{lowerWord, upperWord}
-use Rattle.rows.specs.Read.{within, slotAt, countAt, fitted, valueOf, lowerIn, upperIn}
+use Rattle.rows.specs.Read.{within, slotAt, countAt, fitted, valueOf, lowerIn, endIn}
 
 -- ---- sizes
 
@@ -105,13 +106,13 @@ module _ (w : ℕ) where
   unfolding lowerIn
   lower-some v e h = rw (ne-eqb w 0 e) h
 
-  upper-none : w ≡ 0 → bound None ≡ upperIn w
-  unfolding upperIn bound
-  upper-none e = rw (eq-eqb w 0 e)
+  end-none : w ≡ 0 → endOf None ≡ endIn w
+  unfolding endIn endOf
+  end-none e = rw (eq-eqb w 0 e)
 
-  upper-some : (v : Value) → (w ≡ 0 → ⊥) → v ≡ unpacked w → bound (At v) ≡ upperIn w
-  unfolding upperIn bound
-  upper-some v e h = rw (ne-eqb w 0 e) (ap some h)
+  end-some : (v : Value) → (w ≡ 0 → ⊥) → v ≡ unpacked w → endOf (At v) ≡ endIn w
+  unfolding endIn endOf
+  end-some v e h = rw (ne-eqb w 0 e) (ap some h)
 
 module _ (b : List ℕ) (j : ℕ) where
   pub lower-past : (v : Value) → length b ≤ j → v ≡ ofWhole (pos 0) → v ≡ lowerIn (lowerWord b j)
@@ -123,11 +124,23 @@ module _ (b : List ℕ) (j : ℕ) where
   pub lower-read : (w : ℕ) (v : Value) → w ≡ getD b (j * 2) 0 → (w ≡ 0 → ⊥) → v ≡ unpacked w → v ≡ lowerIn (lowerWord b j)
   lower-read w v e z h = lower-some (lowerWord b j) v (λ n. z (e ∙ n)) (h ∙ ap unpacked e)
 
-  pub upper-past : length b ≤ j → bound None ≡ upperIn (upperWord b j)
-  upper-past h = upper-none (upperWord b j) (List·getD-eq-default b 0 (omega arith))
+  pub upper-past : length b ≤ j → endOf None ≡ endIn (upperWord b j)
+  upper-past h = end-none (upperWord b j) (List·getD-eq-default b 0 (omega arith))
 
-  pub upper-zero : (w : ℕ) → w ≡ getD b (j * 2 + 1) 0 → w ≡ 0 → bound None ≡ upperIn (upperWord b j)
-  upper-zero w e z = upper-none (upperWord b j) (sym e ∙ z)
+  pub upper-zero : (w : ℕ) → w ≡ getD b (j * 2 + 1) 0 → w ≡ 0 → endOf None ≡ endIn (upperWord b j)
+  upper-zero w e z = end-none (upperWord b j) (sym e ∙ z)
 
-  pub upper-read : (w : ℕ) (v : Value) → w ≡ getD b (j * 2 + 1) 0 → (w ≡ 0 → ⊥) → v ≡ unpacked w → bound (At v) ≡ upperIn (upperWord b j)
-  upper-read w v e z h = upper-some (upperWord b j) v (λ n. z (e ∙ n)) (h ∙ ap unpacked e)
+  pub upper-read : (w : ℕ) (v : Value) → w ≡ getD b (j * 2 + 1) 0 → (w ≡ 0 → ⊥) → v ≡ unpacked w → endOf (At v) ≡ endIn (upperWord b j)
+  upper-read w v e z h = end-some (upperWord b j) v (λ n. z (e ∙ n)) (h ∙ ap unpacked e)
+
+-- ---- floors
+
+module _ (t : List ℕ) (k q w : ℕ) (a : q ≡ floorSlot k) (b : w ≡ wordAt t q) where
+  same-word : w ≡ wordAt t (floorSlot k)
+  same-word = b ∙ ap (wordAt t) a
+
+  pub no-floor : w ≡ 0 → endOf None ≡ endIn (wordAt t (floorSlot k))
+  no-floor z = end-none _ (sym same-word ∙ z)
+
+  pub floor-read : (v : Value) → (w ≡ 0 → ⊥) → v ≡ unpacked w → endOf (At v) ≡ endIn (wordAt t (floorSlot k))
+  floor-read v z h = end-some _ v (λ n. z (same-word ∙ n)) (h ∙ ap unpacked same-word)

@@ -1,6 +1,7 @@
 -- Laws of slots: one row more, written where it belongs; what is no row changes nothing.
 use mathlib.Core.Path.{_≡_, refl, sym, _∙_, ap, subst}
 use mathlib.Core.Bool.{Bool, true, false, cond}
+use mathlib.Core.Option.{Option}
 use mathlib.Core.List.{List, [], _∷_, _++_, append-nil}
 use mathlib.Core.Logic.{inl, inr}
 use Prim.Native.Nat.{ℕ, zero, suc, _+_, _-_, _*_, _/_, _<_, _≤_}
@@ -13,10 +14,16 @@ use lib.Seq.{getD-set-other}
 use Rattle.rules.specs.Limits.{rowLimit}
 use Rattle.value.specs.declared.Value.{Value}
 use Rattle.value.specs.Decimal.{Valid}
+use Rattle.language.specs.Scope.{Scope}
+use Rattle.language.specs.Syntax.{Relation}
+use Rattle.language.specs.Syntax
+use Rattle.language.specs.Valid.{ValidIfAny}
+use Rattle.language.specs.Demand3.{FloorIs}
 use Rattle.language.specs.Listed.{At}
 use Rattle.language.proofs.Listed.{Split, at-append, at-length}
 use Rattle.language.specs.Numbering.{Variable, Row, Entry, isRow, isEqual, keep, anyRow, lessRow, equalRow}
-use Rattle.language.specs.Listing.{rightOf, coefficientsOf}
+use Rattle.language.specs.Listing.{rightOf, coefficientsOf, kindOf, kindBy}
+use Rattle.language.specs.Listing as Listing
 use Rattle.store.specs.declared.Key.{Key}
 use Rattle.store.specs.Key.{keyNumber, keyOf}
 use Rattle.store.specs.Table.{partAt, keyAt, wordAt, hasRoom, rowSet, appended}
@@ -25,7 +32,7 @@ use Rattle.store.specs.Entries.{Keyed}
 use Rattle.store.proofs.Rows.{grown-append, append-size}
 use Rattle.rows.specs.Counts.{RowOf}
 use Rattle.rows.specs.declared.Filled.{Filled}
-use Rattle.rows.specs.Slots.{countsAt, objectiveRow, spareRow, ObjectiveHeld, Slot, lessSlot, equalSlot, nextSlot, RowsHeld, oneMore, countedAs, Entered, RowPut, Wrote}
+use Rattle.rows.specs.Slots.{countsAt, objectiveRow, spareRow, ObjectiveHeld, floorSlot, floorWord, Slot, lessSlot, equalSlot, nextSlot, RowsHeld, oneMore, countedAs, Entered, RowPut, Wrote}
 
 -- ---- entries of a kind
 
@@ -158,36 +165,83 @@ pub next-low : (less equal : ℕ) (b : Bool) → less + equal < 512 → nextSlot
 next-low less equal true h = rw (next-equal less equal h) (omega arith)
 next-low less equal false h = rw (next-less less equal h) (omega arith)
 
+-- the second row of a slot
+module _ (k : ℕ) where
+  pub floor-row : k < 514 → k + 514 ≡ floorSlot k
+  unfolding floorSlot rowLimit
+  floor-row h = rw (lt-ltb k 514 h) (omega arith)
+
+  pub floor-past : 514 ≤ k → 0 ≡ floorSlot k
+  unfolding floorSlot rowLimit
+  floor-past h = rw (le-ltb k 514 h) refl
+
+-- both rows of slot s written
+module _ (t half t′ : List ℕ) (s k v w : ℕ) (x : Entered t s k v half) (y : Entered half (floorSlot s) k w t′) (low : s < 512) where
+  -- those of another slot
+  pair-other : (i : ℕ) → i < 512 → (i ≡ s → ⊥) → (keyAt t′ i ≡ keyAt t i) × (wordAt t′ i ≡ wordAt t i) × (wordAt t′ (floorSlot i) ≡ wordAt t (floorSlot i))
+  pair-other i h d =
+      let e : s + 514 ≡ floorSlot s = floor-row s (omega arith) in
+      let f : i + 514 ≡ floorSlot i = floor-row i (omega arith) in (
+        y .otherKey i (λ z. omega arith) ∙ x .otherKey i d,
+        y .otherWord i (λ z. omega arith) ∙ x .otherWord i d,
+        y .otherWord (floorSlot i) (λ z. d (omega arith)) ∙ x .otherWord (floorSlot i) (λ z. omega arith),
+      )
+
+  pair-here : 4104 ≤ length t → (keyAt t′ s ≡ k) × (wordAt t′ s ≡ v) × (wordAt t′ (floorSlot s) ≡ w)
+  pair-here h =
+      let e : s + 514 ≡ floorSlot s = floor-row s (omega arith) in (
+        y .otherKey s (λ z. omega arith) ∙ entered-key t s k v half x (omega arith),
+        y .otherWord s (λ z. omega arith) ∙ entered-word t s k v half x (omega arith),
+        entered-word half (floorSlot s) k w t′ y (omega (arith, x .size)),
+      )
+
 -- counted within the slots
 pub one-more : (n : ℕ) → n < 512 → oneMore n ≡ n + 1
 unfolding oneMore rowLimit
 one-more n h = rw (lt-ltb n 512 h)
 
-module _ (vs : List Variable) (t t′ : List ℕ) (m m′ : List ℤ) (s : ℕ) (k w : ℕ) (p : List ℤ) (x : Entered t s k w t′) (y : RowPut (length vs) m s p m′) where
-  slot-kept : (i : ℕ) (e : Entry) → (i ≡ s → ⊥) → Slot vs t m i e → Slot vs t′ m′ i e
-  slot-kept i e d h =
+-- the kind of a row, by its floor
+kind-is : (r : Relation) (s : Scope) (w : Option Value) → FloorIs r s w → kindOf r ≡ cond (isEqual r) Listing.equal (kindBy w)
+kind-is Syntax.atMost s w h = rw h refl
+kind-is Syntax.atLeast s w h = rw h refl
+kind-is Syntax.equal s w h = refl
+kind-is (Syntax.between g) s w h = rw (h .1) refl
+
+module _ (vs : List Variable) (t half t′ : List ℕ) (m m′ : List ℤ) (s k v w : ℕ) (p : List ℤ) (x : Entered t s k v half) (y : Entered half (floorSlot s) k w t′) (low : s < 512)
+    (put : RowPut (length vs) m s p m′) where
+  slot-kept : (i : ℕ) (e : Entry) → i < 512 → (i ≡ s → ⊥) → Slot vs t m i e → Slot vs t′ m′ i e
+  slot-kept i e b d h =
+      let o = pair-other t half t′ s k v w x y low i b d in
       record {
         keyed = h .keyed;
-        key = x .otherKey i d ∙ h .key;
+        key = o .0 ∙ h .key;
         valid = h .valid;
-        right = x .otherWord i d ∙ h .right;
-        row = subst (λ l. RowOf vs l (coefficientsOf (e .fact))) (sym (y .others i d)) (h .row);
+        right = o .1 ∙ h .right;
+        kind = h .kind;
+        validFloor = h .validFloor;
+        floor = o .2 ∙ h .floor;
+        row = subst (λ l. RowOf vs l (coefficientsOf (e .fact))) (sym (put .others i d)) (h .row);
       }
 
-  slot-new : (e : Entry) → s < length t / 4 → Keyed (e .source .ordinal) (e .source .element) → k ≡ keyOf (e .source .ordinal) (e .source .element) → Valid (rightOf (e .fact))
-      → w ≡ packed (rightOf (e .fact)) → RowOf vs p (coefficientsOf (e .fact)) → Slot vs t′ m′ s e
-  slot-new e g u a v b r =
+  slot-new : (e : Entry) (c : Scope) → 4104 ≤ length t → Keyed (e .source .ordinal) (e .source .element) → k ≡ keyOf (e .source .ordinal) (e .source .element) → Valid (rightOf (e .fact))
+      → v ≡ packed (rightOf (e .fact)) → FloorIs (e .source .constraint .relation) c (e .floor) → ValidIfAny (e .floor) → w ≡ floorWord (e .floor) → RowOf vs p (coefficientsOf (e .fact))
+      → Slot vs t′ m′ s e
+  slot-new e c size u a d b f g l r =
+      let o = pair-here t half t′ s k v w x y low size in
       record {
         keyed = u;
-        key = entered-key t s k w t′ x g ∙ a;
-        valid = v;
-        right = entered-word t s k w t′ x g ∙ b;
-        row = subst (λ l. RowOf vs l (coefficientsOf (e .fact))) (sym (y .here)) r;
+        key = o .0 ∙ a;
+        valid = d;
+        right = o .1 ∙ b;
+        kind = kind-is (e .source .constraint .relation) c (e .floor) f;
+        validFloor = g;
+        floor = o .2 ∙ l;
+        row = subst (λ l. RowOf vs l (coefficientsOf (e .fact))) (sym (put .here)) r;
       }
 
   module _ (less equal : ℕ) (es : List Entry) (e : Entry) (h : RowsHeld vs t m less equal es) (room : less + equal < 512) (z : isRow (e .fact) ≡ true) (new : Slot vs t′ m′ s e) where
     -- of a kind that has a row more, whose slots are at `slot`
-    rows-more : (f : Entry → Bool) (slot : ℕ → ℕ) → f e ≡ true → s ≡ slot (length (keep f es)) → ((i : ℕ) → i < length (keep f es) → slot i ≡ s → ⊥)
+    rows-more : (f : Entry → Bool) (slot : ℕ → ℕ) → f e ≡ true → s ≡ slot (length (keep f es)) → ((i : ℕ) → i < length (keep f es) → (slot i < 512) × (slot i ≡ s → ⊥))
         → ((i : ℕ) (d : Entry) → At (keep f es) i d → Slot vs t m (slot i) d) → (i : ℕ) (d : Entry) → At (keep f (es ++ (e ∷ []))) i d → Slot vs t′ m′ (slot i) d
     rows-more f slot a b apart held i d at = go (at-append (keep f es) (e ∷ []) i d (subst (λ l. At l i d) (keep-more f es e a) at))
       where
@@ -196,15 +250,16 @@ module _ (vs : List Variable) (t t′ : List ℕ) (m m′ : List ℤ) (s : ℕ) 
         last (suc j) c k = absurd k
 
         go : Split (keep f es) (e ∷ []) i d → Slot vs t′ m′ (slot i) d
-        go (inl k) = slot-kept (slot i) d (apart i (at-length (keep f es) i d k)) (held i d k)
+        go (inl k) = let o = apart i (at-length (keep f es) i d k) in slot-kept (slot i) d (o .0) (o .1) (held i d k)
         go (inr k) = last (k .0) (k .1) (k .2)
 
     -- and of the other kind
-    rows-same : (f : Entry → Bool) (slot : ℕ → ℕ) → f e ≡ false → ((i : ℕ) → i < length (keep f es) → slot i ≡ s → ⊥)
+    rows-same : (f : Entry → Bool) (slot : ℕ → ℕ) → f e ≡ false → ((i : ℕ) → i < length (keep f es) → (slot i < 512) × (slot i ≡ s → ⊥))
         → ((i : ℕ) (d : Entry) → At (keep f es) i d → Slot vs t m (slot i) d) → (i : ℕ) (d : Entry) → At (keep f (es ++ (e ∷ []))) i d → Slot vs t′ m′ (slot i) d
     rows-same f slot a apart held i d at =
         let k = subst (λ l. At l i d) (keep-same f es e a) at in
-        slot-kept (slot i) d (apart i (at-length (keep f es) i d k)) (held i d k)
+        let o = apart i (at-length (keep f es) i d k) in
+        slot-kept (slot i) d (o .0) (o .1) (held i d k)
 
     -- a row of `<=` or `>=`
     less-held : s ≡ less → isEqual (e .source .constraint .relation) ≡ false → RowsHeld vs t′ m′ (less + 1) equal (es ++ (e ∷ []))
@@ -216,8 +271,8 @@ module _ (vs : List Variable) (t t′ : List ℕ) (m m′ : List ℤ) (s : ℕ) 
           lessCount = rw (keep-more lessRow es e is, length-append (keep lessRow es) (e ∷ [])) (omega (arith, h .lessCount));
           equalCount = rw (keep-same equalRow es e not) (h .equalCount);
           room = omega arith;
-          lessRows = rows-more lessRow lessSlot is (a ∙ h .lessCount) (λ i b c. omega (arith, h .lessCount)) (h .lessRows);
-          equalRows = rows-same equalRow equalSlot not (λ i b c. omega (arith, h .equalCount)) (h .equalRows);
+          lessRows = rows-more lessRow lessSlot is (a ∙ h .lessCount) (λ i b. (omega (arith, h .lessCount), λ c. omega (arith, h .lessCount))) (h .lessRows);
+          equalRows = rows-same equalRow equalSlot not (λ i b. (omega (arith, h .equalCount), λ c. omega (arith, h .equalCount))) (h .equalRows);
         }
 
     -- a row of `=`
@@ -230,8 +285,8 @@ module _ (vs : List Variable) (t t′ : List ℕ) (m m′ : List ℤ) (s : ℕ) 
           lessCount = rw (keep-same lessRow es e not) (h .lessCount);
           equalCount = rw (keep-more equalRow es e is, length-append (keep equalRow es) (e ∷ [])) (omega (arith, h .equalCount));
           room = omega arith;
-          lessRows = rows-same lessRow lessSlot not (λ i b c. omega (arith, h .lessCount)) (h .lessRows);
-          equalRows = rows-more equalRow equalSlot is (omega (arith, h .equalCount)) (λ i b c. omega (arith, h .equalCount)) (h .equalRows);
+          lessRows = rows-same lessRow lessSlot not (λ i b. (omega (arith, h .lessCount), λ c. omega (arith, h .lessCount))) (h .lessRows);
+          equalRows = rows-more equalRow equalSlot is (omega (arith, h .equalCount)) (λ i b. (omega (arith, h .equalCount), λ c. omega (arith, h .equalCount))) (h .equalRows);
         }
 
 -- ---- what the code of slots answers
@@ -288,9 +343,10 @@ module _ (f : Filled) (b : Bool) (r : Filled) (room : f .less + f .equal < 512) 
   unfolding countedAs
   counted-less-is d e = rw (e, d) (one-more (f .less) (omega arith), refl)
 
-pub wrote : (t t′ : List ℕ) (f r : Filled) (b : Bool) (i : ℕ) (l : List ℤ) (v : Value) (s w : ℕ) (k : Key) → s ≡ nextSlot (f .less) (f .equal) b → keyNumber k ≡ keyOf i l → w ≡ packed v
-    → t′ ≡ appended t s k w → r ≡ countedAs f b → Wrote t f b i l v r t′
-wrote t t′ f r b i l v s w k hs hk hw ht hr = record { filled = hr; row = rw (sym hs, sym hk, sym hw, ht) (entered t s k w) }
+pub wrote : (t half t′ : List ℕ) (f r : Filled) (b : Bool) (i : ℕ) (l : List ℤ) (v : Value) (s q u w : ℕ) (k : Key) → s ≡ nextSlot (f .less) (f .equal) b → keyNumber k ≡ keyOf i l
+    → u ≡ packed v → half ≡ appended t s k u → q ≡ floorSlot s → t′ ≡ appended half q k w → r ≡ countedAs f b → Wrote t f b i l v w r t′
+wrote t half t′ f r b i l v s q u w k hs hk hu hh hq ht hr =
+    record { filled = hr; between = half; row = rw (sym hs, sym hk, sym hu, hh) (entered t s k u); floor = rw (sym hs, sym hq, sym hk, ht) (entered half q k w) }
 
 -- ---- one entry more
 
@@ -326,27 +382,28 @@ module _ (vs : List Variable) (t : List ℕ) (m : List ℤ) where
 
   -- a row in its slot
   module _ (t′ : List ℕ) (m′ p : List ℤ) (f r : Filled) (b : Bool) (es : List Entry) (e : Entry) where
-    pub row-added : RowsHeld vs t m (f .less) (f .equal) es → f .less + f .equal < 512 → 2048 ≤ length t → isRow (e .fact) ≡ true → isEqual (e .source .constraint .relation) ≡ b
-        → Keyed (e .source .ordinal) (e .source .element) → Valid (rightOf (e .fact)) → Wrote t f b (e .source .ordinal) (e .source .element) (rightOf (e .fact)) r t′
+    pub row-added : RowsHeld vs t m (f .less) (f .equal) es → f .less + f .equal < 512 → 4104 ≤ length t → isRow (e .fact) ≡ true → isEqual (e .source .constraint .relation) ≡ b
+        → Keyed (e .source .ordinal) (e .source .element) → Valid (rightOf (e .fact)) → (c : Scope) → FloorIs (e .source .constraint .relation) c (e .floor) → ValidIfAny (e .floor)
+        → (w : ℕ) → w ≡ floorWord (e .floor) → Wrote t f b (e .source .ordinal) (e .source .element) (rightOf (e .fact)) w r t′
         → RowPut (length vs) m (nextSlot (f .less) (f .equal) b) p m′ → RowOf vs p (coefficientsOf (e .fact)) → RowsHeld vs t′ m′ (r .less) (r .equal) (es ++ (e ∷ []))
-    row-added h room size z q keyed valid w put row = go b refl
+    row-added h room size z q keyed valid c fl vf w hw x put row = go b refl
       where
-        low : nextSlot (f .less) (f .equal) b < length t / 4
-        low = omega (arith, next-low (f .less) (f .equal) b room)
+        low : nextSlot (f .less) (f .equal) b < 512
+        low = next-low (f .less) (f .equal) b room
 
         new : Slot vs t′ m′ (nextSlot (f .less) (f .equal) b) e
-        new = slot-new vs t t′ m m′ (nextSlot (f .less) (f .equal) b) _ _ p (w .row) put e low keyed refl valid refl row
+        new = slot-new vs t (x .between) t′ m m′ _ _ _ w p (x .row) (x .floor) low put e c size keyed refl valid refl fl vf hw row
 
         go : (c : Bool) → b ≡ c → RowsHeld vs t′ m′ (r .less) (r .equal) (es ++ (e ∷ []))
         go true d =
-            let (x, y) = counted-equal-is f b r room d (w .filled) in
-            rw (x, y)
-            (equal-held vs t t′ m m′ (nextSlot (f .less) (f .equal) b) _ _ p (w .row) put (f .less) (f .equal) es e h room z new
+            let (a, o) = counted-equal-is f b r room d (x .filled) in
+            rw (a, o)
+            (equal-held vs t (x .between) t′ m m′ _ _ _ w p (x .row) (x .floor) low put (f .less) (f .equal) es e h room z new
             (ap (nextSlot (f .less) (f .equal)) d ∙ next-equal (f .less) (f .equal) room) (q ∙ d))
         go false d =
-            let (x, y) = counted-less-is f b r room d (w .filled) in
-            rw (x, y)
-            (less-held vs t t′ m m′ (nextSlot (f .less) (f .equal) b) _ _ p (w .row) put (f .less) (f .equal) es e h room z new
+            let (a, o) = counted-less-is f b r room d (x .filled) in
+            rw (a, o)
+            (less-held vs t (x .between) t′ m m′ _ _ _ w p (x .row) (x .floor) low put (f .less) (f .equal) es e h room z new
             (ap (nextSlot (f .less) (f .equal)) d ∙ next-less (f .less) (f .equal) room) (q ∙ d))
 
 -- ---- the objective

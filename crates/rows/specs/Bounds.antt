@@ -8,14 +8,14 @@ use lib.Dec.{eqb}
 use lib.ListN.{getD, set}
 use Rattle.value.specs.declared.Value.{Value}
 use Rattle.value.specs.Decimal.{Valid, isAtMost, inRange}
-use Rattle.language.specs.Syntax.{Relation, atMost, atLeast, equal}
+use Rattle.language.specs.Syntax.{Relation, atMost, atLeast, equal, between}
 use Rattle.language.specs.All.{All}
 use Rattle.language.specs.Numbering.{Entry, picked, extreme, isAtLeast, lowerAt, upperAt}
 use Rattle.store.specs.Packed.{packed, unpacked}
 
 -- what is stated for variable j, in text order
 unfoldable pub lowersOf : List Entry → ℕ → List Value
-lowersOf es j = picked (λ e. lowerAt (e .source .constraint .relation) (e .fact) j) es
+lowersOf es j = picked (λ e. lowerAt (e .source .constraint .relation) (e .fact) (e .floor) j) es
 
 unfoldable pub uppersOf : List Entry → ℕ → List Value
 uppersOf es j = picked (λ e. upperAt (e .source .constraint .relation) (e .fact) j) es
@@ -57,13 +57,19 @@ stateWord larger b t k v = cond b (set t k (statedWord larger (getD t k 0) v)) t
 unfoldable pub boundStated : List ℕ → ℕ → Bool → Bool → Value → List ℕ
 boundStated t j lower upper v = stateWord false upper (stateWord true lower t (j * 2) v) (j * 2 + 1) v
 
--- what a relation states
+-- the floor of a word, 0 for none, stated as a lower bound of variable j
+unfoldable pub floorStated : List ℕ → ℕ → ℕ → List ℕ
+floorStated t j w = cond (eqb w 0) t (boundStated t j true false (unpacked w))
+
+-- what a relation states by its right side
 abbrev pub statesLower : Relation → Bool
 statesLower atMost = false
 statesLower atLeast = true
 statesLower equal = true
+statesLower (between h) = false
 
 abbrev pub statesUpper : Relation → Bool
 statesUpper atMost = true
 statesUpper atLeast = false
 statesUpper equal = true
+statesUpper (between h) = true

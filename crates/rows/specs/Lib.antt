@@ -2,6 +2,6 @@ pub mod Counts
 pub mod Slots
 pub mod Bounds
 pub mod Problems
-pub mod Upper
+pub mod End
 pub mod Read
 pub mod Held

@@ -36,9 +36,9 @@ fitted TooBig = zeroValue
 unfoldable pub valueOf : ℤ → Value
 valueOf z = fitted (ofMillionths z)
 
--- bounds by their words
+-- bounds and floors by their words
 unfoldable pub lowerIn : ℕ → Value
 lowerIn w = cond (eqb w 0) zeroValue (unpacked w)
 
-unfoldable pub upperIn : ℕ → Option Value
-upperIn w = cond (eqb w 0) none (some (unpacked w))
+unfoldable pub endIn : ℕ → Option Value
+endIn w = cond (eqb w 0) none (some (unpacked w))

@@ -1,9 +1,10 @@
 -- The rows of a problem, in slots: those of `<=` and `>=` from the first slot on, those of `=` from the last one back, each in
--- text order; so a row keeps its slot while others come. A slot has a row of the table (the constraint's number and element as
--- its key, the right side as its word) and a row of counts. The objective has a row of counts behind the slots, and one row more
--- is spare.
+-- text order; so a row keeps its slot while others come. A slot has two rows of the table (the constraint's number and element as
+-- their key; the right side as the word of one, the floor as that of the other, 0 where there is none) and a row of counts. The
+-- objective has a row of counts behind the slots, and one row more is spare; the rows of floors follow these.
 use mathlib.Core.Path.{_≡_}
 use mathlib.Core.Bool.{Bool, true, false, cond}
+use mathlib.Core.Option.{Option, none, some}
 use mathlib.Core.List.{List}
 use Prim.Native.Nat.{ℕ, suc, _+_, _-_, _*_, _≤_}
 use lib.Dec.{ltb}
@@ -12,9 +13,11 @@ use lib.IntN.{ℤ}
 use Rattle.rules.specs.Limits.{rowLimit, variableLimit}
 use Rattle.value.specs.declared.Value.{Value}
 use Rattle.value.specs.Decimal.{Valid}
-use Rattle.language.specs.Numbering.{Variable, Row, Entry, keep, lessRow, equalRow}
+use Rattle.language.specs.Valid.{ValidIfAny}
+use Rattle.language.specs.Numbering.{Variable, Row, Entry, keep, isEqual, lessRow, equalRow}
 use Rattle.language.specs.Listed.{At}
-use Rattle.language.specs.Listing.{rightOf, coefficientsOf}
+use Rattle.language.specs.Listing.{rightOf, coefficientsOf, kindOf, kindBy}
+use Rattle.language.specs.Listing as Listing
 use Rattle.store.specs.Key.{keyOf}
 use Rattle.store.specs.Table.{keyAt, wordAt, hasRoom}
 use Rattle.store.specs.Packed.{packed}
@@ -40,12 +43,24 @@ pub record ObjectiveHeld (vs : List Variable) (m : List ℤ) (r : Row) : Type 0 
 
 -- ---- slots
 
+-- the row with the floor of slot k
+unfoldable pub floorSlot : ℕ → ℕ
+floorSlot k = cond (ltb k (rowLimit + 2)) (k + rowLimit + 2) 0
+
+-- a floor's word
+unfoldable pub floorWord : Option Value → ℕ
+floorWord none = 0
+floorWord (some v) = packed v
+
 -- what slot k holds
 pub record Slot (vs : List Variable) (t : List ℕ) (m : List ℤ) (k : ℕ) (e : Entry) : Type 0 where
   pub keyed : Keyed (e .source .ordinal) (e .source .element)
   pub key : keyAt t k ≡ keyOf (e .source .ordinal) (e .source .element)
   pub valid : Valid (rightOf (e .fact))
   pub right : wordAt t k ≡ packed (rightOf (e .fact))
+  pub kind : kindOf (e .source .constraint .relation) ≡ cond (isEqual (e .source .constraint .relation)) Listing.equal (kindBy (e .floor))
+  pub validFloor : ValidIfAny (e .floor)
+  pub floor : wordAt t (floorSlot k) ≡ floorWord (e .floor)
   pub row : RowOf vs (countsAt m (length vs) k) (coefficientsOf (e .fact))
 
 -- the slot of the i-th row of `<=` and `>=`, and of the i-th of `=`, from 0
@@ -94,7 +109,9 @@ pub record RowPut (n : ℕ) (m : List ℤ) (s : ℕ) (p m′ : List ℤ) : Type 
   pub here : countsAt m′ n s ≡ p
   pub others : (k : ℕ) → (k ≡ s → ⊥) → countsAt m′ n k ≡ countsAt m n k
 
--- the next row of the constraint number i at the element l, with its right side v
-pub record Wrote (t : List ℕ) (f : Filled) (b : Bool) (i : ℕ) (l : List ℤ) (v : Value) (r : Filled) (t′ : List ℕ) : Type 0 where
+-- the next row of the constraint number i at the element l, with its right side v and the word w of its floor
+pub record Wrote (t : List ℕ) (f : Filled) (b : Bool) (i : ℕ) (l : List ℤ) (v : Value) (w : ℕ) (r : Filled) (t′ : List ℕ) : Type 0 where
   pub filled : r ≡ countedAs f b
-  pub row : Entered t (nextSlot (f .less) (f .equal) b) (keyOf i l) (packed v) t′
+  pub between : List ℕ
+  pub row : Entered t (nextSlot (f .less) (f .equal) b) (keyOf i l) (packed v) between
+  pub floor : Entered between (floorSlot (nextSlot (f .less) (f .equal) b)) (keyOf i l) w t′

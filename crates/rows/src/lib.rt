@@ -8,11 +8,12 @@ ghost use lib.ListN.{length, getD, replicate};
 ghost use lib.IntN.{pos};
 ghost use Rattle.rules.specs.Limits.{rowLimit};
 ghost use Rattle.store.specs.Element.{listOf};
+ghost use Rattle.store.specs.Table.{wordAt};
 ghost use Rattle.rows.specs.Counts.{opposed};
-ghost use Rattle.rows.specs.Slots.{nextSlot, oneMore, countedAs, Wrote};
-ghost use Rattle.rows.specs.Bounds.{lowerWord, upperWord, givesWay, statedWord, stateWord, boundStated};
-ghost use Rattle.rows.specs.Upper.{bound};
-ghost use Rattle.rows.specs.Read.{within, slotAt, countAt, valueOf, lowerIn, upperIn};
+ghost use Rattle.rows.specs.Slots.{nextSlot, floorSlot, oneMore, countedAs, Wrote};
+ghost use Rattle.rows.specs.Bounds.{lowerWord, upperWord, givesWay, statedWord, stateWord, boundStated, floorStated};
+ghost use Rattle.rows.specs.End.{endOf};
+ghost use Rattle.rows.specs.Read.{within, slotAt, countAt, valueOf, lowerIn, endIn};
 
 // ---- rows of counts
 
@@ -107,7 +108,18 @@ fn counted(filled: Filled, equal: bool) -> Filled
     }
 }
 
-// Writes the next row's constraint, element and right side into its slot, and counts it.
+// The row of the table that has the floor of a slot, behind the slots, the objective's row and the spare one.
+fn floor_slot(k: usize) -> usize
+    ensures { λ r. ⌜ r ≡ floorSlot k ⌝ }
+{
+    if k < rules::ROW_LIMIT + 2 {
+        return k + rules::ROW_LIMIT + 2;
+    }
+    0
+}
+
+// Writes the next row's constraint, element and right side into its slot and its floor's word, 0 where it has none, into the slot's
+// second row, and counts it.
 pub fn write(
     rows: &mut [u64],
     filled: Filled,
@@ -115,13 +127,15 @@ pub fn write(
     ordinal: usize,
     e: store::Element,
     right: value::Value,
+    floor: u64,
 ) -> Filled
-    ensures { λ r. ⌜ Wrote (now (rows .entry)) filled equal ordinal (listOf e) right r (now (rows .exit)) ⌝ }
+    ensures { λ r. ⌜ Wrote (now (rows .entry)) filled equal ordinal (listOf e) right floor r (now (rows .exit)) ⌝ }
 {
     let slot = next_slot(filled, equal);
     let key = store::key_of(ordinal, e);
     let word = store::pack(right);
     store::append(rows, slot, key, word);
+    store::append(rows, floor_slot(slot), key, floor);
     counted(filled, equal)
 }
 
@@ -174,6 +188,16 @@ pub fn state(bounds: &mut [u64], j: usize, lower: bool, upper: bool, v: value::V
     let k = j * 2;
     state_word(bounds, k, lower, true, v);
     state_word(bounds, k + 1, upper, false, v);
+}
+
+// States the floor of a word as a lower bound of variable j, where there is one.
+pub fn state_floor(bounds: &mut [u64], j: usize, floor: u64)
+    ensures { λ _. ⌜ now (bounds .exit) ≡ floorStated (now (bounds .entry)) j floor ⌝ }
+{
+    if floor == 0 {
+        return;
+    }
+    state(bounds, j, true, false, store::unpack(floor));
 }
 
 // ---- a problem's sizes, and what is read of its tables
@@ -251,10 +275,21 @@ pub fn value_of(z: i64) -> value::Value
     }
 }
 
-// A variable's upper bound.
-pub enum Upper {
+// A variable's upper bound or a row's floor, which may be absent.
+pub enum End {
     None,
     At(value::Value),
+}
+
+// The floor of a slot, if it has one.
+pub fn floor_of(rows: &[u64], k: usize) -> End
+    ensures { λ r. ⌜ endOf r ≡ endIn (wordAt (now (rows .entry)) (floorSlot k)) ⌝ }
+{
+    let w = store::word_at(rows, floor_slot(k));
+    if w == 0 {
+        return End::None;
+    }
+    End::At(store::unpack(w))
 }
 
 // The lower bound of variable j, from 0: that which is stated, or 0.
@@ -272,15 +307,15 @@ pub fn lower_of(bounds: &[u64], j: usize) -> value::Value
 }
 
 // The upper bound of variable j, from 0: that which is stated, or none.
-pub fn upper_of(bounds: &[u64], j: usize) -> Upper
-    ensures { λ r. ⌜ bound r ≡ upperIn (upperWord (now (bounds .entry)) j) ⌝ }
+pub fn upper_of(bounds: &[u64], j: usize) -> End
+    ensures { λ r. ⌜ endOf r ≡ endIn (upperWord (now (bounds .entry)) j) ⌝ }
 {
     if bounds.len() <= j {
-        return Upper::None;
+        return End::None;
     }
     let w = word(bounds, j * 2 + 1);
     if w == 0 {
-        return Upper::None;
+        return End::None;
     }
-    Upper::At(store::unpack(w))
+    End::At(store::unpack(w))
 }

@@ -1,5 +1,5 @@
 -- `constraints::locate` meets its contract.
-use Rattle.constraints.proofs.RowLaws.{row-title, row-left, row-relation, row-right, row-domain}
+use Rattle.constraints.proofs.RowLaws.{row-title, row-left, row-right, row-domain}
 use borrow.Author.Needs.{needs}
 use Rattle.constraints.proofs.locate.Statement.{statement}
 use Rattle.constraints.proofs.locate.Tie as tie
@@ -18,15 +18,10 @@ locate-spec =
     (λ c. search needs)  -- enum-told-2
     (λ c κs. search needs)  -- nowhere-requires-2
     (λ c. search row-left depth 9)  -- returns-2
-    (λ c κs. search needs)  -- relation-requires
-    (λ c. search needs)  -- enum-known-sign
+    (λ c κs. search needs)  -- comparison-requires
+    (λ c. search needs)  -- enum-known-behind
     (λ c. search needs)  -- enum-told-3
     (λ c κs. search needs)  -- nowhere-requires-3
-    (λ c. search row-relation depth 11)  -- returns-3
-    (λ c κs. search needs)  -- formula-requires
-    (λ c. search needs)  -- enum-known-right
-    (λ c. search needs)  -- enum-told-4
-    (λ c κs. search needs)  -- nowhere-requires-4
-    (λ c. search row-right depth 13)  -- returns-4
+    (λ c. search row-right depth 11)  -- returns-3
     (λ c κs. search needs)  -- optional-domain-requires
-    (λ c. search row-domain depth 14))  -- returns-5
+    (λ c. search row-domain depth 12))  -- returns-4

@@ -12,7 +12,6 @@ cell-line-spec =
     (λ c. search needs)  -- slice-aggregate-numbered
     (λ c κs. search needs)  -- numbered-requires
     (λ c. search needs)  -- slice-aggregate-value-line
-    (λ c. search needs)  -- slice-aggregate-value-line-2
     (λ c κs. search needs)  -- value-line-requires
     (λ c. search needs)  -- same-length
     (λ c. (search cell-then depth 9, omega arith)))  -- returns

@@ -12,11 +12,11 @@ use Rattle.exporter.proofs.cells.Statement.{statement}
 use Rattle.exporter.proofs.cells.Tie as tie
 
 abbrev Inv-loop : tie.InvT-loop
-Inv-loop counts less n j out₀ at next₀ i₀ out next i =
-    (i ≤ n) × (next ≤ at + 256 * i) × (length out ≡ length out₀) × Left out₀ at (textFrom (cellText counts less j) n 0) out next (textFrom (cellText counts less j) (n - i) i)
+Inv-loop slots counts less n j out₀ at next₀ i₀ out next i =
+    (i ≤ n) × (next ≤ at + 512 * i) × (length out ≡ length out₀) × Left out₀ at (textFrom (cellText slots counts less j) n 0) out next (textFrom (cellText slots counts less j) (n - i) i)
 
 abbrev μ-loop : tie.MeasureT-loop
-μ-loop counts less n j out₀ at next₀ i₀ out next i = n - i
+μ-loop slots counts less n j out₀ at next₀ i₀ out next i = n - i
 
 loop-holds : tie.Need-loop-holds Inv-loop μ-loop
 loop-holds c = (omega arith, omega arith, refl, text-start _ _ _ _)
@@ -26,6 +26,9 @@ slot-requires c κs = search needs
 
 count-at-requires : tie.Need-count-at-requires Inv-loop μ-loop
 count-at-requires c κs = search needs
+
+floor-at-requires : tie.Need-floor-at-requires Inv-loop μ-loop
+floor-at-requires c κs = search needs
 
 add-cell : tie.Need-add-cell Inv-loop μ-loop
 add-cell c = omega arith
@@ -45,10 +48,11 @@ loop-less c = omega arith
 loop-again : tie.Need-loop-again Inv-loop μ-loop
 loop-again c =
     let w = c .before .before in
-    let z = w .before .before in
+    let f = w .before .before in
+    let z = f .before in
     let t = z .before .before in
     let v = rw (back (z .count-at .ok)) at (w .cell .ensures .0) in
-    (omega arith, omega arith, w .cell .kept .1 .1 .1 .0 ∙ t .before .loop .inv .2, text-more _ _ _ (t .before .loop .inv .3) (t .loop-test .taken) (cell-told _ _ _ _ _ _ (z .before .slot .ensures) (z .count-at .ensures) v))
+    (omega arith, omega arith, w .cell .kept .1 .1 .1 .1 .0 ∙ t .before .loop .inv .2, text-more _ _ _ (t .before .loop .inv .3) (t .loop-test .taken) (cell-told _ _ _ _ _ _ _ _ (z .before .slot .ensures) (z .count-at .ensures) (f .floor-at .ensures) v))
 
 same-length : tie.Need-same-length Inv-loop μ-loop
 same-length c = c .before .loop .inv .2
@@ -65,6 +69,7 @@ cells-spec =
     loop-holds
     slot-requires
     count-at-requires
+    floor-at-requires
     add-cell
     add-cell-2
     cell-requires

@@ -10,11 +10,11 @@ use Rattle.exporter.proofs.columns.Statement.{statement}
 use Rattle.exporter.proofs.columns.Tie as tie
 
 abbrev Inv-loop : tie.InvT-loop
-Inv-loop counts less n from to out₀ at next₀ j₀ out next j =
-    (from ≤ j) × (j ≤ to) × (next ≤ at + 131200 * (j - from)) × (length out ≡ length out₀) × Left out₀ at (textFrom (columnText counts less n) (to - from) from) out next (textFrom (columnText counts less n) (to - j) j)
+Inv-loop slots counts less n from to out₀ at next₀ j₀ out next j =
+    (from ≤ j) × (j ≤ to) × (next ≤ at + 262272 * (j - from)) × (length out ≡ length out₀) × Left out₀ at (textFrom (columnText slots counts less n) (to - from) from) out next (textFrom (columnText slots counts less n) (to - j) j)
 
 abbrev μ-loop : tie.MeasureT-loop
-μ-loop counts less n from to out₀ at next₀ j₀ out next j = to - j
+μ-loop slots counts less n from to out₀ at next₀ j₀ out next j = to - j
 
 loop-holds : tie.Need-loop-holds Inv-loop μ-loop
 loop-holds c = (omega arith, omega arith, omega arith, refl, left-all _ _ _)
@@ -32,7 +32,7 @@ loop-again : tie.Need-loop-again Inv-loop μ-loop
 loop-again c =
     let w = c .before .before in
     let t = w .before .before in
-    (omega arith, omega arith, omega arith, w .column .kept .1 .1 .1 .1 .0 ∙ t .before .loop .inv .3, text-more _ _ _ (t .before .loop .inv .4) (t .loop-test .taken) (w .column .ensures .0))
+    (omega arith, omega arith, omega arith, w .column .kept .1 .1 .1 .1 .1 .0 ∙ t .before .loop .inv .3, text-more _ _ _ (t .before .loop .inv .4) (t .loop-test .taken) (w .column .ensures .0))
 
 same-length : tie.Need-same-length Inv-loop μ-loop
 same-length c = c .before .loop .inv .3

@@ -16,5 +16,8 @@ right-line-spec =
     (λ c. search needs)  -- add-value-line
     (λ c. search needs)  -- slice-aggregate-value-line-2
     (λ c κs. search needs)  -- value-line-requires
+    (λ c. search needs)  -- add-floor-line
+    (λ c κs. search needs)  -- floor-at-requires
+    (λ c κs. search needs)  -- floor-line-requires
     (λ c. search needs)  -- same-length
     (λ c. (search right-line depth 10, omega arith)))  -- returns

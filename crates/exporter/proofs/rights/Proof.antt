@@ -11,7 +11,7 @@ use Rattle.exporter.proofs.rights.Tie as tie
 
 abbrev Inv-loop : tie.InvT-loop
 Inv-loop slots less n out₀ at next₀ i₀ out next i =
-    (i ≤ n) × (next ≤ at + 128 * i) × (length out ≡ length out₀) × Left out₀ at (textFrom (rightText slots less) n 0) out next (textFrom (rightText slots less) (n - i) i)
+    (i ≤ n) × (next ≤ at + 256 * i) × (length out ≡ length out₀) × Left out₀ at (textFrom (rightText slots less) n 0) out next (textFrom (rightText slots less) (n - i) i)
 
 abbrev μ-loop : tie.MeasureT-loop
 μ-loop slots less n out₀ at next₀ i₀ out next i = n - i

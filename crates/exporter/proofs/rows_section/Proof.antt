@@ -11,9 +11,6 @@ rows-section-spec =
     (tie.spec
     (λ c. search needs)  -- slice-aggregate-put-word
     (λ c κs. search needs)  -- put-word-requires
-    (λ c. search needs)  -- slice-aggregate-row-lines
     (λ c κs. search needs)  -- row-lines-requires
-    (λ c. search needs)  -- slice-aggregate-row-lines-2
-    (λ c κs. search needs)  -- row-lines-requires-2
     (λ c. search needs)  -- same-length
     (λ c. (search rows-then depth 9, omega arith)))  -- returns

@@ -26,7 +26,7 @@ add-n c = let e = limits (c .before) in omega (arith, e .sizes .rows)
 rows-section-requires : tie.Need-rows-section-requires
 rows-section-requires c κs =
     let e = limits (c .before .before) in
-    (omega arith, e .sizes .rows)
+    e .sizes .rows
 
 columns-section-requires : tie.Need-columns-section-requires
 columns-section-requires c κs =

@@ -9,10 +9,10 @@ use Rattle.importer.proofs.cells.Statement.{statement}
 use Rattle.importer.proofs.cells.Tie as tie
 
 abbrev Inv-loop : tie.InvT-loop
-Inv-loop text at rows j out₀ place next₀ to₀ i₀ out next to i = Each (cellAt j) (cellBytes j) rows text at out₀ place i next out to
+Inv-loop text at floors rows j out₀ place next₀ to₀ i₀ out next to i = Each (cellAt floors j) (cellBytes j) rows text at out₀ place i next out to
 
 abbrev μ-loop : tie.MeasureT-loop
-μ-loop text at rows j out₀ place next₀ to₀ i₀ out next to i = rows - i
+μ-loop text at floors rows j out₀ place next₀ to₀ i₀ out next to i = rows - i
 
 pub cells-spec : {M : Type 1} → statement M
 cells-spec =

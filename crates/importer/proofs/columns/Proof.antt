@@ -7,10 +7,10 @@ use Rattle.importer.proofs.columns.Statement.{statement}
 use Rattle.importer.proofs.columns.Tie as tie
 
 abbrev Inv-loop : tie.InvT-loop
-Inv-loop text at rows from limit out₀ place next₀ to₀ k₀ t13 out next to k = Several rows limit from text at out₀ place k next out to
+Inv-loop text at floors rows from limit out₀ place next₀ to₀ k₀ t13 out next to k = Several floors rows limit from text at out₀ place k next out to
 
 abbrev μ-loop : tie.MeasureT-loop
-μ-loop text at rows from limit out₀ place next₀ to₀ k₀ t13 out next to k = limit - k
+μ-loop text at floors rows from limit out₀ place next₀ to₀ k₀ t13 out next to k = limit - k
 
 pub columns-spec : {M : Type 1} → statement M
 columns-spec =
@@ -18,7 +18,7 @@ columns-spec =
     (tie.spec
     Inv-loop
     μ-loop
-    (λ c. several-first _ _ _ _ _ _ _ (omega arith))  -- loop-holds
+    (λ c. several-first _ _ _ _ _ _ _ _ (omega arith))  -- loop-holds
     (λ c. search needs)  -- slice-aggregate-strip
     (λ c κs. omega arith)  -- strip-requires
     (λ c. search needs)  -- enum-told

@@ -13,16 +13,14 @@ opening-spec =
     (λ c. search needs)  -- slice-aggregate-strip
     (λ c κs. search needs)  -- strip-requires
     (λ c. search needs)  -- enum-known-at
-    (λ c. search needs)  -- slice-aggregate-count-rows
-    (λ c κs. (search move-inside depth 6, omega arith))  -- count-rows-requires
-    (λ c. search needs)  -- slice-aggregate-count-rows-2
-    (λ c. search needs)  -- sub-count-rows
-    (λ c κs. search needs)  -- count-rows-requires-2
+    (λ c κs. (search move-inside depth 6, omega arith))  -- less-rows-requires
+    (λ c. search needs)  -- sub-equal-rows
+    (λ c κs. search needs)  -- equal-rows-requires
     (λ c. search needs)  -- slice-aggregate-strip-2
     (λ c κs. search needs)  -- strip-requires-2
     (λ c. search needs)  -- enum-known-next
     (λ c. search needs)  -- enum-told
     (λ c. search needs)  -- enum-told-2
-    (λ c. search open-all depth 12)  -- returns
-    (λ c. search open-other depth 12)  -- returns-2
+    (λ c. search open-all depth 13)  -- returns
+    (λ c. search open-other depth 13)  -- returns-2
     (λ c. search open-none depth 8))  -- returns-3

@@ -1,6 +1,6 @@
 -- `importer::strip_number` meets its contract.
 use borrow.Author.Needs.{needs}
-use Rattle.importer.proofs.Values.{print-fits, print-size, number-strips}
+use Rattle.importer.proofs.Values.{number-strips}
 use Rattle.importer.proofs.strip_number.Statement.{statement}
 use Rattle.importer.proofs.strip_number.Tie as tie
 
@@ -10,9 +10,5 @@ strip-number-spec =
     (tie.spec
     (λ c. search needs)  -- cast-of-whole
     (λ c κs. search needs)  -- of-whole-requires
-    (λ c. search needs)  -- slice-aggregate-print
-    (λ c κs. search needs)  -- print-requires
-    (λ c. search (print-fits, needs) depth 6)  -- array-share-prefix-digits
-    (λ c. search (print-size, needs) depth 6)  -- slice-aggregate-strip
-    (λ c κs. search needs)  -- strip-requires
-    (λ c. search (number-strips, needs) depth 10))  -- returns
+    (λ c κs. search needs)  -- strip-print-requires
+    (λ c. search number-strips depth 8))  -- returns

@@ -15,11 +15,8 @@ put-text-requires c κs = omega arith
 number-field-requires : tie.Need-number-field-requires
 number-field-requires c κs = omega arith
 
-letter-requires : tie.Need-letter-requires
-letter-requires c κs = omega arith
-
-letter-field-requires : tie.Need-letter-field-requires
-letter-field-requires c κs = omega arith
+kind-field-requires : tie.Need-kind-field-requires
+kind-field-requires c κs = omega arith
 
 value-field-requires : tie.Need-value-field-requires
 value-field-requires c κs = omega arith
@@ -39,11 +36,11 @@ returns c =
     let s = e .before .before .before .before in
     let v = s .before .before .before .before in
     let k = v .before .before .before .before in
-    let n = k .before .before .before .before .before in
+    let n = k .before .before .before .before in
     let w = n .before .before .before .before in
     line-then (rowLine _ _ _ _ _) (w .put-text .ensures)
     (field-then _ (n .number-field .ensures .0)
-    (field-then _ (rw (k .before .letter .ensures) at (k .letter-field .ensures .0))
+    (field-then _ (k .kind-field .ensures .0)
     (field-then _ (v .value-field .ensures .0) (field-then _ (s .text-field .ensures .0) (e .element-fields .ensures)))))
 
 pub row-spec : {M : Type 1} → statement M
@@ -53,8 +50,7 @@ row-spec =
     slice-aggregate-put-text
     put-text-requires
     number-field-requires
-    letter-requires
-    letter-field-requires
+    kind-field-requires
     value-field-requires
     text-field-requires
     element-fields-requires

@@ -1,11 +1,12 @@
 -- The listing: the tables of a problem tell its lines.
 use mathlib.Core.Path.{_≡_, refl, sym, _∙_, ap, subst}
 use mathlib.Core.Bool.{Bool, true, false, not}
-use mathlib.Core.List.{List, [], _∷_, _++_, append-assoc}
-use Prim.Native.Nat.{ℕ, suc, _+_, _<_, _≤_}
+use mathlib.Core.List.{List, [], _∷_, _++_}
+use Prim.Native.Nat.{ℕ, _+_, _<_, _≤_}
 use native.Mathlib.Omega.{arith}
 use native.Mathlib.Numerals.{add-one}
 use borrow.Author.Tests.{not-true}
+use lib.Dec.{leb}
 use lib.ListN.{length, length-append}
 use lib.IntN.{ℤ}
 use Rattle.rules.specs.Limits.{rowLimit}
@@ -17,12 +18,12 @@ use Rattle.language.proofs.All.{all-at, all-append, all-left, all-right}
 use Rattle.language.specs.Listed.{At}
 use Rattle.language.proofs.Listed.{at-length, at-getD}
 use Rattle.language.specs.Model.{Model}
-use Rattle.language.specs.Numbering.{Entry, Lp, keep, lessRow, equalRow, lessRows, equalRows, rows}
-use Rattle.language.specs.Listing.{Line, lpLine, endLine, rightOf, coefficientsOf, rowLines, varLines, colLines, linesOf}
+use Rattle.language.specs.Numbering.{Entry, Lp, isEqual, keep, lessRow, equalRow, lessRows, equalRows, rows}
+use Rattle.language.specs.Listing.{Line, lpLine, endLine, rightOf, coefficientsOf, kindOf, rowLines, varLines, colLines, linesOf}
 use Rattle.language.specs.Proper.{Proper}
 use Rattle.language.proofs.ProperText.{kept-all}
 use Rattle.listing.specs.Shown.{shownLine, shownLines}
-use Rattle.listing.proofs.Lines.{lines-append}
+use Rattle.listing.proofs.Lines.{lines-join}
 use Rattle.store.specs.Table.{wordAt}
 use Rattle.store.specs.Packed.{unpacked}
 use Rattle.store.specs.Entries.{variableKey}
@@ -32,23 +33,21 @@ use Rattle.rows.specs.declared.Sizes.{Sizes}
 use Rattle.rows.specs.Read.{slotAt}
 use Rattle.rows.specs.Held.{Held}
 use Rattle.rows.proofs.Reading as reading
-use Rattle.rows.proofs.Held.{slot-held, value-told, word-back, lower-told, upper-told}
+use Rattle.rows.proofs.Held.{slot-held, value-told, word-back, floor-told, lower-told, upper-told}
 use Rattle.listing.specs.Sheet.Columns.{columnsFrom}
 use Rattle.listing.specs.Sheet.Strings.{stringAt, within}
-use Rattle.listing.specs.Sheet.Told.{RowTold, VariableTold, Told, WritesAll}
+use Rattle.listing.specs.Sheet.Told.{floorIn, kindAt, concat, RowTold, VariableTold, Told, WritesAll}
 use Rattle.rows.specs.Problems.{KeyedVariable, FromConstraint}
 use Rattle.listing.specs.Sheet.Shown.{Shown, Lists}
 use Rattle.listing.proofs.sheet.Cells.{one-line}
 use Rattle.listing.proofs.sheet.Words.{yes-within}
 use Rattle.listing.proofs.sheet.Texts.{spelled-part, name-told, string-told, title-told}
-use Rattle.listing.proofs.sheet.Slots.{rows-length, allRowLines, line-at, Column, columns-told}
-use Rattle.listing.proofs.sheet.Variables.{variables-length, undeclared, variable-at}
+use Rattle.listing.proofs.sheet.Slots.{rowGroup, rows-joined, equal-last, Column, columns-told}
+use Rattle.listing.proofs.sheet.Variables.{undeclared, variableGroup, variables-joined}
+use Rattle.listing.proofs.sheet.Writing.{all-told}
+use Rattle.listing.proofs.sheet.Groups.{groups, groups-length, group-at, all-of}
 
 -- ---- lines after lines
-
-lines-join : (ks ls : List Line) {l : List ℕ} {at r : ℕ} {l′ : List ℕ} {r′ : ℕ} {l″ : List ℕ} → Written l at (shownLines ks) r l′ → Written l′ r (shownLines ls) r′ l″
-    → Written l at (shownLines (ks ++ ls)) r′ l″
-lines-join ks ls w v = rw (lines-append ks ls) (written-then _ _ _ _ _ _ _ _ w v)
 
 line-join : (k : Line) (ls : List Line) {l : List ℕ} {at r : ℕ} {l′ : List ℕ} {r′ : ℕ} {l″ : List ℕ} → Written l at (shownLine k) r l′ → Written l′ r (shownLines ls) r′ l″
     → Written l at (shownLines (k ∷ ls)) r′ l″
@@ -73,11 +72,11 @@ module _ {s ns ts cs vs rs bs : List ℕ} {m : List ℤ} {z : Sizes} {at place b
   abbrev columnLines : List Line
   columnLines = colLines (length (p .variables)) 0 (lesses ++ equals) (p .objective)
 
-  parts : linesOf x p ≡ firstLine ∷ (allRowLines lesses equals ++ (variableLines ++ (columnLines ++ (endLine ∷ []))))
+  parts : linesOf x p ≡ firstLine ∷ (rowLines 1 (lesses ++ equals) ++ (variableLines ++ (columnLines ++ (endLine ∷ []))))
   unfolding linesOf lessRows equalRows rows
-  parts = ap (λ l. firstLine ∷ l) (sym (append-assoc (rowLines 1 false lesses) (rowLines (suc (length lesses)) true equals) (variableLines ++ (columnLines ++ (endLine ∷ [])))))
+  parts = refl
 
-  proper : All Proper (firstLine ∷ (allRowLines lesses equals ++ (variableLines ++ (columnLines ++ (endLine ∷ [])))))
+  proper : All Proper (firstLine ∷ (rowLines 1 (lesses ++ equals) ++ (variableLines ++ (columnLines ++ (endLine ∷ [])))))
   proper = subst (All Proper) parts (h .proper)
 
   counts : length (lesses ++ equals) ≡ z .less + z .equal
@@ -97,38 +96,50 @@ module _ {s ns ts cs vs rs bs : List ℕ} {m : List ℤ} {z : Sizes} {at place b
   slot : (i : ℕ) (e : Entry) → At (lesses ++ equals) i e → Slot (p .variables) rs m (slotAt (z .less) i) e
   slot i e a = slot-held (p .variables) rs m (z .less) (z .equal) (p .entries) (h .rowsHeld) i e a
 
-  rows-told : Told (RowTold s ts cs rs (z .less)) (z .less + z .equal) (allRowLines lesses equals)
+  -- the lines of each row are proper
+  row-proper : All Proper (concat (groups rowGroup 1 (lesses ++ equals)))
+  row-proper = subst (All Proper) (sym (rows-joined 1 (lesses ++ equals))) (all-left Proper (rowLines 1 (lesses ++ equals)) _ (proper .1))
+
+  rows-told : Told (RowTold s ts cs rs (z .less)) (z .less + z .equal) (groups rowGroup 1 (lesses ++ equals))
+  unfolding kindAt floorIn
   rows-told =
       record {
-        size = omega (arith, length-append (rowLines 1 false lesses) (rowLines (suc (length lesses)) true equals), rows-length 1 false lesses, rows-length (suc (length lesses)) true equals, h .rowsHeld .lessCount, h .rowsHeld .equalCount);
-        each = λ i k a.
-            let r = line-at lesses equals i k a in
+        size = groups-length rowGroup 1 (lesses ++ equals) ∙ counts;
+        each = λ i ks a.
+            let r = group-at rowGroup 1 (lesses ++ equals) i ks a in
             let e = r .0 in
             let o = slot i e (r .1) in
-            let visible = subst Proper (r .2) (all-at Proper (allRowLines lesses equals) i k a (all-left Proper (allRowLines lesses equals) _ (proper .1))) .title in
+            let visible = subst (All Proper) (r .2) (all-of Proper _ i ks a row-proper) .0 .title in
+            let n : 1 + i ≡ i + 1 = omega arith in
+            let floor : floorIn rs (slotAt (z .less) i) ≡ e .floor = floor-told (p .variables) rs m (slotAt (z .less) i) e o in
+            let last : isEqual (e .source .constraint .relation) ≡ leb (z .less) i = equal-last (p .entries) i e (r .1) ∙ ap (λ k. leb k i) (sym (h .rowsHeld .lessCount)) in
+            let kind : kindOf (e .source .constraint .relation) ≡ kindAt (z .less) i (floorIn rs (slotAt (z .less) i)) = o .kind ∙ cc (last, floor) in
             let right : unpacked (wordAt rs (slotAt (z .less) i)) ≡ rightOf (e .fact) = ap unpacked (o .right) ∙ word-back _ (o .valid) in
             let title = title-told s ts cs (x .structure .names) (x .structure .constraints) (e .source .ordinal) (e .source .constraint) (h .constrained) (all-at _ (lesses ++ equals) i e (r .1) sources) visible in
             record {
-              constraint = e .source .ordinal;
-              element = e .source .element;
-              keyed = o .keyed;
-              key = o .key;
-              is = r .2 ∙ cc (h .rowsHeld .lessCount, right, title);
+              own = _;
+              alone = record { constraint = e .source .ordinal; element = e .source .element; keyed = o .keyed; key = o .key; is = refl };
+              is = r .2 ∙ cc (n, kind, right, title, floor);
             };
       }
 
   -- variables
-  variables-told : Told (VariableTold s ns vs bs (z .discrete)) (z .variables) variableLines
+  variable-proper : All Proper (concat (groups (variableGroup (x .structure .names) p) 0 (p .variables)))
+  variable-proper =
+      subst (All Proper) (sym (variables-joined (x .structure .names) p 0 (p .variables)))
+      (all-left Proper variableLines _ (all-right Proper (rowLines 1 (lesses ++ equals)) _ (proper .1)))
+
+  variables-told : Told (VariableTold s ns vs bs (z .discrete)) (z .variables) (groups (variableGroup (x .structure .names) p) 0 (p .variables))
   variables-told =
       record {
-        size = variables-length (x .structure .names) p 0 (p .variables) ∙ sym (h .numbered .count);
-        each = λ j k a.
-            let r = variable-at (x .structure .names) p 0 (p .variables) j k a in
+        size = groups-length (variableGroup (x .structure .names) p) 0 (p .variables) ∙ sym (h .numbered .count);
+        each = λ j ks a.
+            let r = group-at (variableGroup (x .structure .names) p) 0 (p .variables) j ks a in
             let v = r .0 in
             let b : j < z .variables = omega (arith, h .numbered .count, at-length (p .variables) j v (r .1)) in
             let n : 0 + j ≡ j = omega arith in
             let is = rw (n, ← add-one j) at (r .2) in
-            let visible = subst Proper (r .2) (all-at Proper variableLines j k a (all-left Proper variableLines _ (all-right Proper (allRowLines lesses equals) _ (proper .1)))) .name in
+            let visible = subst (All Proper) (r .2) (all-of Proper _ j ks a variable-proper) .0 .name in
             let name = name-told s ns (x .structure .names) (v .name) undeclared (h .named) refl visible in
             let lower = lower-told (p .entries) j (lowerWord bs j) (h .bounds .lower j b) (h .bounds .validLower j b) in
             let upper = upper-told (p .entries) j (upperWord bs j) (h .bounds .upper j b) (h .bounds .validUpper j b) in
@@ -179,8 +190,8 @@ module _ {s ns ts cs vs rs bs : List ℕ} {m : List ℤ} {z : Sizes} {at place b
   all-written a b c d e =
       rw parts
       (line-join firstLine _ (rw first-told a)
-      (lines-join (allRowLines lesses equals) _ (b .lines _ rows-told)
-      (lines-join variableLines _ (c .lines _ variables-told)
+      (lines-join (rowLines 1 (lesses ++ equals)) _ (all-told _ _ _ _ b rows-told (rows-joined 1 (lesses ++ equals)))
+      (lines-join variableLines _ (all-told _ _ _ _ c variables-told (variables-joined (x .structure .names) p 0 (p .variables)))
       (lines-join columnLines (endLine ∷ []) (rw coefficients-told at d) (one-line endLine e)))))
 
 -- ---- what `write` answers

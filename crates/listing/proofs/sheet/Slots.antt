@@ -1,12 +1,11 @@
 -- Laws of the lines of rows and of coefficients.
-use mathlib.Core.Path.{_≡_, refl, sym, _∙_, ap, subst}
+use mathlib.Core.Path.{_≡_, refl, sym, _∙_, ap}
 use mathlib.Core.Bool.{Bool, true, false, cond}
-use mathlib.Core.Logic.{inl, inr}
 use mathlib.Core.List.{List, [], _∷_, _++_}
 use Prim.Native.Nat.{ℕ, zero, suc, _+_, _<_}
 use native.Mathlib.Omega.{arith}
 use native.Mathlib.Numerals.{add-one}
-use borrow.Author.Tests.{le-leb, lt-leb}
+use borrow.Author.Tests.{lt-leb, leb-false}
 use lib.Dec.{leb}
 use lib.ListN.{length, getD}
 use lib.IntN.{ℤ}
@@ -14,49 +13,36 @@ use Rattle.rules.specs.Limits.{rowLimit}
 use Rattle.value.specs.declared.Value.{Value}
 use Rattle.value.specs.Decimal.{zeroValue, isZero}
 use Rattle.language.specs.Listed.{At}
-use Rattle.language.proofs.Listed.{Split, at-length, at-append, at-left, at-right}
-use Rattle.language.specs.Numbering.{Row, Entry}
-use Rattle.language.specs.Listing.{Line, rowLine, colLine, rightOf, coefficientsOf, rowLines, columnLines, colLines}
+use Rattle.language.specs.Numbering.{Row, Entry, isEqual, keep, lessRow, equalRow}
+use Rattle.language.proofs.Numbered.{less-first}
+use Rattle.language.specs.Listing.{Line, rowLine, colLine, rightOf, coefficientsOf, kindOf, lowLines, rowLines, columnLines, colLines}
 use Rattle.rows.specs.Slots.{objectiveRow}
 use Rattle.rows.specs.Read.{slotAt, countAt, valueOf}
 use Rattle.listing.specs.Sheet.Columns.{cellLines, columnFrom, columnsFrom}
+use Rattle.listing.specs.Sheet.Told.{concat}
+use Rattle.listing.proofs.sheet.Groups.{groups}
 
 -- ---- the lines of rows
 
-pub rows-length : (n : ℕ) (q : Bool) (es : List Entry) → length (rowLines n q es) ≡ length es
-unfolding rowLines
-rows-length n q [] = refl
-rows-length n q (e ∷ es) = ap suc (rows-length (suc n) q es)
+abbrev pub rowGroup : ℕ → Entry → List Line
+rowGroup n e = rowLine n (kindOf (e .source .constraint .relation)) (rightOf (e .fact)) (e .source .constraint .title) (e .source .element) ∷ lowLines n (e .floor)
 
-abbrev lineOf : ℕ → Bool → Entry → Line
-lineOf n q e = rowLine n q (rightOf (e .fact)) (e .source .constraint .title) (e .source .element)
+pub rows-joined : (n : ℕ) (es : List Entry) → concat (groups rowGroup n es) ≡ rowLines n es
+unfolding concat groups rowLines
+rows-joined n [] = refl
+rows-joined n (e ∷ es) = ap (λ l. rowGroup n e ++ l) (rows-joined (suc n) es)
 
-row-at : (n : ℕ) (q : Bool) (es : List Entry) (i : ℕ) (k : Line) → At (rowLines n q es) i k → (e : Entry) × At es i e × (k ≡ lineOf (n + i) q e)
-unfolding rowLines
-row-at n q [] i k h = absurd h
-row-at n q (e ∷ es) zero k h = let x : n ≡ n + 0 = omega arith in (e, refl, sym h ∙ ap (λ a. lineOf a q e) x)
-row-at n q (e ∷ es) (suc i) k h =
-    let r = row-at (suc n) q es i k h in
-    let x : suc n + i ≡ n + suc i = omega arith in
-    (r .0, r .1, r .2 ∙ ap (λ a. lineOf a q (r .0)) x)
+-- those of `=` come last
+pub equal-last : (es : List Entry) (i : ℕ) (e : Entry) → At (keep lessRow es ++ keep equalRow es) i e → isEqual (e .source .constraint .relation) ≡ leb (length (keep lessRow es)) i
+equal-last es i e a = go (isEqual (e .source .constraint .relation)) refl
+  where
+    at : (t : Bool) → leb (length (keep lessRow es)) i ≡ t → isEqual (e .source .constraint .relation) ≡ true → true ≡ t
+    at true h q = refl
+    at false h q = sym q ∙ less-first es i e a .0 (leb-false (length (keep lessRow es)) i h)
 
-module _ (fs gs : List Entry) where
-  abbrev pub allRowLines : List Line
-  allRowLines = rowLines 1 false fs ++ rowLines (suc (length fs)) true gs
-
-  pub line-at : (i : ℕ) (k : Line) → At allRowLines i k → (e : Entry) × At (fs ++ gs) i e × (k ≡ lineOf (i + 1) (leb (length fs) i) e)
-  line-at i k a = go (at-append (rowLines 1 false fs) (rowLines (suc (length fs)) true gs) i k a)
-    where
-      go : Split (rowLines 1 false fs) (rowLines (suc (length fs)) true gs) i k → (e : Entry) × At (fs ++ gs) i e × (k ≡ lineOf (i + 1) (leb (length fs) i) e)
-      go (inl b) =
-          let r = row-at 1 false fs i k b in
-          let x : 1 + i ≡ i + 1 = omega arith in
-          (r .0, at-left fs gs i (r .0) (r .1), rw (lt-leb (length fs) i (at-length fs i (r .0) (r .1))) (r .2 ∙ ap (λ n. lineOf n false (r .0)) x))
-      go (inr b) =
-          let r = row-at (suc (length fs)) true gs (b .0) k (b .2) in
-          let c : i ≡ length fs + b .0 = omega (arith, b .1, rows-length 1 false fs) in
-          let x : suc (length fs) + b .0 ≡ i + 1 = omega arith in
-          (r .0, subst (λ n. At (fs ++ gs) n (r .0)) (sym c) (at-right fs gs (b .0) (r .0) (r .1)), rw (le-leb (length fs) i (omega arith)) (r .2 ∙ ap (λ n. lineOf n true (r .0)) x))
+    go : (b : Bool) → isEqual (e .source .constraint .relation) ≡ b → b ≡ leb (length (keep lessRow es)) i
+    go true q = at (leb (length (keep lessRow es)) i) refl q
+    go false q = sym (lt-leb (length (keep lessRow es)) i (less-first es i e a .1 q))
 
 -- ---- coefficients
 

@@ -13,6 +13,9 @@ enum-known-stated c = search needs
 state-requires : tie.Need-state-requires
 state-requires c κs = search needs
 
+state-floor-requires : tie.Need-state-floor-requires
+state-floor-requires c κs = search needs
+
 enum-known-stated-2 : tie.Need-enum-known-stated-2
 enum-known-stated-2 c = search needs
 
@@ -20,7 +23,7 @@ same-length : tie.Need-same-length
 same-length c = search needs
 
 returns : tie.Need-returns
-returns c = search bound-stated depth 8
+returns c = search bound-stated depth 11
 
 returns-2 : tie.Need-returns-2
 returns-2 c = search bound-refused depth 7
@@ -32,6 +35,7 @@ bound-spec =
     bound-at-requires
     enum-known-stated
     state-requires
+    state-floor-requires
     enum-known-stated-2
     same-length
     returns

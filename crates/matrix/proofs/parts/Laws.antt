@@ -10,7 +10,7 @@ use Rattle.rules.specs.declared.Refusal.{Refusal}
 use Rattle.rules.specs.Limits.{nestingLimit, indexLimit}
 use Rattle.lexer.specs.Text.{Token}
 use Rattle.language.proofs.Outcome.{refused-done}
-use Rattle.language.specs.Syntax.{Relation, atMost, atLeast, equal}
+use Rattle.language.specs.Syntax.{Relation, atMost, atLeast, equal, between}
 use Rattle.language.specs.Reader.{Titled, next, demand, stringOf, readString}
 use Rattle.language.specs.Formulas.{optionalDomain, formulaAt}
 use Rattle.language.specs.Numbering.{flips, isEqual}
@@ -21,8 +21,8 @@ use Rattle.tokens.specs.declared.Seen.the-variants as seen
 use Rattle.tokens.specs.Stored.{token, from, size, Sees, Looks, Stands}
 use Rattle.tokens.proofs.Moved.{next-is}
 use Rattle.evaluator.specs.Tables.{DomainAt}
-use Rattle.constraints.specs.Layout.{rowAt, markPart, barePart, entriesPart}
-use Rattle.constraints.specs.Rows.{relationMark, SideAt}
+use Rattle.constraints.specs.Layout.{rowAt, markPart, barePart, floorPart, entriesPart}
+use Rattle.constraints.specs.Rows.{relationMark, SideAt, FloorAt}
 use Rattle.constraints.proofs.DomainLaws.{few-entries, domain-wrong, domain-none, domain-some}
 use Rattle.rows.specs.Bounds.{statesLower, statesUpper}
 use Rattle.matrix.specs.Parts.Parts.{PlaceIs, FirstIs, PartsAre}
@@ -77,6 +77,7 @@ module _ (r : Relation) (m : ℕ) (h : relationMark r ≡ m) where
       go atMost = refl
       go atLeast = refl
       go equal = refl
+      go (between h) = refl
 
   equal-is : isEqual r ≡ eqb m 61
   equal-is = subst (λ k. isEqual r ≡ eqb k 61) h (go r)
@@ -85,6 +86,7 @@ module _ (r : Relation) (m : ℕ) (h : relationMark r ≡ m) where
       go atMost = refl
       go atLeast = refl
       go equal = refl
+      go (between h) = refl
 
   lower-is : statesLower r ≡ not (eqb m 60)
   lower-is = subst (λ k. statesLower r ≡ not (eqb k 60)) h (go r)
@@ -93,6 +95,7 @@ module _ (r : Relation) (m : ℕ) (h : relationMark r ≡ m) where
       go atMost = refl
       go atLeast = refl
       go equal = refl
+      go (between h) = refl
 
   upper-is : statesUpper r ≡ not (eqb m 62)
   upper-is = subst (λ k. statesUpper r ≡ not (eqb k 62)) h (go r)
@@ -101,18 +104,23 @@ module _ (r : Relation) (m : ℕ) (h : relationMark r ≡ m) where
       go atMost = refl
       go atLeast = refl
       go equal = refl
+      go (between h) = refl
 
-pub parts-are : (ts t : List ℕ) (k p q a m : ℕ) (v : Bool) (b e x n : ℕ) → p ≡ getD (rowAt t k) 0 0 → PlaceIs ts p q → a ≡ getD (rowAt t k) 1 0 → m ≡ markPart (getD (rowAt t k) 2 0)
-    → v ≡ barePart (getD (rowAt t k) 2 0) → b ≡ getD (rowAt t k) 3 0 → e ≡ getD (rowAt t k) 4 0 → FirstIs ts e x → n ≡ entriesPart (getD (rowAt t k) 2 0)
-    → PartsAre ts t k (record { place = q; left = a; right = b; at = x; count = n; bare = v; flips = eqb m 62; equal = eqb m 61; lower = not (eqb m 60); upper = not (eqb m 62) })
-parts-are ts t k p q a m v b e x n hp pl ha hm hv hb he fi hn =
+pub parts-are : (ts t : List ℕ) (k p q a m : ℕ) (v : Bool) (b : ℕ) (l : Bool) (e x n : ℕ) → p ≡ getD (rowAt t k) 0 0 → PlaceIs ts p q → a ≡ getD (rowAt t k) 1 0
+    → m ≡ markPart (getD (rowAt t k) 2 0) → v ≡ barePart (getD (rowAt t k) 2 0) → b ≡ getD (rowAt t k) 3 0 → l ≡ floorPart (getD (rowAt t k) 2 0) → e ≡ getD (rowAt t k) 4 0
+    → FirstIs ts e x → n ≡ entriesPart (getD (rowAt t k) 2 0)
+    → PartsAre ts t k (record { place = q; left = a; right = b; at = x; count = n; bare = v; floor = l; flips = eqb m 62; equal = eqb m 61; lower = not (eqb m 60); upper = not (eqb m 62) })
+parts-are ts t k p q a m v b l e x n hp pl ha hm hv hb hl he fi hn =
     record {
       is = λ s names c row.
           let rel = row .relation ∙ sym hm in
+          let right = subst (λ z. (h : Stands (formulaAt names nestingLimit) s ts z (c .right)) × FloorAt names (h .rest) (c .relation)) (sym hb) (row .right, row .floorStands) in
           record {
             place = pl .is s _ (subst (λ z. Stands readString s ts z (record { title = c .title; place = c .place })) (sym hp) (row .title));
             left = subst (λ z. SideAt s ts z names (c .left)) (sym ha) (row .left);
-            right = subst (λ z. Stands (formulaAt names nestingLimit) s ts z (c .right)) (sym hb) (row .right);
+            right = right .0;
+            floor = row .floor ∙ sym hl;
+            floorStands = right .1;
             domain = fi .is s names (c .domain) (subst (λ z. Stands (optionalDomain names) s ts z (c .domain)) (sym he) (row .domain));
             count = row .entries ∙ sym hn;
             bare = row .bare ∙ sym hv;

@@ -39,7 +39,7 @@ same-length : tie.Need-same-length
 same-length c = search needs
 
 returns : tie.Need-returns
-returns c = search row-full depth 14
+returns c = search row-full depth 15
 
 write-requires : tie.Need-write-requires
 write-requires c κs = search needs
@@ -54,7 +54,7 @@ same-length-3 : tie.Need-same-length-3
 same-length-3 c = search needs
 
 returns-2 : tie.Need-returns-2
-returns-2 c = search row-written depth 16
+returns-2 c = search row-written depth 17
 
 same-length-4 : tie.Need-same-length-4
 same-length-4 c = search needs

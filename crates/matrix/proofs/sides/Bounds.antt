@@ -1,4 +1,4 @@
--- Laws over plain variables for a bound: the variable's number, and the right side's value.
+-- Laws over plain variables for a bound: the variable's number, the right side and the floor.
 use mathlib.Core.Path.{_≡_, refl, sym, _∙_, ap, subst}
 use mathlib.Core.Bool.{Bool, true, false, _&&_, cond}
 use mathlib.Core.List.{List}
@@ -16,12 +16,10 @@ use Rattle.language.proofs.Outcome.{refused-done}
 use Rattle.language.specs.Syntax.{Name, Formula, Formulas, Spans, Relation, Side, bare, form}
 use Rattle.language.specs.Reader.{asRead}
 use Rattle.language.specs.Linear.{aSigma, aVariable, aPrimary, headBy}
-use Rattle.language.specs.Evaluation.{eval}
-use Rattle.language.specs.Numbering.{variableAt, factOf}
+use Rattle.language.specs.Numbering.{variableAt, bound, factOf}
 use Rattle.language.specs.Model.{whatOf}
 use Rattle.onepass.specs.WalkLinear.{walkNumber}
 use Rattle.onepass.proofs.Steps.{same-what, same-rest, what-as}
-use Rattle.onepass.proofs.Walked.{walked}
 use Rattle.onepass.proofs.WalkedLinear.{Bare, bare-walk}
 use Rattle.tokens.specs.declared.Seen.{Seen}
 use Rattle.tokens.specs.declared.Seen.the-variants as seen
@@ -31,19 +29,20 @@ use Rattle.tokens.proofs.Tables.{false-true}
 use Rattle.evaluator.specs.declared.steps.scope.Scope.{Scope}
 use Rattle.evaluator.specs.declared.steps.names.Listed.{Listed}
 use Rattle.evaluator.specs.declared.steps.names.Listed.the-variants as listed
-use Rattle.evaluator.specs.declared.steps.values.Answer.{Answer}
-use Rattle.evaluator.specs.declared.steps.values.Answer.the-variants as answer
 use Rattle.evaluator.specs.Steps.Scopes.{Small}
-use Rattle.evaluator.specs.Cycle.{formulaIn, valueOutcome, ValidAnswer, seenBy, under, tokensAt, Values}
-use Rattle.constraints.specs.Rows.{isBare}
+use Rattle.evaluator.specs.Cycle.{seenBy, under, tokensAt}
+use Rattle.constraints.specs.Rows.{isBare, hasFloor}
 use Rattle.gatherer.specs.declared.Numbered.{Numbered}
 use Rattle.gatherer.specs.declared.Numbered.the-variants as numbered
 use Rattle.gatherer.specs.Cycle.{Model, numberOutcome, NumberIs, Heads, variableSeen, Begins}
 use Rattle.gatherer.proofs.Numbers.{begins-of}
 use Rattle.matrix.specs.declared.sides.Bounded.{Bounded}
 use Rattle.matrix.specs.declared.sides.Bounded.the-variants as bounded
-use Rattle.matrix.specs.Sides.Answers.{LeftAt, RightAt, NumberOf, boundOutcome, Sound, BoundIs}
+use Rattle.matrix.specs.declared.sides.Ends.{Ends}
+use Rattle.matrix.specs.declared.sides.Ends.the-variants as ends
+use Rattle.matrix.specs.Sides.Answers.{LeftAt, EndsAt, endsOf, EndsFound, EndsAre, NumberOf, factWith, BoundFound, BoundIs}
 use Rattle.constraints.proofs.SideLaws.{bare-side}
+use Rattle.matrix.proofs.sides.EndLaws.{withFloor, bare-ends}
 
 module _ (ns ts ds : List ℕ) (given : ℕ) (xs : List ℕ) (total level : ℕ) (sc : Scope) where
   -- ---- the variable's number
@@ -124,45 +123,42 @@ module _ (ns ts ds : List ℕ) (given : ℕ) (xs : List ℕ) (total level : ℕ)
             below = o .below;
           }
 
-  -- ---- the right side
-
-  module _ (at : ℕ) (v : Answer) (f : Values (formulaIn nestingLimit) ns ts ds given level sc at v) where
-    pub value-at : (y : Answer) → v ≡ y → (w : Model ns ts ds given xs total) → Small sc → (g : Formula) → RightAt w level at g → eval g (under (w .world) sc) ≡ whatOf (valueOutcome (w .world .text) ts y)
-    unfolding formulaIn
-    value-at y e w s g a =
-        sym (what-as (eval g (under (w .world) sc)) (a .rest))
-        ∙ ap whatOf (sym (walked (seenBy (w .world) level) nestingLimit (tokensAt (w .world) at) g (a .rest) (a .reads) (under (w .world) sc)) ∙ f .is (w .world) s)
-        ∙ ap (λ y. whatOf (valueOutcome (w .world .text) ts y)) e
-
-    pub valid-at : (y : Answer) → v ≡ y → Model ns ts ds given xs total → Small sc → ValidAnswer y
-    valid-at y e w s = subst ValidAnswer e (f .valid (w .world) s)
-
   -- ---- a bound
 
-  module _ (left right : ℕ) (y : Numbered) (h : NumberOf ns ts ds given xs total level sc left y) where
+  module _ (left right : ℕ) (floor : Bool) (y : Numbered) (h : NumberOf ns ts ds given xs total level sc left y) where
     -- by the variable's number
     by-number : (z : Numbered) → y ≡ z → (r : Bounded)
         → ((w : Model ns ts ds given xs total) → Small sc → (i : ℕ) (d : Spans) (fs : Formulas) (p : ℕ)
-        → variableAt (w .variables) i d fs p (under (w .world) sc) ≡ whatOf (numberOutcome (w .world .text) ts z) → (g : Formula) → RightAt w level right g → (e : Relation)
-        → factOf (w .variables) (bare i d fs p) e g (under (w .world) sc) ≡ boundOutcome r)
-        → (Model ns ts ds given xs total → Small sc → Sound total r) → BoundIs ns ts ds given xs total level sc left right r
-    by-number z e r f sound = record { is = go; sound = sound }
+        → variableAt (w .variables) i d fs p (under (w .world) sc) ≡ whatOf (numberOutcome (w .world .text) ts z) → (g : Formula) (e : Relation) → hasFloor e ≡ floor → EndsAt (w .world) level right g e
+        → BoundFound total (factWith (w .variables) (bare i d fs p) e g (under (w .world) sc)) r)
+        → BoundIs floor ns ts ds given xs total level sc left right r
+    by-number z e r f = record { is = go }
       where
-        go : (w : Model ns ts ds given xs total) → Small sc → (l : Side) → isBare l ≡ true → LeftAt w level left l → (g : Formula) → RightAt w level right g → (o : Relation)
-            → factOf (w .variables) l o g (under (w .world) sc) ≡ boundOutcome r
-        go w s (form x) b a g u o = absurd (false-true b)
-        go w s (bare i d fs p) b a g u o = f w s i d fs p (h .is w s i d fs p a ∙ ap (λ z. whatOf (numberOutcome (w .world .text) ts z)) e) g u o
+        go : (w : Model ns ts ds given xs total) → Small sc → (l : Side) → isBare l ≡ true → LeftAt w level left l → (g : Formula) (o : Relation) → hasFloor o ≡ floor → EndsAt (w .world) level right g o
+            → BoundFound total (factWith (w .variables) l o g (under (w .world) sc)) r
+        go w s (form x) b a g o t u = absurd (false-true b)
+        go w s (bare i d fs p) b a g o t u = f w s i d fs p (h .is w s i d fs p a ∙ ap (λ z. whatOf (numberOutcome (w .world .text) ts z)) e) g o t u
 
-    pub bound-number : (m : Refusal) (p : ℕ) → y ≡ numbered.Refused m p → BoundIs ns ts ds given xs total level sc left right (bounded.Refused m p)
-    unfolding factOf
-    bound-number m p e = by-number _ e (bounded.Refused m p) (λ w s i d fs q n g u o. rw n refl) (λ w s. tt)
+    pub bound-number : (m : Refusal) (p : ℕ) → y ≡ numbered.Refused m p → BoundIs floor ns ts ds given xs total level sc left right (bounded.Refused m p)
+    unfolding factWith factOf
+    bound-number m p e = by-number _ e (bounded.Refused m p) (λ w s i d fs q n g o t u. rw n refl)
 
-    module _ (j a : ℕ) (e : y ≡ numbered.Number j a) (v : Answer) (f : Values (formulaIn nestingLimit) ns ts ds given level sc right v) where
-      pub bound-side : (m : Refusal) (p : ℕ) → v ≡ answer.Refused m p → BoundIs ns ts ds given xs total level sc left right (bounded.Refused m p)
-      unfolding factOf
-      bound-side m p i = by-number _ e (bounded.Refused m p) (λ w s i′ d fs q n g u o. rw (n, value-at right v f _ i w s g u) refl) (λ w s. tt)
+    module _ (j a : ℕ) (e : y ≡ numbered.Number j a) (v : Ends) (f : EndsAre floor ns ts ds given level sc right v) where
+      pub bound-side : (m : Refusal) (p : ℕ) → v ≡ ends.Refused m p → BoundIs floor ns ts ds given xs total level sc left right (bounded.Refused m p)
+      bound-side m p i =
+          by-number _ e (bounded.Refused m p) λ w s k d fs q n g o t u.
+          bare-ends (w .variables) o g (under (w .world) sc) k d fs q j n
+          ∙ ap (withFloor (bound j)) (subst (EndsFound (endsOf g o (under (w .world) sc))) i (f .is (w .world) s g o t u))
 
-      pub bound-value : (x : Value) (b : ℕ) → v ≡ answer.Value x b → BoundIs ns ts ds given xs total level sc left right (bounded.At j x)
-      unfolding factOf
-      bound-value x b i =
-          by-number _ e (bounded.At j x) (λ w s i′ d fs q n g u o. rw (n, value-at right v f _ i w s g u) refl) (λ w s. (h .below w j a e, valid-at right v f _ i w s))
+      pub bound-value : (x : Value) (word : ℕ) → v ≡ ends.At x word → BoundIs floor ns ts ds given xs total level sc left right (bounded.At j x word)
+      bound-value x word i =
+          by-number _ e (bounded.At j x word) λ w s k d fs q n g o t u.
+          let r = subst (EndsFound (endsOf g o (under (w .world) sc))) i (f .is (w .world) s g o t u) in
+          record {
+            floor = r .floor;
+            is = bare-ends (w .variables) o g (under (w .world) sc) k d fs q j n ∙ ap (withFloor (bound j)) (r .is);
+            word-is = r .word-is;
+            below = h .below w j a e;
+            valid = r .valid;
+            validFloor = r .validFloor;
+          }

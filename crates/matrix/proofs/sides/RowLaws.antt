@@ -22,23 +22,21 @@ use Rattle.tokens.specs.declared.Move.{Move}
 use Rattle.tokens.specs.declared.Move.the-variants as move
 use Rattle.tokens.proofs.Tables.{false-true}
 use Rattle.evaluator.specs.declared.steps.scope.Scope.{Scope}
-use Rattle.evaluator.specs.declared.steps.values.Answer.{Answer}
-use Rattle.evaluator.specs.declared.steps.values.Answer.the-variants as answer
 use Rattle.evaluator.specs.Steps.Scopes.{Small}
 use Rattle.evaluator.specs.Steps.Values.{signedValue}
 use Rattle.evaluator.specs.declared.Passed.{Passed}
 use Rattle.evaluator.specs.declared.Passed.the-variants as passed
-use Rattle.evaluator.specs.Cycle.{formulaIn, seenBy, under, tokensAt, Values}
+use Rattle.evaluator.specs.Cycle.{seenBy, under, tokensAt}
 use Rattle.evaluator.proofs.Laws.{signed-is, signed-valid}
-use Rattle.constraints.specs.Rows.{isBare}
+use Rattle.constraints.specs.Rows.{isBare, hasFloor}
 use Rattle.rows.specs.Counts.{RowOf, opposed}
 use Rattle.rows.proofs.Counting.{zeros-of, of-negated, of-kept}
 use Rattle.gatherer.specs.Cycle.{gatherIn, Model, Does, Gathers}
-use Rattle.matrix.specs.declared.sides.Right.{Right}
-use Rattle.matrix.specs.declared.sides.Right.the-variants as right
-use Rattle.matrix.specs.Sides.Answers.{LeftAt, RightAt, FormAt, asIs, Holds, GathersTo, Turns, Rowed, RightIs}
+use Rattle.matrix.specs.declared.sides.Ends.{Ends}
+use Rattle.matrix.specs.declared.sides.Ends.the-variants as ends
+use Rattle.matrix.specs.Sides.Answers.{LeftAt, FormAt, EndsAt, endsOf, EndsFound, EndsAre, factWith, asIs, Holds, GathersTo, Turns, Rowed, RightIs}
 use Rattle.constraints.proofs.SideLaws.{form-side}
-use Rattle.matrix.proofs.sides.Bounds.{value-at, valid-at}
+use Rattle.matrix.proofs.sides.EndLaws.{withFloor, form-ends}
 
 -- ---- a sign before each coefficient
 
@@ -102,45 +100,46 @@ module _ (ns ts ds : List ℕ) (given : ℕ) (xs : List ℕ) (total level : ℕ)
 
   -- ---- a constraint's row
 
-  module _ (left at : ℕ) (b : Bool) (m m₁ : List ℤ) (y : Passed) (h : GathersTo asIs ns ts ds given xs total level sc left m y m₁) where
+  module _ (left at : ℕ) (b floor : Bool) (m m₁ : List ℤ) (y : Passed) (h : GathersTo asIs ns ts ds given xs total level sc left m y m₁) where
     -- by the form's row
-    by-form : (z : Passed) → y ≡ z → (q : Right) (m₂ : List ℤ) → length m₂ ≡ length m₁
-        → ((w : Model ns ts ds given xs total) → Small sc → (f : Form) → Holds (w .variables) asIs (gathered (w .variables) f (under (w .world) sc)) z m₁ → (g : Formula) → RightAt w level at g
-        → (e : Relation) → flips e ≡ b → Rowed (w .variables) (factOf (w .variables) (form f) e g (under (w .world) sc)) q m₂)
-        → RightIs b ns ts ds given xs total level sc left at m q m₂
+    by-form : (z : Passed) → y ≡ z → (q : Ends) (m₂ : List ℤ) → length m₂ ≡ length m₁
+        → ((w : Model ns ts ds given xs total) → Small sc → (f : Form) → Holds (w .variables) asIs (gathered (w .variables) f (under (w .world) sc)) z m₁ → (g : Formula) (e : Relation) → flips e ≡ b
+        → hasFloor e ≡ floor → EndsAt (w .world) level at g e → Rowed (w .variables) (factWith (w .variables) (form f) e g (under (w .world) sc)) q m₂)
+        → RightIs b floor ns ts ds given xs total level sc left at m q m₂
     by-form z e q m₂ s k = record { size = s ∙ h .size; is = go }
       where
-        go : (w : Model ns ts ds given xs total) → Small sc → length m ≡ total → (l : Side) → isBare l ≡ false → LeftAt w level left l → (g : Formula) → RightAt w level at g
-            → (o : Relation) → flips o ≡ b → Rowed (w .variables) (factOf (w .variables) l o g (under (w .world) sc)) q m₂
-        go w s f (bare i d fs p) n a g u o t = absurd (false-true (sym n))
-        go w s f (form x) n a g u o t =
+        go : (w : Model ns ts ds given xs total) → Small sc → length m ≡ total → (l : Side) → isBare l ≡ false → LeftAt w level left l → (g : Formula) (o : Relation) → flips o ≡ b → hasFloor o ≡ floor
+            → EndsAt (w .world) level at g o → Rowed (w .variables) (factWith (w .variables) l o g (under (w .world) sc)) q m₂
+        go w s f (bare i d fs p) n a g o t r u = absurd (false-true (sym n))
+        go w s f (form x) n a g o t r u =
             k w s x
             (subst (λ x. Holds (w .variables) asIs (gathered (w .variables) x (under (w .world) sc)) z m₁) (form-side (a .linear .signed) (a .linear .form) x (a .side))
             (subst (λ z. Holds (w .variables) asIs (gathered (w .variables) (a .linear .form) (under (w .world) sc)) z m₁) e (h .is w s f (a .linear) (a .stands))))
-            g u o t
+            g o t r u
 
-    pub row-form : (r : Refusal) (p : ℕ) → y ≡ passed.Refused r p → RightIs b ns ts ds given xs total level sc left at m (right.Refused r p) m₁
-    unfolding factOf
-    row-form r p e = by-form _ e (right.Refused r p) m₁ refl (λ w s f c g u o t. rw c refl)
+    pub row-form : (r : Refusal) (p : ℕ) → y ≡ passed.Refused r p → RightIs b floor ns ts ds given xs total level sc left at m (ends.Refused r p) m₁
+    unfolding factWith factOf
+    row-form r p e = by-form _ e (ends.Refused r p) m₁ refl (λ w s f c g o t n u. rw c refl)
 
-    module _ (e : y ≡ passed.Inside) (m₂ : List ℤ) (t : Turns b m₁ m₂) (v : Answer) (f : Values (formulaIn nestingLimit) ns ts ds given level sc at v) where
-      pub row-side : (r : Refusal) (p : ℕ) → v ≡ answer.Refused r p → RightIs b ns ts ds given xs total level sc left at m (right.Refused r p) m₂
-      unfolding factOf
+    module _ (e : y ≡ passed.Inside) (m₂ : List ℤ) (t : Turns b m₁ m₂) (v : Ends) (f : EndsAre floor ns ts ds given level sc at v) where
+      pub row-side : (r : Refusal) (p : ℕ) → v ≡ ends.Refused r p → RightIs b floor ns ts ds given xs total level sc left at m (ends.Refused r p) m₂
       row-side r p i =
-          by-form _ e (right.Refused r p) m₂ (t .size) (λ w s x c g u o n. rw (c .is, value-at ns ts ds given xs total level sc at v f _ i w s g u) refl)
+          by-form _ e (ends.Refused r p) m₂ (t .size) λ w s x c g o n l u.
+          form-ends (w .variables) o g (under (w .world) sc) x (c .coefficients) (c .is)
+          ∙ ap (withFloor _) (subst (EndsFound (endsOf g o (under (w .world) sc))) i (f .is (w .world) s g o l u))
 
-      pub row-value : (x : Value) (a : ℕ) → v ≡ answer.Value x a → (q : Value) → q ≡ signedValue b x → RightIs b ns ts ds given xs total level sc left at m (right.At q) m₂
-      unfolding factOf
-      row-value x a i q j =
-          by-form _ e (right.At q) m₂ (t .size) λ w s z c g u o n.
-          let valid = valid-at ns ts ds given xs total level sc at v f _ i w s in
+      pub row-value : (x : Value) (word : ℕ) → v ≡ ends.At x word → (q : Value) → q ≡ signedValue b x → RightIs b floor ns ts ds given xs total level sc left at m (ends.At q word) m₂
+      row-value x word i q j =
+          by-form _ e (ends.At q word) m₂ (t .size) λ w s z c g o n l u.
+          let r = subst (EndsFound (endsOf g o (under (w .world) sc))) i (f .is (w .world) s g o l u) in
           record {
             coefficients = map (signed b) (c .coefficients);
-            is = rw (c .is, value-at ns ts ds given xs total level sc at v f _ i w s g u, n, j, signed-is b x valid) (ap (λ v. done (row (map (signed b) (c .coefficients)) v)) (same b x));
+            floor = r .floor;
+            is = form-ends (w .variables) o g (under (w .world) sc) z (c .coefficients) (c .is) ∙ ap (withFloor _) (r .is)
+                ∙ ap (λ b. done (row (map (signed b) (c .coefficients)) (signed b x), r .floor)) n
+                ∙ ap (λ v. done (row (map (signed b) (c .coefficients)) v, r .floor)) (sym (j ∙ signed-is b x (r .valid)));
+            word-is = r .word-is;
             counts = t .of (w .variables) (c .coefficients) (c .counts);
-            valid = subst Valid (sym j) (signed-valid b x valid);
+            valid = subst Valid (sym j) (signed-valid b x (r .valid));
+            validFloor = r .validFloor;
           }
-        where
-          same : (b : Bool) (x : Value) → signed b x ≡ signed b x
-          same true x = refl
-          same false x = refl

@@ -10,7 +10,7 @@ use Rattle.language.specs.Numbering.{flips, isEqual}
 use Rattle.tokens.specs.Stored.{size, Stands}
 use Rattle.evaluator.specs.Tables.{DomainAt}
 use Rattle.constraints.specs.Layout.{rowAt}
-use Rattle.constraints.specs.Rows.{SideAt, isBare, RowOf}
+use Rattle.constraints.specs.Rows.{SideAt, isBare, hasFloor, FloorAt, RowOf}
 use Rattle.rows.specs.Bounds.{statesLower, statesUpper}
 use Rattle.matrix.specs.declared.parts.Parts.{Parts}
 
@@ -27,6 +27,8 @@ pub record Tells (s ts : List ℕ) (names : List Name) (c : Constraint) (r : Par
   pub place : c .place ≡ r .place
   pub left : SideAt s ts (r .left) names (c .left)
   pub right : Stands (formulaAt names nestingLimit) s ts (r .right) (c .right)
+  pub floor : hasFloor (c .relation) ≡ r .floor
+  pub floorStands : FloorAt names (right .rest) (c .relation)
   pub domain : DomainAt s ts names (c .domain) (r .at)
   pub count : size (c .domain) ≡ r .count
   pub bare : isBare (c .left) ≡ r .bare

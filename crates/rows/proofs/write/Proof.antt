@@ -16,6 +16,12 @@ pack-requires c κs = search needs
 append-requires : tie.Need-append-requires
 append-requires c κs = search needs
 
+floor-slot-requires : tie.Need-floor-slot-requires
+floor-slot-requires c κs = search needs
+
+append-requires-2 : tie.Need-append-requires-2
+append-requires-2 c κs = search needs
+
 counted-requires : tie.Need-counted-requires
 counted-requires c κs = search needs
 
@@ -23,7 +29,7 @@ same-length : tie.Need-same-length
 same-length c = search needs
 
 returns : tie.Need-returns
-returns c = search wrote depth 8
+returns c = search wrote depth 11
 
 pub write-spec : {M : Type 1} → statement M
 write-spec =
@@ -33,6 +39,8 @@ write-spec =
     key-of-requires
     pack-requires
     append-requires
+    floor-slot-requires
+    append-requires-2
     counted-requires
     same-length
     returns)

@@ -14,6 +14,7 @@ read-spec =
     (λ c κs. search needs)  -- relation-of-requires
     (λ c κs. search needs)  -- is-bare-requires
     (λ c κs. search needs)  -- right-of-requires
+    (λ c κs. search needs)  -- has-floor-requires
     (λ c κs. search needs)  -- domain-of-requires
     (λ c κs. search needs)  -- first-entry-requires
     (λ c κs. search needs)  -- entries-of-requires
@@ -21,4 +22,4 @@ read-spec =
     (λ c. search needs)  -- cast-t14
     (λ c. search needs)  -- cast-t16
     (λ c. search needs)  -- cast-t18
-    (λ c. search parts-are depth 11))  -- returns
+    (λ c. search parts-are depth 12))  -- returns

@@ -10,9 +10,9 @@ bound-at-spec =
     (tie.spec
     (λ c κs. search needs)  -- number-of-requires
     (λ c. search needs)  -- enum-known-which
-    (λ c κs. search needs)  -- value-requires
-    (λ c. search needs)  -- enum-known-side
-    (λ c. search needs)  -- enum-known-side-2
+    (λ c κs. search needs)  -- ends-at-requires
+    (λ c. search needs)  -- enum-known-ends
+    (λ c. search needs)  -- enum-known-ends-2
     (λ c. search needs)  -- enum-known-which-2
     (λ c. search bound-value depth 9)  -- returns
     (λ c. search bound-side depth 9)  -- returns-2

@@ -11,10 +11,10 @@ row-at-spec =
     (λ c κs. search needs)  -- gather-requires
     (λ c. search needs)  -- enum-told
     (λ c κs. search needs)  -- turn-requires
-    (λ c κs. search needs)  -- value-requires
-    (λ c. search needs)  -- enum-known-side
+    (λ c κs. search needs)  -- ends-at-requires
+    (λ c. search needs)  -- enum-known-ends
     (λ c κs. search needs)  -- signed-requires
-    (λ c. search needs)  -- enum-known-side-2
+    (λ c. search needs)  -- enum-known-ends-2
     (λ c. search needs)  -- enum-known-form
     (λ c. search needs)  -- same-length
     (λ c. search row-value depth 11)  -- returns

@@ -1,27 +1,28 @@
--- `importer::count_rows` meets its contract.
+-- `importer::equal_rows` meets its contract.
 use Prim.Native.Nat.{_-_}
 use native.Mathlib.Omega.{arith}
 use borrow.Author.Needs.{needs}
 use Rattle.importer.proofs.Rows.{Counting, count-first, count-out, count-stop, count-more}
-use Rattle.importer.proofs.count_rows.Statement.{statement}
-use Rattle.importer.proofs.count_rows.Tie as tie
+use Rattle.importer.proofs.equal_rows.Statement.{statement}
+use Rattle.importer.proofs.equal_rows.Tie as tie
 
 abbrev Inv-loop : tie.InvT-loop
-Inv-loop text at word from limit next₀ k₀ t9 next k = Counting word text at from limit k next
+Inv-loop text at from limit next₀ k₀ t9 t10 next k = Counting text at from limit k next
 
 abbrev μ-loop : tie.MeasureT-loop
-μ-loop text at word from limit next₀ k₀ t9 next k = limit - k
+μ-loop text at from limit next₀ k₀ t9 t10 next k = limit - k
 
-pub count-rows-spec : {M : Type 1} → statement M
-count-rows-spec =
+pub equal-rows-spec : {M : Type 1} → statement M
+equal-rows-spec =
     tie.close
     (tie.spec
     Inv-loop
     μ-loop
     (λ c. search count-first depth 6)  -- loop-holds
+    (λ c. search needs)  -- slice-aggregate-named
     (λ c. omega arith)  -- add-named
     (λ c. omega arith)  -- add-named-2
-    (λ c. search needs)  -- slice-aggregate-named
+    (λ c. search needs)  -- slice-aggregate-named-2
     (λ c κs. omega arith)  -- named-requires
     (λ c. search needs)  -- enum-known-n
     (λ c. search needs)  -- enum-told
