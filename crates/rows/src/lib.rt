@@ -27,14 +27,12 @@ pub fn clear(counts: &mut [i64])
     }
 }
 
-// No value has a count below this.
-const LOWEST: i64 = -1000000000000000;
-
 // The opposite of a count; what is below any count stays.
 fn opposite_of(z: i64) -> i64
     ensures { λ r. ⌜ r ≡ opposed z ⌝ }
 {
-    if z < LOWEST {
+    let lowest = 0 - value::count_limit() as i64;
+    if z < lowest {
         return z;
     }
     0 - z

@@ -10,7 +10,7 @@ ghost use lib.IntN.{pos, natAbs, _+ℤ_, _-ℤ_, _*ℤ_};
 ghost use Rattle.rules.specs.Characters.{code};
 ghost use Rattle.rules.specs.Limits.{mantissaLimit, scaleLimit};
 ghost use Rattle.value.specs.Decimal.{tenths, withSign, at, choose, fitOf, inRange, ifInRange, sumOf, productOf, negate, isAtMost, isZero, wholeOf, ofWhole, floorOf, ceilingOf};
-ghost use Rattle.value.specs.Gathering.{millionths, ofMillionths, isCount, Gathered};
+ghost use Rattle.value.specs.Gathering.{countLimit, millionths, ofMillionths, isCount, Gathered};
 ghost use Rattle.value.specs.Literal.{isDigit, allDigits, digitOf, numberFrom, before, significand, powerBy, powerOf, scaledBy, raisedBy, literalOf};
 ghost use Rattle.value.specs.Printed.{widthFrom, digits, minusSign, places, printed, shown, Written};
 ghost use Rattle.value.specs.Parts.{partsValue, signedPower, IsPower};
@@ -296,12 +296,16 @@ pub fn ceiling_of(v: Value) -> i64
 // ---- gathering coefficients
 
 // A count that a value has is below this, either side of zero.
-const COUNT_LIMIT: u64 = 1000000000000000;
+pub fn count_limit() -> u64
+    ensures { λ r. ⌜ r ≡ countLimit ⌝ }
+{
+    power(15)
+}
 
 fn is_count(z: i64) -> bool
     ensures { λ r. ⌜ r ≡ isCount z ⌝ }
 {
-    magnitude(z) < COUNT_LIMIT
+    magnitude(z) < count_limit()
 }
 
 // Adds v to element k of the sums, which are counts of millionths, and says whether it did: there is such an element, it is

@@ -8,9 +8,12 @@ use Rattle.value.proofs.is_count.Tie as tie
 magnitude-requires : tie.Need-magnitude-requires
 magnitude-requires c κs = search needs
 
+count-limit-requires : tie.Need-count-limit-requires
+count-limit-requires c κs = search needs
+
 returns : tie.Need-returns
 unfolding isCount
-returns c = rw (c .magnitude .ensures, back (c .before .fits .z .sfits))
+returns c = rw (c .before .magnitude .ensures, back (c .before .before .fits .z .sfits), c .count-limit .ensures)
 
 pub is-count-spec : {M : Type 1} → statement M
-is-count-spec = tie.close (tie.spec magnitude-requires returns)
+is-count-spec = tie.close (tie.spec magnitude-requires count-limit-requires returns)
