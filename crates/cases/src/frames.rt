@@ -6,7 +6,7 @@ ghost use Rattle.cases.specs.Frames.Frames.{digit_of, five_of, entry_of, Within}
 use generator::Entry;
 
 // The entry point of a case, and the lengths of its text and of its output buffer.
-#[derive(Drop)]
+#[derive(Clone, Copy)]
 pub enum Given {
     Text(Entry, usize, usize),
     Nothing,

@@ -13,7 +13,7 @@ use rows::Sizes;
 
 // Number 0, place 0 and the report's length; or a refusal's number and place, and length 0.
 #[repr(C)]
-#[derive(Drop)]
+#[derive(Clone, Copy)]
 pub struct Answer {
     pub number: u32,
     pub place: usize,
@@ -21,7 +21,7 @@ pub struct Answer {
 }
 
 // The entry points by name, for programs that choose one while they run.
-#[derive(Drop)]
+#[derive(Clone, Copy)]
 pub enum Entry {
     List,
     Export,
@@ -29,14 +29,14 @@ pub enum Entry {
 }
 
 // What is printed of an accepted model.
-#[derive(Drop)]
+#[derive(Clone, Copy)]
 enum Report {
     Listing,
     Export,
 }
 
 // The report's length, whether or not the output reaches that far; or a refusal and its place.
-#[derive(Drop)]
+#[derive(Clone, Copy)]
 enum Generated {
     Printed(usize),
     Refused(rules::Refusal, u64),

@@ -8,7 +8,7 @@ use generator::{Answer, Entry};
 use libc::{STDERR_FILENO, STDIN_FILENO, STDOUT_FILENO};
 
 // What is asked of the program: an entry point, or what it does not know.
-#[derive(Drop)]
+#[derive(Clone, Copy)]
 enum Job {
     Of(Entry),
     Unknown,

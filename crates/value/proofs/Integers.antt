@@ -55,7 +55,7 @@ sfits z h = record { sfits = omega (arith, mag-le z) }
 
 -- a signed number is read back from its bits: a parameter's (`c.fits.x.sfits`) and a call's result's (`c.f.ok`)
 pub back : {z : ℤ} → mag z < 2 ^ 63 → to_z w64 (of_z w64 z) ≡ z
-back h = to_z-of_z (record { sfits = h })
+back h = to_z-of_z {w = w64} (record { sfits = h })
 
 -- ---- the magnitude of a negative number, by way of its successor
 

@@ -219,7 +219,7 @@ whole-injective a b e = ≤ℤ-antisym (whole-⊑⁻¹ a b (rw e (⊑_refl (whol
 -- the whole part is the largest integer that is not above
 pub floor-is : (q : ℚ) (k : ℤ) → (whole k ⊑ q) ↔ (k ≤ℤ floor q)
 unfolding ℚ rational floor whole
-floor-is q k = ind (λ q. (whole k ⊑ q) ↔ (k ≤ℤ floor q)) (λ q. ×_prop (→_prop (≤ℤ_prop _ _)) (→_prop (⊑-prop _ _))) (λ p. (λ h. (Law.whole_part p k).0 ((rational-⊑ (integer k) p).0 h), λ h. (rational-⊑ (integer k) p).1 ((Law.whole_part p k).1 h))) q
+floor-is q k = ind (λ q. (whole k ⊑ q) ↔ (k ≤ℤ floor q)) (λ q. ×_prop (→_prop (≤ℤ_prop _ _)) (→_prop (⊑-prop _ _))) (λ p. (λ h. (Law.whole_part_lem p k).0 ((rational-⊑ (integer k) p).0 h), λ h. (rational-⊑ (integer k) p).1 ((Law.whole_part_lem p k).1 h))) q
 
 pub floor-whole : (k : ℤ) → floor (whole k) ≡ k
 floor-whole k = ≤ℤ-antisym (whole-⊑⁻¹ _ _ ((floor-is (whole k) _).1 (≤ℤ_refl _))) ((floor-is (whole k) k).0 (⊑_refl _))

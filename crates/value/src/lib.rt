@@ -1,5 +1,7 @@
 // Values: m / 10^s, s from 0 to 6 and as small as it can be, m at most 999,999,999 either side of zero.
 // Every public function is total: it answers for any numbers m and s, also those that are no value.
+#![tactic(auto)]
+
 ghost use Rattle.std.specs.Prelude.{◌≡◌, true, false, cond, ◌&&◌, [], ◌∷◌, ◌+◌, ◌-◌, ◌*◌, ◌/◌, ◌%◌, ◌^◌, ◌<◌, ◌≤◌, length, pos, nat_abs, ◌+ℤ◌, ◌-ℤ◌, ◌*ℤ◌};
 ghost use Rattle.std.proofs.Math.Option.{some};
 ghost use Rattle.rules.specs.Characters.{code};
@@ -10,28 +12,28 @@ ghost use Rattle.value.specs.Literal.{is_digit, all_digits, digit_of, number_fro
 ghost use Rattle.value.specs.Printed.{width_from, digits, minus_sign, places, printed, shown, Written};
 ghost use Rattle.value.specs.Parts.{parts_value, signed_power, IsPower};
 
-#[derive(Drop)]
+#[derive(Clone, Copy)]
 pub struct Value {
     pub m: i64,
     pub s: usize,
 }
 
 // What an operation answers: a value that fits, or that there is none.
-#[derive(Drop)]
+#[derive(Clone, Copy)]
 pub enum Fit {
     Fits(Value),
     TooBig,
 }
 
 // The whole number that a value is, or that it is none.
-#[derive(Drop)]
+#[derive(Clone, Copy)]
 pub enum Whole {
     Number(i64),
     NotWhole,
 }
 
 // The power of ten of a literal, whether it is behind a minus and its digits, or that there is none.
-#[derive(Drop)]
+#[derive(Clone, Copy)]
 enum Exponent {
     Of(bool, usize),
     Nothing,

@@ -1,6 +1,6 @@
 ghost use Rattle.std.specs.Prelude.{◌≡◌};
-ghost use Rattle.rules.specs.Refusals.{refusalNumber};
-# [ derive ( Drop ) ] pub enum Refusal { LongText , StrangeByte , Misplaced , BadName , Unfit , Full , BadIndex , NotWhole , Outside , Missing , LongListing , }
+ghost use Rattle.rules.specs.Refusals.{refusal_number};
+# [ derive ( Clone , Copy ) ] pub enum Refusal { LongText , StrangeByte , Misplaced , BadName , Unfit , Full , BadIndex , NotWhole , Outside , Missing , LongListing , }
 # [ read_as = "dfe8e07df2379159cf00da416a450996b2b8236a472373ee09ad9b163dceade1" ] pub const BYTE_LIMIT : usize = 16384 ;
 # [ read_as = "8f6b75b1c48eb0e05b4217439627001064127dff63b8fbed353631c90c5e0c09" ] pub const TOKEN_LIMIT : usize = 4096 ;
 # [ read_as = "023ff99afe390fd194b8b7770bfb12b6ae0c049e8b19b85b2f11ad07419cf747" ] pub const NAME_LENGTH : usize = 15 ;
@@ -18,4 +18,4 @@ ghost use Rattle.rules.specs.Refusals.{refusalNumber};
 # [ read_as = "4edb2ec6606374b0bdbbddb82dbc6db78c550409e6e55805a0cc6a68bf97a903" ] pub const RUN_LIMIT : usize = 256 ;
 # [ read_as = "c3e6d6460d4502bbd7cb3df53571c7a848b9f2d4cc6b96a4d8e8ffc0ff7da042" ] pub const INDEX_LIMIT : usize = 4 ;
 pub fn number ( r : Refusal ) -> u32
-    ensures { result ≡ refusalNumber r } ;
+    ensures { result ≡ refusal_number r } ;

@@ -8,8 +8,8 @@ use lib.Dec.{T}
 use Prim.Native.Nat.{ℕ, ◌*◌, ◌<◌}
 use lib.IntN.{ℤ, pos, neg_ℤ, ◌+ℤ◌, ◌*ℤ◌, neg_ℤ-neg_ℤ, +ℤ_invr, zero-*ℤ}
 use lib.Signed.{◌≤ℤ◌, le_z_yes, ≤ℤ_refl}
-use Rattle.rational.proofs.Integer.{ringℤ, *ℤ-id, *ℤ-negℤ, negℤ-*ℤ, negℤ-mono, +ℤ-mono, *ℤ-mono, *ℤ-mono-up, *ℤ-cancel-≤, ≤ℤ-trans, ≤ℤ-antisym, ≤ℤ-of-≡, ≤ℤ-total, leZ-false, shrZ-is}
-use Rattle.rational.specs.Fraction.{Fraction, ◌≈◌, ◌≼◌, ◌⊕◌, ◌⊗◌, opposite, integer, isAtMost, wholePart}
+use Rattle.rational.proofs.Integer.{ringℤ, *ℤ-id, *ℤ-negℤ, negℤ-*ℤ, negℤ-mono, +ℤ-mono, *ℤ-mono, *ℤ-mono-up, *ℤ-cancel-≤, ≤ℤ-trans, ≤ℤ-antisym, ≤ℤ-of-≡, ≤ℤ-total, le_z-false, shr_z-is}
+use Rattle.rational.specs.Fraction.{Fraction, ◌≈◌, ◌≼◌, ◌⊕◌, ◌⊗◌, opposite, integer, is_at_most, whole_part}
 
 -- the denominator as an integer
 abbrev below : Fraction → ℤ
@@ -226,34 +226,34 @@ same_bool true false f g = absurd (f tt)
 same_bool false true f g = absurd (g tt)
 same_bool false false f g = refl
 
-pub passes : (p q : Fraction) → p ≼ q → T (isAtMost p q)
+pub passes : (p q : Fraction) → p ≼ q → T (is_at_most p q)
 unfolding ◌≼◌
 passes p q h = h.le
 
-pub passed : (p q : Fraction) → T (isAtMost p q) → p ≼ q
+pub passed : (p q : Fraction) → T (is_at_most p q) → p ≼ q
 unfolding ◌≼◌
 passed p q t = le_z_yes t
 
-pub failed : (p q : Fraction) → isAtMost p q ≡ false → q ≼ p
+pub failed : (p q : Fraction) → is_at_most p q ≡ false → q ≼ p
 unfolding ◌≼◌
-failed p q e = leZ-false (p.num *ℤ pos q.den) (q.num *ℤ pos p.den) e
+failed p q e = le_z-false (p.num *ℤ pos q.den) (q.num *ℤ pos p.den) e
 
-pub same_test : (p p' q q' : Fraction) → p ≈ p' → q ≈ q' → isAtMost p q ≡ isAtMost p' q'
+pub same_test : (p p' q q' : Fraction) → p ≈ p' → q ≈ q' → is_at_most p q ≡ is_at_most p' q'
 same_test p p' q q' s t =
     same_bool _ _ (λ h. passes p' q' (≼-cong p p' q q' s t (passed p q h)))
     (λ h. passes p q (≼-cong p' p q' q (≈-sym p p' s) (≈-sym q q' t) (passed p' q' h)))
 
 -- ---- the whole part
 
-pub whole_part : (p : Fraction) (k : ℤ) → (integer k ≼ p) ↔ (k ≤ℤ wholePart p)
+pub whole_part_lem : (p : Fraction) (k : ℤ) → (integer k ≼ p) ↔ (k ≤ℤ whole_part p)
 unfolding ◌≼◌ integer
-whole_part p k = (
-  λ h. (shrZ-is p.num p.den k p.positive).0 (subst (λ t. (k *ℤ pos p.den) ≤ℤ t) (*ℤ-id p.num) h),
-  λ h. subst (λ t. (k *ℤ pos p.den) ≤ℤ t) (sym (*ℤ-id p.num)) ((shrZ-is p.num p.den k p.positive).1 h),
+whole_part_lem p k = (
+  λ h. (shr_z-is p.num p.den k p.positive).0 (subst (λ t. (k *ℤ pos p.den) ≤ℤ t) (*ℤ-id p.num) h),
+  λ h. subst (λ t. (k *ℤ pos p.den) ≤ℤ t) (sym (*ℤ-id p.num)) ((shr_z-is p.num p.den k p.positive).1 h),
 )
 
-pub same-part : (p q : Fraction) → p ≈ q → wholePart p ≡ wholePart q
+pub same-part : (p q : Fraction) → p ≈ q → whole_part p ≡ whole_part q
 same-part p q s = ≤ℤ-antisym (below-part p q s) (below-part q p (≈-sym p q s))
   where
-    below-part : (p q : Fraction) → p ≈ q → wholePart p ≤ℤ wholePart q
-    below-part p q s = (whole_part q _).0 (≼_trans (integer (wholePart p)) p q ((whole_part p _).1 (≤ℤ_refl _)) (≼-≈ p q s))
+    below-part : (p q : Fraction) → p ≈ q → whole_part p ≤ℤ whole_part q
+    below-part p q s = (whole_part_lem q _).0 (≼_trans (integer (whole_part p)) p q ((whole_part_lem p _).1 (≤ℤ_refl _)) (≼-≈ p q s))

@@ -140,17 +140,17 @@ pub ≤ℤ_prop : (a b : ℤ) → IsProp (a ≤ℤ b)
 ≤ℤ_prop a b x y = λ i. record { le = T_prop (le_z a b) x.le y.le i }
 
 -- the test of the order
-pub leZ-true : (a b : ℤ) → le_z a b ≡ true → a ≤ℤ b
-leZ-true a b e = le_z_yes (subst T (sym e) tt)
+pub le_z-true : (a b : ℤ) → le_z a b ≡ true → a ≤ℤ b
+le_z-true a b e = le_z_yes (subst T (sym e) tt)
 
-pub leZ-false : (a b : ℤ) → le_z a b ≡ false → b ≤ℤ a
-leZ-false (pos a) (pos b) e = le_z_yes (le→leb b a (omega (arith, leb-false a b e)))
-leZ-false (pos a) (negsuc b) e = le_z_yes tt
-leZ-false (negsuc a) (pos b) e = le_z_yes (subst T e tt)
-leZ-false (negsuc a) (negsuc b) e = le_z_yes (le→leb a b (omega (arith, leb-false b a e)))
+pub le_z-false : (a b : ℤ) → le_z a b ≡ false → b ≤ℤ a
+le_z-false (pos a) (pos b) e = le_z_yes (le→leb b a (omega (arith, leb-false a b e)))
+le_z-false (pos a) (negsuc b) e = le_z_yes tt
+le_z-false (negsuc a) (pos b) e = le_z_yes (subst T e tt)
+le_z-false (negsuc a) (negsuc b) e = le_z_yes (le→leb a b (omega (arith, leb-false b a e)))
 
-pub le-leZ : {a b : ℤ} → a ≤ℤ b → le_z a b ≡ true
-le-leZ {a} {b} h = go (le_z a b) h.le
+pub le-le_z : {a b : ℤ} → a ≤ℤ b → le_z a b ≡ true
+le-le_z {a} {b} h = go (le_z a b) h.le
   where
     go : (t : Bool) → T t → t ≡ true
     go true x = refl
@@ -160,18 +160,18 @@ pub ≤ℤ-total : (a b : ℤ) → (a ≤ℤ b) ⊎ (b ≤ℤ a)
 ≤ℤ-total a b = go (le_z a b) refl
   where
     go : (t : Bool) → le_z a b ≡ t → (a ≤ℤ b) ⊎ (b ≤ℤ a)
-    go true e = inl (leZ-true a b e)
-    go false e = inr (leZ-false a b e)
+    go true e = inl (le_z-true a b e)
+    go false e = inr (le_z-false a b e)
 
 -- the quotient by d, rounded down, is the largest integer whose d-fold is at most n
-pub shrZ-is : (n : ℤ) (d : ℕ) (k : ℤ) → 0 < d → ((k *ℤ pos d) ≤ℤ n) ↔ (k ≤ℤ shr_z n d)
-shrZ-is (pos n) d (pos k) z = (
+pub shr_z-is : (n : ℤ) (d : ℕ) (k : ℤ) → 0 < d → ((k *ℤ pos d) ≤ℤ n) ↔ (k ≤ℤ shr_z n d)
+shr_z-is (pos n) d (pos k) z = (
   λ h. le_z_yes (le→leb k (n / d) ((le-div_iff_mul-le z).1 (leb→le _ _ h.le))),
   λ h. le_z_yes (le→leb (k * d) n ((le-div_iff_mul-le z).0 (leb→le _ _ h.le))),
 )
-shrZ-is (pos n) d (negsuc k) z = (λ h. le_z_yes tt, λ h. le-of-parts _ _ (omega (arith, neg-up (pos (suc k * d)))))
-shrZ-is (negsuc n) d (pos k) z = (λ h. absurd h.le, λ h. absurd h.le)
-shrZ-is (negsuc n) d (negsuc k) z =
+shr_z-is (pos n) d (negsuc k) z = (λ h. le_z_yes tt, λ h. le-of-parts _ _ (omega (arith, neg-up (pos (suc k * d)))))
+shr_z-is (negsuc n) d (pos k) z = (λ h. absurd h.le, λ h. absurd h.le)
+shr_z-is (negsuc n) d (negsuc k) z =
     let i : (n / d < suc k) ↔ (n < suc k * d) = div-lt_iff_lt-mul z in
     let up-zero : up (neg_ℤ (pos (suc k * d))) ≡ 0 = neg-up (pos (suc k * d)) in
     let down-all : down (neg_ℤ (pos (suc k * d))) ≡ suc k * d = neg-down (pos (suc k * d)) in (

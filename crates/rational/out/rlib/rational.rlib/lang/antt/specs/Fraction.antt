@@ -35,9 +35,9 @@ unfoldable pub integer : ℤ → Fraction
 integer z = record { num = z; den = 1; positive = lit< tt }
 
 -- the order, as a test that computes
-abbrev pub isAtMost : Fraction → Fraction → Bool
-isAtMost p q = le_z (p.num *ℤ pos q.den) (q.num *ℤ pos p.den)
+abbrev pub is_at_most : Fraction → Fraction → Bool
+is_at_most p q = le_z (p.num *ℤ pos q.den) (q.num *ℤ pos p.den)
 
 -- the largest integer that is not above: the numerator divided by the denominator, rounded down
-abbrev pub wholePart : Fraction → ℤ
-wholePart p = shr_z p.num p.den
+abbrev pub whole_part : Fraction → ℤ
+whole_part p = shr_z p.num p.den

@@ -1,4 +1,4 @@
-# [ derive ( Drop ) ] pub enum Refusal { LongText , StrangeByte , Misplaced , BadName , Unfit , Full , BadIndex , NotWhole , Outside , Missing , LongListing , }
+# [ derive ( Clone , Copy ) ] pub enum Refusal { LongText , StrangeByte , Misplaced , BadName , Unfit , Full , BadIndex , NotWhole , Outside , Missing , LongListing , }
 # [ read_as = "dfe8e07df2379159cf00da416a450996b2b8236a472373ee09ad9b163dceade1" ] pub const BYTE_LIMIT : usize = 16384 ;
 # [ read_as = "8f6b75b1c48eb0e05b4217439627001064127dff63b8fbed353631c90c5e0c09" ] pub const TOKEN_LIMIT : usize = 4096 ;
 # [ read_as = "023ff99afe390fd194b8b7770bfb12b6ae0c049e8b19b85b2f11ad07419cf747" ] pub const NAME_LENGTH : usize = 15 ;

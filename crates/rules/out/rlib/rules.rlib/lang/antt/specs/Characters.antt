@@ -16,8 +16,8 @@ space = code " "
 abbrev pub tab : ℕ
 tab = code "\t"
 
-abbrev pub lineFeed : ℕ
-lineFeed = code "\n"
+abbrev pub line_feed : ℕ
+line_feed = code "\n"
 
-abbrev pub carriageReturn : ℕ
-carriageReturn = code "\r"
+abbrev pub carriage_return : ℕ
+carriage_return = code "\r"

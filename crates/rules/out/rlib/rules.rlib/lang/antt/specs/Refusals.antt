@@ -3,15 +3,15 @@ use Rattle.std.specs.Prelude.{ℕ}
 use Rattle.rules.specs.declared.Refusal.{Refusal}
 use Rattle.rules.specs.declared.Refusal.TheVariants.{LongText, StrangeByte, Misplaced, BadName, Unfit, Full, BadIndex, NotWhole, Outside, Missing, LongListing}
 
-abbrev pub refusalNumber : Refusal → ℕ
-refusalNumber LongText = 1
-refusalNumber StrangeByte = 2
-refusalNumber Misplaced = 3
-refusalNumber BadName = 4
-refusalNumber Unfit = 5
-refusalNumber Full = 6
-refusalNumber BadIndex = 7
-refusalNumber NotWhole = 8
-refusalNumber Outside = 9
-refusalNumber Missing = 10
-refusalNumber LongListing = 11
+abbrev pub refusal_number : Refusal → ℕ
+refusal_number LongText = 1
+refusal_number StrangeByte = 2
+refusal_number Misplaced = 3
+refusal_number BadName = 4
+refusal_number Unfit = 5
+refusal_number Full = 6
+refusal_number BadIndex = 7
+refusal_number NotWhole = 8
+refusal_number Outside = 9
+refusal_number Missing = 10
+refusal_number LongListing = 11
