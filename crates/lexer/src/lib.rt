@@ -1,5 +1,7 @@
 // The token cursor: at any position of any text, the token that comes next, its place and the cursor past it. Names and
 // strings are handed on as parts of the text.
+#![tactic(auto)]
+
 ghost use Rattle.std.specs.Prelude.{◌≡◌, cond, [], ◌+◌, ◌-◌, ◌<◌, ◌≤◌, length, get_or, drop};
 ghost use Rattle.value.specs.Literal.{is_digit};
 ghost use Rattle.lexer.specs.Marks.{capital_words, small_words};

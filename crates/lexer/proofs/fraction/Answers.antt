@@ -1,0 +1,7 @@
+-- `lexer::fraction` meets its contract.
+use borrow.Author.Rules.{rules}
+use Rattle.lexer.proofs.Tokens.{fraction-is}
+use Rattle.lexer.proofs.fraction.Goals as goal
+
+pub returns : goal.returns
+returns c = search fraction-is depth 8

@@ -1,0 +1,7 @@
+-- `lexer::powered` meets its contract.
+use borrow.Author.Rules.{rules}
+use Rattle.lexer.proofs.Powers.{powered-is}
+use Rattle.lexer.proofs.powered.Goals as goal
+
+pub returns : goal.returns
+returns c = search powered-is depth 10
