@@ -1,6 +1,8 @@
 // Tables that are searched by name and element: rows of four words in rising order of their keys, in a slice that the caller
 // lends. Every public function is total: it answers for any slice, any number of rows and any numbers in a struct.
 // What a table holds is said in specs/Entries.antt, and kept by the laws of proofs/Held.antt.
+#![tactic(auto)]
+
 ghost use Rattle.std.specs.Prelude.{◌≡◌, [], ◌+◌, ◌*◌, ◌<◌, ◌≤◌, ◌^◌, length, get_or, ltb, eqb, pos};
 ghost use Rattle.store.specs.Element.{list_of, extended};
 ghost use Rattle.store.specs.Key.{digit_of, digit_at, name_digit, paired, key_number, key_of, with_digit, name_of, element_of};

@@ -1,6 +1,8 @@
 // Tokens and names as the parser keeps them, and the readers that take a token or a bracket's head. A token is one word, its kind,
 // place and payload; a position is its index in the table. A name is a row of five words: place, length, sort, number of indices,
 // and the position at which its declared formula or its domain's first entry stands.
+#![tactic(auto)]
+
 pub mod kinds;
 pub mod scanner;
 pub mod sorts;

@@ -1,0 +1,8 @@
+-- `store::word_at` meets its contract.
+use borrow.Author.Rules.{rules}
+use Rattle.store.specs.Table.{word_at}
+use Rattle.store.proofs.word_at.Goals as goal
+
+pub returns : goal.returns
+unfolding word_at
+returns c = c.part.ensures

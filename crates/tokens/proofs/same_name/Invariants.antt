@@ -1,0 +1,11 @@
+-- `tokens::same_name` meets its contract.
+use Prim.Native.Nat.{◌-◌}
+use Rattle.tokens.proofs.Tables.{same-lengths, Alike, alike-start, alike_end, alike-not, alike-on}
+use borrow.Author.Rules.{rules}
+use Rattle.tokens.proofs.same_name.Given as goal
+
+abbrev pub invariant-loop-i : goal.invariant-loop-i
+invariant-loop-i l = Alike l.text l.p l.q l.n l.m l.i
+
+abbrev pub decreases-loop-i : goal.decreases-loop-i
+decreases-loop-i l = l.n - l.i

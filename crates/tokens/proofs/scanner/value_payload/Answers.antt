@@ -1,0 +1,14 @@
+-- `scanner::value_payload` meets its contract.
+use native.Mathlib.Omega.{arith}
+use Rattle.tokens.proofs.scanner.Words.{value-small, plain_back}
+use borrow.Author.Rules.{rules}
+use Rattle.tokens.proofs.scanner.value_payload.Goals as goal
+
+pub overflow_cast-result : goal.overflow_cast-result
+overflow_cast-result c = rw (plain_back _ c.requires) (tt, record { fits = omega (arith, value-small _ c.requires) })
+
+pub overflow_mul-result : goal.overflow_mul-result
+overflow_mul-result c = rw (plain_back _ c.requires) (record { fits = omega (arith, value-small _ c.requires) })
+
+pub overflow_add-result : goal.overflow_add-result
+overflow_add-result c = rw (plain_back _ c.requires) (record { fits = omega (arith, value-small _ c.requires) })
