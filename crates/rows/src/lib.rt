@@ -1,5 +1,7 @@
 // The rows and bounds of a problem in tables that the caller lends. What they hold is said in specs/Slots.antt and
 // specs/Bounds.antt, and of a whole problem in specs/Held.antt. Every public function is total.
+#![tactic(auto)]
+
 ghost use Rattle.std.specs.Prelude.{◌≡◌, map, ◌+◌, ltb, length, get_or, replicate, pos};
 ghost use Rattle.rules.specs.Limits.{row_limit};
 ghost use Rattle.store.specs.Element.{list_of};
