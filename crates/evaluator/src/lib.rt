@@ -69,7 +69,7 @@ pub fn value(names: &[u64], tokens: &[u64], table: &[u64], cx: Context, at: usiz
 }
 
 // Formula: optional sign, then terms joined by `+` or `-`.
-#[cycle(body_both_limits_bounds_datum_entry_factors_formula_inside_named_part_primary_subscript_subscripts_sum_summands_term_within)]
+#[cycle(evaluation)]
 pub fn formula(names: &[u64], tokens: &[u64], table: &[u64], cx: Context, at: usize) -> Answer
     ensures { Values (formula_in cx.nest) names.now tokens.now table.now cx.given cx.level cx.scope at result }
 {
@@ -88,7 +88,7 @@ pub fn formula(names: &[u64], tokens: &[u64], table: &[u64], cx: Context, at: us
 }
 
 // Terms joined by `+` or `-`, behind the first one, whose value is v.
-#[cycle(body_both_limits_bounds_datum_entry_factors_formula_inside_named_part_primary_subscript_subscripts_sum_summands_term_within)]
+#[cycle(evaluation)]
 fn summands(
     names: &[u64],
     tokens: &[u64],
@@ -132,7 +132,7 @@ fn summands(
 }
 
 // Term: primaries joined by `*`.
-#[cycle(body_both_limits_bounds_datum_entry_factors_formula_inside_named_part_primary_subscript_subscripts_sum_summands_term_within)]
+#[cycle(evaluation)]
 fn term(names: &[u64], tokens: &[u64], table: &[u64], cx: Context, at: usize) -> Answer
     ensures { Values (term_in cx.nest) names.now tokens.now table.now cx.given cx.level cx.scope at result }
 {
@@ -144,7 +144,7 @@ fn term(names: &[u64], tokens: &[u64], table: &[u64], cx: Context, at: usize) ->
 }
 
 // Primaries joined by `*`, behind the first one, whose value is v.
-#[cycle(body_both_limits_bounds_datum_entry_factors_formula_inside_named_part_primary_subscript_subscripts_sum_summands_term_within)]
+#[cycle(evaluation)]
 fn factors(names: &[u64], tokens: &[u64], table: &[u64], cx: Context, at: usize, v: Value) -> Answer
     ensures { Continues (factors_in cx.nest token_limit) names.now tokens.now table.now cx.given cx.level cx.scope at v result }
 {
@@ -180,7 +180,7 @@ fn factors(names: &[u64], tokens: &[u64], table: &[u64], cx: Context, at: usize,
 }
 
 // Primary: literal, name, `SUM` or formula in brackets.
-#[cycle(body_both_limits_bounds_datum_entry_factors_formula_inside_named_part_primary_subscript_subscripts_sum_summands_term_within)]
+#[cycle(evaluation)]
 pub fn primary(names: &[u64], tokens: &[u64], table: &[u64], cx: Context, at: usize) -> Answer
     ensures { Values (primary_in cx.nest) names.now tokens.now table.now cx.given cx.level cx.scope at result }
 {
@@ -205,7 +205,7 @@ pub fn primary(names: &[u64], tokens: &[u64], table: &[u64], cx: Context, at: us
 }
 
 // `SUM(index, lower, upper, formula)` behind its word, which stands at p.
-#[cycle(body_both_limits_bounds_datum_entry_factors_formula_inside_named_part_primary_subscript_subscripts_sum_summands_term_within)]
+#[cycle(evaluation)]
 fn sum(names: &[u64], tokens: &[u64], table: &[u64], cx: Context, at: usize, p: u64) -> Answer
     ensures { Values (sum_in cx.nest p) names.now tokens.now table.now cx.given cx.level cx.scope at result }
 {
@@ -230,7 +230,7 @@ fn sum(names: &[u64], tokens: &[u64], table: &[u64], cx: Context, at: usize, p: 
 }
 
 // A sum's body, walked anew for each of the n numbers of the run of index i.
-#[cycle(body_both_limits_bounds_datum_entry_factors_formula_inside_named_part_primary_subscript_subscripts_sum_summands_term_within)]
+#[cycle(evaluation)]
 fn body(
     names: &[u64],
     tokens: &[u64],
@@ -271,7 +271,7 @@ fn body(
 }
 
 // Two limits, each with the sign behind it; the lower one is rounded up, the upper one down.
-#[cycle(body_both_limits_bounds_datum_entry_factors_formula_inside_named_part_primary_subscript_subscripts_sum_summands_term_within)]
+#[cycle(evaluation)]
 pub fn both_limits(names: &[u64], tokens: &[u64], table: &[u64], cx: Context, at: usize) -> Limited
     ensures { LimitsAre (limits_walk cx.nest) names.now tokens.now table.now cx.given cx.level cx.scope at result }
 {
@@ -289,7 +289,7 @@ pub fn both_limits(names: &[u64], tokens: &[u64], table: &[u64], cx: Context, at
 }
 
 // A subscript: a formula and the sign behind it; refused at p if not whole.
-#[cycle(body_both_limits_bounds_datum_entry_factors_formula_inside_named_part_primary_subscript_subscripts_sum_summands_term_within)]
+#[cycle(evaluation)]
 fn subscript(names: &[u64], tokens: &[u64], table: &[u64], cx: Context, at: usize, p: u64) -> Answer
     ensures { Wholes (subscript_in cx.nest p) names.now tokens.now table.now cx.given cx.level cx.scope at result }
 {
@@ -388,7 +388,7 @@ fn formula_alone(names: &[u64], tokens: &[u64], table: &[u64], cx: Context, at: 
 }
 
 // A formula inside a bracket, and the sign behind it.
-#[cycle(body_both_limits_bounds_datum_entry_factors_formula_inside_named_part_primary_subscript_subscripts_sum_summands_term_within)]
+#[cycle(evaluation)]
 fn part(names: &[u64], tokens: &[u64], table: &[u64], cx: Context, at: usize) -> Answer
     ensures { Values (part_in cx.nest) names.now tokens.now table.now cx.given cx.level cx.scope at result }
 {
@@ -408,7 +408,7 @@ fn part(names: &[u64], tokens: &[u64], table: &[u64], cx: Context, at: usize) ->
 }
 
 // A formula inside one of `nest` brackets; with none it is never read.
-#[cycle(body_both_limits_bounds_datum_entry_factors_formula_inside_named_part_primary_subscript_subscripts_sum_summands_term_within)]
+#[cycle(evaluation)]
 fn inside(names: &[u64], tokens: &[u64], table: &[u64], cx: Context, at: usize) -> Answer
     ensures { Values (inside_in cx.nest) names.now tokens.now table.now cx.given cx.level cx.scope at result }
 {
@@ -428,7 +428,7 @@ fn inside(names: &[u64], tokens: &[u64], table: &[u64], cx: Context, at: usize) 
 }
 
 // A primary that is a name, read at p: an index, a declared formula, an integer or a real.
-#[cycle(body_both_limits_bounds_datum_entry_factors_formula_inside_named_part_primary_subscript_subscripts_sum_summands_term_within)]
+#[cycle(evaluation)]
 fn named(
     names: &[u64],
     tokens: &[u64],
@@ -472,7 +472,7 @@ fn named(
 }
 
 // The datum of name i, whose domain has `count` indices and was declared at `start`.
-#[cycle(body_both_limits_bounds_datum_entry_factors_formula_inside_named_part_primary_subscript_subscripts_sum_summands_term_within)]
+#[cycle(evaluation)]
 fn datum(
     names: &[u64],
     tokens: &[u64],
@@ -501,7 +501,7 @@ fn datum(
 }
 
 // `[` as many formulas as the name has indices `]`, each tested whole as read.
-#[cycle(body_both_limits_bounds_datum_entry_factors_formula_inside_named_part_primary_subscript_subscripts_sum_summands_term_within)]
+#[cycle(evaluation)]
 pub fn subscripts(
     names: &[u64],
     tokens: &[u64],
@@ -536,7 +536,7 @@ pub fn subscripts(
 }
 
 // Lower formula `<=` index `<=` upper formula, and the sign behind it.
-#[cycle(body_both_limits_bounds_datum_entry_factors_formula_inside_named_part_primary_subscript_subscripts_sum_summands_term_within)]
+#[cycle(evaluation)]
 pub fn entry(names: &[u64], tokens: &[u64], table: &[u64], cx: Context, at: usize) -> Entered
     ensures { EntryIs (entry_in cx.nest) names.now tokens.now table.now cx.given cx.level cx.scope at result }
 {
@@ -548,7 +548,7 @@ pub fn entry(names: &[u64], tokens: &[u64], table: &[u64], cx: Context, at: usiz
 }
 
 // An entry behind its lower formula, whose value is v.
-#[cycle(body_both_limits_bounds_datum_entry_factors_formula_inside_named_part_primary_subscript_subscripts_sum_summands_term_within)]
+#[cycle(evaluation)]
 fn bounds(names: &[u64], tokens: &[u64], table: &[u64], cx: Context, at: usize, v: Value) -> Entered
     ensures { BoundsAre (bounds_in cx.nest) names.now tokens.now table.now cx.given cx.level cx.scope at v result }
 {
@@ -725,7 +725,7 @@ fn within_fixed(
 
 // The domain test of an element for a name read at p, with the names before its declaration: position by position, the declared
 // limits read as they are reached.
-#[cycle(body_both_limits_bounds_datum_entry_factors_formula_inside_named_part_primary_subscript_subscripts_sum_summands_term_within)]
+#[cycle(evaluation)]
 pub fn within(
     names: &[u64],
     tokens: &[u64],

@@ -1,5 +1,7 @@
 // Formulas read over the stored tokens: the position after a formula, or a refusal. No tree is built. `nest`: how many brackets may
 // still open.
+#![tactic(auto)]
+
 ghost use Rattle.rules.specs.Limits.{token_limit};
 ghost use Rattle.tokens.specs.Stored.{Moves};
 ghost use Rattle.formulas.specs.Cycle.{inside_in, formula_in, primary_in, term_in, part_in, sum_in, nested_in, named_in, Factors, Summands, Subscripts};
@@ -8,7 +10,7 @@ use lexer::marks;
 use tokens::{Found, Move, Seen, kinds, sorts};
 
 // Formula: optional sign, then terms joined by `+` or `-`.
-#[cycle(factors_formula_inside_named_nested_part_primary_subscripts_sum_summands_term)]
+#[cycle(formulas)]
 pub fn formula(text: &[u8], names: &[u64], tokens: &[u64], at: usize, nest: usize) -> Move
     ensures { Moves (formula_in nest) text.now names.now tokens.now at result }
 {
@@ -24,7 +26,7 @@ pub fn formula(text: &[u8], names: &[u64], tokens: &[u64], at: usize, nest: usiz
 }
 
 // Terms joined by `+` or `-`, behind the first one.
-#[cycle(factors_formula_inside_named_nested_part_primary_subscripts_sum_summands_term)]
+#[cycle(formulas)]
 fn summands(text: &[u8], names: &[u64], tokens: &[u64], at: usize, nest: usize) -> Move
     ensures { Summands text.now names.now tokens.now nest token_limit at result }
 {
@@ -54,7 +56,7 @@ fn summands(text: &[u8], names: &[u64], tokens: &[u64], at: usize, nest: usize) 
 }
 
 // Term: primaries joined by `*`.
-#[cycle(factors_formula_inside_named_nested_part_primary_subscripts_sum_summands_term)]
+#[cycle(formulas)]
 fn term(text: &[u8], names: &[u64], tokens: &[u64], at: usize, nest: usize) -> Move
     ensures { Moves (term_in nest) text.now names.now tokens.now at result }
 {
@@ -66,7 +68,7 @@ fn term(text: &[u8], names: &[u64], tokens: &[u64], at: usize, nest: usize) -> M
 }
 
 // Primaries joined by `*`, behind the first one.
-#[cycle(factors_formula_inside_named_nested_part_primary_subscripts_sum_summands_term)]
+#[cycle(formulas)]
 fn factors(text: &[u8], names: &[u64], tokens: &[u64], at: usize, nest: usize) -> Move
     ensures { Factors text.now names.now tokens.now nest token_limit at result }
 {
@@ -96,7 +98,7 @@ fn factors(text: &[u8], names: &[u64], tokens: &[u64], at: usize, nest: usize) -
 }
 
 // Primary: literal, name, `SUM` or formula in brackets.
-#[cycle(factors_formula_inside_named_nested_part_primary_subscripts_sum_summands_term)]
+#[cycle(formulas)]
 pub fn primary(text: &[u8], names: &[u64], tokens: &[u64], at: usize, nest: usize) -> Move
     ensures { Moves (primary_in nest) text.now names.now tokens.now at result }
 {
@@ -120,7 +122,7 @@ pub fn primary(text: &[u8], names: &[u64], tokens: &[u64], at: usize, nest: usiz
 }
 
 // `SUM(index, lower, upper, formula)` behind its word.
-#[cycle(factors_formula_inside_named_nested_part_primary_subscripts_sum_summands_term)]
+#[cycle(formulas)]
 fn sum(text: &[u8], names: &[u64], tokens: &[u64], at: usize, nest: usize, p: u64) -> Move
     ensures { Moves (sum_in nest p) text.now names.now tokens.now at result }
 {
@@ -140,7 +142,7 @@ fn sum(text: &[u8], names: &[u64], tokens: &[u64], at: usize, nest: usize, p: u6
 }
 
 // A formula and `)`, behind the `(` at p.
-#[cycle(factors_formula_inside_named_nested_part_primary_subscripts_sum_summands_term)]
+#[cycle(formulas)]
 fn nested(text: &[u8], names: &[u64], tokens: &[u64], at: usize, nest: usize, p: u64) -> Move
     ensures { Moves (nested_in nest p) text.now names.now tokens.now at result }
 {
@@ -151,7 +153,7 @@ fn nested(text: &[u8], names: &[u64], tokens: &[u64], at: usize, nest: usize, p:
 }
 
 // A primary that is the name of n bytes at p.
-#[cycle(factors_formula_inside_named_nested_part_primary_subscripts_sum_summands_term)]
+#[cycle(formulas)]
 fn named(text: &[u8], names: &[u64], tokens: &[u64], at: usize, nest: usize, p: u64, n: u64) -> Move
     ensures { Moves (named_in text.now nest p n) text.now names.now tokens.now at result }
 {
@@ -171,7 +173,7 @@ fn named(text: &[u8], names: &[u64], tokens: &[u64], at: usize, nest: usize, p: 
 }
 
 // `[` as many formulas as the name has indices `]`.
-#[cycle(factors_formula_inside_named_nested_part_primary_subscripts_sum_summands_term)]
+#[cycle(formulas)]
 pub fn subscripts(
     text: &[u8],
     names: &[u64],
@@ -203,7 +205,7 @@ pub fn subscripts(
 }
 
 // A formula inside a bracket, and the sign `c` after it.
-#[cycle(factors_formula_inside_named_nested_part_primary_subscripts_sum_summands_term)]
+#[cycle(formulas)]
 pub fn part(text: &[u8], names: &[u64], tokens: &[u64], at: usize, nest: usize, c: u8) -> Move
     ensures { Moves (part_in nest c) text.now names.now tokens.now at result }
 {
@@ -215,7 +217,7 @@ pub fn part(text: &[u8], names: &[u64], tokens: &[u64], at: usize, nest: usize, 
 }
 
 // A formula inside one of `nest` brackets; with none it is never read.
-#[cycle(factors_formula_inside_named_nested_part_primary_subscripts_sum_summands_term)]
+#[cycle(formulas)]
 pub fn inside(text: &[u8], names: &[u64], tokens: &[u64], at: usize, nest: usize) -> Move
     ensures { Moves (inside_in nest) text.now names.now tokens.now at result }
 {

@@ -235,7 +235,7 @@ pub fn gathered(
 }
 
 // Optional sign, then terms joined by `+` or `-`.
-#[cycle(body_form_runs_sigma_term_terms)]
+#[cycle(gathering)]
 fn form(
     names: &[u64],
     tokens: &[u64],
@@ -270,7 +270,7 @@ fn form(
 }
 
 // Terms joined by `+` or `-`, behind the first one.
-#[cycle(body_form_runs_sigma_term_terms)]
+#[cycle(gathering)]
 fn terms(
     names: &[u64],
     tokens: &[u64],
@@ -316,7 +316,7 @@ fn terms(
 }
 
 // Primaries each followed by `*`, then a variable, or a sigma where `sigmas` are allowed.
-#[cycle(body_form_runs_sigma_term_terms)]
+#[cycle(gathering)]
 fn term(
     names: &[u64],
     tokens: &[u64],
@@ -345,7 +345,7 @@ fn term(
 }
 
 // A sigma behind its word, which stands at p.
-#[cycle(body_form_runs_sigma_term_terms)]
+#[cycle(gathering)]
 fn sigma(
     names: &[u64],
     tokens: &[u64],
@@ -412,7 +412,7 @@ fn run_of(names: &[u64], tokens: &[u64], table: &[u64], cx: Context, at: usize, 
 }
 
 // A sigma's body, gathered for each of the n numbers of the run of index i.
-#[cycle(body_form_runs_sigma_term_terms)]
+#[cycle(gathering)]
 fn runs(
     names: &[u64],
     tokens: &[u64],
@@ -453,7 +453,7 @@ fn runs(
 }
 
 // A sigma's body: another sigma, or a linear form without sigma.
-#[cycle(body_form_runs_sigma_term_terms)]
+#[cycle(gathering)]
 fn body(
     names: &[u64],
     tokens: &[u64],

@@ -36,7 +36,7 @@ pub fn linear(text: &[u8], names: &[u64], tokens: &[u64], at: usize, nest: usize
 }
 
 // Optional sign, then terms joined by `+` or `-`.
-#[cycle(body_form_sigma_term_terms)]
+#[cycle(linear)]
 fn form(text: &[u8], names: &[u64], tokens: &[u64], at: usize, nest: usize, sigmas: bool) -> Move
     ensures { Moves (form_in sigmas nest) text.now names.now tokens.now at result }
 {
@@ -52,7 +52,7 @@ fn form(text: &[u8], names: &[u64], tokens: &[u64], at: usize, nest: usize, sigm
 }
 
 // Primaries each followed by `*`, then a variable, or a sigma where `sigmas` are allowed.
-#[cycle(body_form_sigma_term_terms)]
+#[cycle(linear)]
 fn term(text: &[u8], names: &[u64], tokens: &[u64], at: usize, nest: usize, sigmas: bool) -> Move
     ensures { Moves (term_in sigmas nest) text.now names.now tokens.now at result }
 {
@@ -93,7 +93,7 @@ fn term(text: &[u8], names: &[u64], tokens: &[u64], at: usize, nest: usize, sigm
 }
 
 // Terms joined by `+` or `-`, behind the first one.
-#[cycle(body_form_sigma_term_terms)]
+#[cycle(linear)]
 fn terms(text: &[u8], names: &[u64], tokens: &[u64], at: usize, nest: usize, sigmas: bool) -> Move
     ensures { Moves (terms_in sigmas nest token_limit) text.now names.now tokens.now at result }
 {
@@ -123,7 +123,7 @@ fn terms(text: &[u8], names: &[u64], tokens: &[u64], at: usize, nest: usize, sig
 }
 
 // A sigma behind its word at p.
-#[cycle(body_form_sigma_term_terms)]
+#[cycle(linear)]
 fn sigma(text: &[u8], names: &[u64], tokens: &[u64], at: usize, nest: usize, p: u64) -> Move
     ensures { Moves (sigma_in nest p) text.now names.now tokens.now at result }
 {
@@ -150,7 +150,7 @@ fn sigma(text: &[u8], names: &[u64], tokens: &[u64], at: usize, nest: usize, p: 
 }
 
 // A sigma's body: another sigma, or a linear form without sigma.
-#[cycle(body_form_sigma_term_terms)]
+#[cycle(linear)]
 fn body(text: &[u8], names: &[u64], tokens: &[u64], at: usize, nest: usize) -> Move
     ensures { Moves (body_in nest) text.now names.now tokens.now at result }
 {

@@ -8,19 +8,19 @@ use borrow.Fn.Kinds.{In}
 use borrow.Fn.PlainCycle.{Measures, is, falls, and}
 use Rattle.linear.proofs.body.Reads as body
 use Rattle.linear.proofs.body.Kinds as body-kinds
-use Rattle.linear.proofs.+body_form_sigma_term_terms.Lts-body as body-lts
+use Rattle.linear.proofs.+linear.Lts-body as body-lts
 use Rattle.linear.proofs.form.Reads as form
 use Rattle.linear.proofs.form.Kinds as form-kinds
-use Rattle.linear.proofs.+body_form_sigma_term_terms.Lts-form as form-lts
+use Rattle.linear.proofs.+linear.Lts-form as form-lts
 use Rattle.linear.proofs.sigma.Reads as sigma
 use Rattle.linear.proofs.sigma.Kinds as sigma-kinds
-use Rattle.linear.proofs.+body_form_sigma_term_terms.Lts-sigma as sigma-lts
+use Rattle.linear.proofs.+linear.Lts-sigma as sigma-lts
 use Rattle.linear.proofs.term.Reads as term
 use Rattle.linear.proofs.term.Kinds as term-kinds
-use Rattle.linear.proofs.+body_form_sigma_term_terms.Lts-term as term-lts
+use Rattle.linear.proofs.+linear.Lts-term as term-lts
 use Rattle.linear.proofs.terms.Reads as terms
 use Rattle.linear.proofs.terms.Kinds as terms-kinds
-use Rattle.linear.proofs.+body_form_sigma_term_terms.Lts-terms as terms-lts
+use Rattle.linear.proofs.+linear.Lts-terms as terms-lts
 use Rattle.formulas.proofs.part.Reads as part-reads
 use Rattle.formulas.proofs.primary.Reads as primary-reads
 use Rattle.formulas.proofs.subscripts.Reads as subscripts-reads
@@ -29,8 +29,8 @@ use Rattle.tokens.proofs.expect.Reads as expect-reads
 use Rattle.tokens.proofs.head.Reads as head-reads
 use Rattle.tokens.proofs.sign.Reads as sign_reads
 use Rattle.tokens.proofs.token_at.Reads as token-at-reads
-use Rattle.linear.proofs.+body_form_sigma_term_terms.{statement}
-use Rattle.linear.proofs.+body_form_sigma_term_terms.Tie.{close}
+use Rattle.linear.proofs.+linear.{statement}
+use Rattle.linear.proofs.+linear.Tie.{close}
 
 abbrev μ-body : Measures 3 body-kinds.ps ℕ
 μ-body κs a = 5 * a.1.1.1.1.0 + 4

@@ -17,55 +17,55 @@ use borrow.Fn.Kinds.{In}
 use borrow.Fn.PlainCycle.{Measures, is, falls, and}
 use Rattle.evaluator.proofs.body.Reads as body
 use Rattle.evaluator.proofs.body.Kinds as body-kinds
-use Rattle.evaluator.proofs.+body_both_limits_bounds_datum_entry_factors_formula_inside_named_part_primary_subscript_subscripts_sum_summands_term_within.Lts-body as body-lts
+use Rattle.evaluator.proofs.+evaluation.Lts-body as body-lts
 use Rattle.evaluator.proofs.both_limits.Reads as both-limits
 use Rattle.evaluator.proofs.both_limits.Kinds as both-limits-kinds
-use Rattle.evaluator.proofs.+body_both_limits_bounds_datum_entry_factors_formula_inside_named_part_primary_subscript_subscripts_sum_summands_term_within.Lts-both_limits as both-limits-lts
+use Rattle.evaluator.proofs.+evaluation.Lts-both_limits as both-limits-lts
 use Rattle.evaluator.proofs.bounds.Reads as bounds
 use Rattle.evaluator.proofs.bounds.Kinds as bounds-kinds
-use Rattle.evaluator.proofs.+body_both_limits_bounds_datum_entry_factors_formula_inside_named_part_primary_subscript_subscripts_sum_summands_term_within.Lts-bounds as bounds-lts
+use Rattle.evaluator.proofs.+evaluation.Lts-bounds as bounds-lts
 use Rattle.evaluator.proofs.datum.Reads as datum
 use Rattle.evaluator.proofs.datum.Kinds as datum-kinds
-use Rattle.evaluator.proofs.+body_both_limits_bounds_datum_entry_factors_formula_inside_named_part_primary_subscript_subscripts_sum_summands_term_within.Lts-datum as datum-lts
+use Rattle.evaluator.proofs.+evaluation.Lts-datum as datum-lts
 use Rattle.evaluator.proofs.entry.Reads as entry
 use Rattle.evaluator.proofs.entry.Kinds as entry-kinds
-use Rattle.evaluator.proofs.+body_both_limits_bounds_datum_entry_factors_formula_inside_named_part_primary_subscript_subscripts_sum_summands_term_within.Lts-entry as entry-lts
+use Rattle.evaluator.proofs.+evaluation.Lts-entry as entry-lts
 use Rattle.evaluator.proofs.factors.Reads as factors
 use Rattle.evaluator.proofs.factors.Kinds as factors-kinds
-use Rattle.evaluator.proofs.+body_both_limits_bounds_datum_entry_factors_formula_inside_named_part_primary_subscript_subscripts_sum_summands_term_within.Lts-factors as factors-lts
+use Rattle.evaluator.proofs.+evaluation.Lts-factors as factors-lts
 use Rattle.evaluator.proofs.formula.Reads as formula
 use Rattle.evaluator.proofs.formula.Kinds as formula-kinds
-use Rattle.evaluator.proofs.+body_both_limits_bounds_datum_entry_factors_formula_inside_named_part_primary_subscript_subscripts_sum_summands_term_within.Lts-formula as formula-lts
+use Rattle.evaluator.proofs.+evaluation.Lts-formula as formula-lts
 use Rattle.evaluator.proofs.inside.Reads as inside
 use Rattle.evaluator.proofs.inside.Kinds as inside-kinds
-use Rattle.evaluator.proofs.+body_both_limits_bounds_datum_entry_factors_formula_inside_named_part_primary_subscript_subscripts_sum_summands_term_within.Lts-inside as inside-lts
+use Rattle.evaluator.proofs.+evaluation.Lts-inside as inside-lts
 use Rattle.evaluator.proofs.named.Reads as named
 use Rattle.evaluator.proofs.named.Kinds as named-kinds
-use Rattle.evaluator.proofs.+body_both_limits_bounds_datum_entry_factors_formula_inside_named_part_primary_subscript_subscripts_sum_summands_term_within.Lts-named as named-lts
+use Rattle.evaluator.proofs.+evaluation.Lts-named as named-lts
 use Rattle.evaluator.proofs.part.Reads as part
 use Rattle.evaluator.proofs.part.Kinds as part-kinds
-use Rattle.evaluator.proofs.+body_both_limits_bounds_datum_entry_factors_formula_inside_named_part_primary_subscript_subscripts_sum_summands_term_within.Lts-part as part-lts
+use Rattle.evaluator.proofs.+evaluation.Lts-part as part-lts
 use Rattle.evaluator.proofs.primary.Reads as primary
 use Rattle.evaluator.proofs.primary.Kinds as primary-kinds
-use Rattle.evaluator.proofs.+body_both_limits_bounds_datum_entry_factors_formula_inside_named_part_primary_subscript_subscripts_sum_summands_term_within.Lts-primary as primary-lts
+use Rattle.evaluator.proofs.+evaluation.Lts-primary as primary-lts
 use Rattle.evaluator.proofs.subscript.Reads as subscript
 use Rattle.evaluator.proofs.subscript.Kinds as subscript-kinds
-use Rattle.evaluator.proofs.+body_both_limits_bounds_datum_entry_factors_formula_inside_named_part_primary_subscript_subscripts_sum_summands_term_within.Lts-subscript as subscript-lts
+use Rattle.evaluator.proofs.+evaluation.Lts-subscript as subscript-lts
 use Rattle.evaluator.proofs.subscripts.Reads as subscripts
 use Rattle.evaluator.proofs.subscripts.Kinds as subscripts-kinds
-use Rattle.evaluator.proofs.+body_both_limits_bounds_datum_entry_factors_formula_inside_named_part_primary_subscript_subscripts_sum_summands_term_within.Lts-subscripts as subscripts-lts
+use Rattle.evaluator.proofs.+evaluation.Lts-subscripts as subscripts-lts
 use Rattle.evaluator.proofs.sum.Reads as sum
 use Rattle.evaluator.proofs.sum.Kinds as sum-kinds
-use Rattle.evaluator.proofs.+body_both_limits_bounds_datum_entry_factors_formula_inside_named_part_primary_subscript_subscripts_sum_summands_term_within.Lts-sum as sum-lts
+use Rattle.evaluator.proofs.+evaluation.Lts-sum as sum-lts
 use Rattle.evaluator.proofs.summands.Reads as summands
 use Rattle.evaluator.proofs.summands.Kinds as summands-kinds
-use Rattle.evaluator.proofs.+body_both_limits_bounds_datum_entry_factors_formula_inside_named_part_primary_subscript_subscripts_sum_summands_term_within.Lts-summands as summands-lts
+use Rattle.evaluator.proofs.+evaluation.Lts-summands as summands-lts
 use Rattle.evaluator.proofs.term.Reads as term
 use Rattle.evaluator.proofs.term.Kinds as term-kinds
-use Rattle.evaluator.proofs.+body_both_limits_bounds_datum_entry_factors_formula_inside_named_part_primary_subscript_subscripts_sum_summands_term_within.Lts-term as term-lts
+use Rattle.evaluator.proofs.+evaluation.Lts-term as term-lts
 use Rattle.evaluator.proofs.within.Reads as within
 use Rattle.evaluator.proofs.within.Kinds as within-kinds
-use Rattle.evaluator.proofs.+body_both_limits_bounds_datum_entry_factors_formula_inside_named_part_primary_subscript_subscripts_sum_summands_term_within.Lts-within as within-lts
+use Rattle.evaluator.proofs.+evaluation.Lts-within as within-lts
 use Rattle.evaluator.proofs.steps.names.head.Reads as head-reads
 use Rattle.evaluator.proofs.steps.names.index_number.Reads as index-number-reads
 use Rattle.evaluator.proofs.steps.names.name_at.Reads as name-at-reads
@@ -92,8 +92,8 @@ use Rattle.evaluator.proofs.steps.values.zero.Reads as zero-reads
 use Rattle.store.proofs.Element.length.Reads as length-reads
 use Rattle.store.proofs.Element.none.Reads as Element-none-reads
 use Rattle.tokens.proofs.token_at.Reads as token-at-reads
-use Rattle.evaluator.proofs.+body_both_limits_bounds_datum_entry_factors_formula_inside_named_part_primary_subscript_subscripts_sum_summands_term_within.{statement}
-use Rattle.evaluator.proofs.+body_both_limits_bounds_datum_entry_factors_formula_inside_named_part_primary_subscript_subscripts_sum_summands_term_within.Tie.{close}
+use Rattle.evaluator.proofs.+evaluation.{statement}
+use Rattle.evaluator.proofs.+evaluation.Tie.{close}
 
 abbrev μ-body : Measures 3 body-kinds.ps ℕ
 μ-body κs a = 300 * a.1.1.1.0.level + 20 * a.1.1.1.0.nest + 1

@@ -11,22 +11,22 @@ use borrow.Fn.Kinds.{In}
 use borrow.Fn.PlainCycle.{Measures, is, falls, and}
 use Rattle.gatherer.proofs.body.Reads as body
 use Rattle.gatherer.proofs.body.Kinds as body-kinds
-use Rattle.gatherer.proofs.+body_form_runs_sigma_term_terms.Lts-body as body-lts
+use Rattle.gatherer.proofs.+gathering.Lts-body as body-lts
 use Rattle.gatherer.proofs.form.Reads as form
 use Rattle.gatherer.proofs.form.Kinds as form-kinds
-use Rattle.gatherer.proofs.+body_form_runs_sigma_term_terms.Lts-form as form-lts
+use Rattle.gatherer.proofs.+gathering.Lts-form as form-lts
 use Rattle.gatherer.proofs.runs.Reads as runs
 use Rattle.gatherer.proofs.runs.Kinds as runs-kinds
-use Rattle.gatherer.proofs.+body_form_runs_sigma_term_terms.Lts-runs as runs-lts
+use Rattle.gatherer.proofs.+gathering.Lts-runs as runs-lts
 use Rattle.gatherer.proofs.sigma.Reads as sigma
 use Rattle.gatherer.proofs.sigma.Kinds as sigma-kinds
-use Rattle.gatherer.proofs.+body_form_runs_sigma_term_terms.Lts-sigma as sigma-lts
+use Rattle.gatherer.proofs.+gathering.Lts-sigma as sigma-lts
 use Rattle.gatherer.proofs.term.Reads as term
 use Rattle.gatherer.proofs.term.Kinds as term-kinds
-use Rattle.gatherer.proofs.+body_form_runs_sigma_term_terms.Lts-term as term-lts
+use Rattle.gatherer.proofs.+gathering.Lts-term as term-lts
 use Rattle.gatherer.proofs.terms.Reads as terms
 use Rattle.gatherer.proofs.terms.Kinds as terms-kinds
-use Rattle.gatherer.proofs.+body_form_runs_sigma_term_terms.Lts-terms as terms-lts
+use Rattle.gatherer.proofs.+gathering.Lts-terms as terms-lts
 use Rattle.gatherer.proofs.end_of.Reads as end-of-reads
 use Rattle.gatherer.proofs.flipped.Reads as flipped-reads
 use Rattle.gatherer.proofs.run_of.Reads as run-of-reads
@@ -35,8 +35,8 @@ use Rattle.evaluator.proofs.steps.passing.behind_bracket.Reads as behind-bracket
 use Rattle.evaluator.proofs.steps.passing.sign.Reads as sign_reads
 use Rattle.evaluator.proofs.steps.values.bind_nth.Reads as bind-nth-reads
 use Rattle.tokens.proofs.token_at.Reads as token-at-reads
-use Rattle.gatherer.proofs.+body_form_runs_sigma_term_terms.{statement}
-use Rattle.gatherer.proofs.+body_form_runs_sigma_term_terms.Tie.{close}
+use Rattle.gatherer.proofs.+gathering.{statement}
+use Rattle.gatherer.proofs.+gathering.Tie.{close}
 
 abbrev μ-body : Measures 5 body-kinds.ps ℕ
 μ-body κs a = 10 * (length a.1.0.now - a.1.1.1.1.1.1.0) + 4

@@ -1,0 +1,59 @@
+-- The cycle of formulas: each function meets its contract.
+use Prim.Native.Nat.{◌+◌, ◌*◌}
+use Rattle.formulas.proofs.Laws.{inside-full, inside-formula, part-refused, part-sign, nested-full, nested-part, term-refused, term-rest, formula-sign, formula-term, formula-rest, sum_head, sum-lower, sum-upper, sum_body, named-unknown, named-plain, named-datum, named_other, primary-wrong, primary-sum, primary-nested, primary-name, primary-literal, primary-other}
+use Rattle.formulas.proofs.Loops.{FactorsOn, SummandsOn, factors-start, factors-none, factors-wrong, factors-end, factors-refused, factors-on, summands-start, summands-none, summands-wrong, summands-end, summands-refused, summands-on, EntriesOn, subscripts-none, subscripts-open, entries-start, entries-refused, entries-on, entries-last}
+use native.Mathlib.Omega.{arith}
+use borrow.Author.Rules.{rules}
+use Prim.Native.Nat.{ℕ, ◌<◌}
+use Rattle.formulas.proofs.+formulas.Given as goal
+
+abbrev pub decreases-factors : goal.decreases-factors
+decreases-factors l = 10 * l.nest + 5
+
+abbrev pub decreases-formula : goal.decreases-formula
+decreases-formula l = 10 * l.nest + 8
+
+abbrev pub decreases-inside : goal.decreases-inside
+decreases-inside l = 10 * l.nest + 0
+
+abbrev pub decreases-named : goal.decreases-named
+decreases-named l = 10 * l.nest + 3
+
+abbrev pub decreases-nested : goal.decreases-nested
+decreases-nested l = 10 * l.nest + 3
+
+abbrev pub decreases-part : goal.decreases-part
+decreases-part l = 10 * l.nest + 1
+
+abbrev pub decreases-primary : goal.decreases-primary
+decreases-primary l = 10 * l.nest + 4
+
+abbrev pub decreases-subscripts : goal.decreases-subscripts
+decreases-subscripts l = 10 * l.nest + 2
+
+abbrev pub decreases-sum : goal.decreases-sum
+decreases-sum l = 10 * l.nest + 3
+
+abbrev pub decreases-summands : goal.decreases-summands
+decreases-summands l = 10 * l.nest + 7
+
+abbrev pub decreases-term : goal.decreases-term
+decreases-term l = 10 * l.nest + 6
+
+abbrev pub invariant-factors-loop-left : goal.invariant-factors-loop-left
+invariant-factors-loop-left l = FactorsOn l.text l.names l.tokens l.nest l.at l.left l.a
+
+abbrev pub decreases-factors-loop-left : goal.decreases-factors-loop-left
+decreases-factors-loop-left l = l.left
+
+abbrev pub invariant-subscripts-loop-left : goal.invariant-subscripts-loop-left
+invariant-subscripts-loop-left l = EntriesOn l.text l.names l.tokens l.nest l.count l.at l.left l.a
+
+abbrev pub decreases-subscripts-loop-left : goal.decreases-subscripts-loop-left
+decreases-subscripts-loop-left l = l.left
+
+abbrev pub invariant-summands-loop-left : goal.invariant-summands-loop-left
+invariant-summands-loop-left l = SummandsOn l.text l.names l.tokens l.nest l.at l.left l.a
+
+abbrev pub decreases-summands-loop-left : goal.decreases-summands-loop-left
+decreases-summands-loop-left l = l.left
