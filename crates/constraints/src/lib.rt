@@ -1,4 +1,6 @@
 // Relations, objectives and constraints read over the stored tokens; each constraint becomes a row of a table.
+#![tactic(auto)]
+
 pub mod layout;
 mod shape;
 

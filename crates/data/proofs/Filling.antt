@@ -28,7 +28,7 @@ use Rattle.data.specs.declared.reading.ends.Titled.{Titled as Title}
 use Rattle.data.specs.declared.reading.ends.Titled.TheVariants as title
 use Rattle.data.specs.Reading.Readers.{Says, titled, passed}
 use Rattle.data.proofs.reading.Joined.{follow-follow}
-use Rattle.data.specs.declared.Given.TheVariants as goal
+use Rattle.data.specs.declared.Given.TheVariants as given
 use Rattle.data.specs.declared.entering.Taken.{Taken}
 use Rattle.data.specs.declared.entering.Taken.TheVariants as taken
 use Rattle.data.specs.declared.sections.Section.{Section}
@@ -227,26 +227,26 @@ module _ (s ns ts : List ℕ) (at : ℕ) (r : Section) (ds : List ℕ) (h : Sect
   section-as : (g : Ground s ns ts) (z : Section) → r ≡ z → SectionIs (section_in g.names (from s ts at)) s ts ds z
   section-as g z e = subst (SectionIs (section_in g.names (from s ts at)) s ts ds) e (h.is g)
 
-  pub read-refused : (m : Refusal) (q : ℕ) → r ≡ section.Refused m q → ReadsData s ns ts at (goal.Refused m q) ds
+  pub read-refused : (m : Refusal) (q : ℕ) → r ≡ section.Refused m q → ReadsData s ns ts at (given.Refused m q) ds
   read-refused m q e = record { is = λ g. rw (data-joined g.names (from s ts at)) (go (section_in g.names (from s ts at)) (section-as g (section.Refused m q) e)) }
     where
-      go : (o : Outcome (Read Given)) → SectionIs o s ts ds (section.Refused m q) → GivenIs (follow o ending) s ds (goal.Refused m q)
+      go : (o : Outcome (Read Given)) → SectionIs o s ts ds (section.Refused m q) → GivenIs (follow o ending) s ds (given.Refused m q)
       go (done x) k = absurd k
       go (refused r' q') k = k
 
   module _ (p n count a : ℕ) (e : r ≡ section.Of p n count a) (c : Move) (l : Says passed read_end ts a c) where
-    pub read-not : (m : Refusal) (q : ℕ) → c ≡ move.Refused m q → ReadsData s ns ts at (goal.Refused m q) ds
+    pub read-not : (m : Refusal) (q : ℕ) → c ≡ move.Refused m q → ReadsData s ns ts at (given.Refused m q) ds
     unfolding ending
     read-not m q d = record { is = λ g. rw (data-joined g.names (from s ts at)) (go (section_in g.names (from s ts at)) (section-as g (section.Of p n count a) e)) }
       where
-        go : (o : Outcome (Read Given)) → SectionIs o s ts ds (section.Of p n count a) → GivenIs (follow o ending) s ds (goal.Refused m q)
+        go : (o : Outcome (Read Given)) → SectionIs o s ts ds (section.Of p n count a) → GivenIs (follow o ending) s ds (given.Refused m q)
         go (done x) w = rw (w.0, l.is s, d) (refl, refl)
         go (refused r' q') w = absurd w
 
-    pub read_done : (b : ℕ) → c ≡ move.At b → ReadsData s ns ts at (goal.Of p n count) ds
+    pub read_done : (b : ℕ) → c ≡ move.At b → ReadsData s ns ts at (given.Of p n count) ds
     unfolding ending
     read_done b d = record { is = λ g. rw (data-joined g.names (from s ts at)) (go (section_in g.names (from s ts at)) (section-as g (section.Of p n count a) e)) }
       where
-        go : (o : Outcome (Read Given)) → SectionIs o s ts ds (section.Of p n count a) → GivenIs (follow o ending) s ds (goal.Of p n count)
+        go : (o : Outcome (Read Given)) → SectionIs o s ts ds (section.Of p n count a) → GivenIs (follow o ending) s ds (given.Of p n count)
         go (done x) w = rw (w.0, l.is s, d) (w.1, w.2)
         go (refused r' q') w = absurd w

@@ -1,4 +1,6 @@
 // Declarations read over the stored tokens; each declared name becomes a row of the name table.
+#![tactic(auto)]
+
 ghost use Rattle.std.specs.Prelude.{◌≡◌, false, ◌≤◌, length, get_or};
 ghost use Rattle.rules.specs.Limits.{token_limit};
 ghost use Rattle.language.specs.Declarations.{is_in};

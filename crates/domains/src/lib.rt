@@ -1,4 +1,6 @@
 // A constraint's domain read over the stored tokens.
+#![tactic(auto)]
+
 ghost use Rattle.tokens.specs.Stored.{Moves};
 ghost use Rattle.tokens.specs.Pieces.{index_in};
 ghost use Rattle.domains.specs.Domains.{entry_with, entries_in, domain_in, optional_in};

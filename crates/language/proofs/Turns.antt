@@ -71,7 +71,7 @@ leaves : {A : Type 0} {m : Reader A} {W : A → List Token → Type 0} → Reads
 leaves rm h ts r e = let w = rm.reads ts r e in (w.phrase, w.writes, ap live w.taken ∙ (h r.what w.phrase w.writes).passed r.rest)
 
 -- no reader of the grammar leaves more tokens that count than it finds: all tokens of phrases, lists and structures count
--- (`phrase-counts`, `list_Counts`, `structure-counts`)
+-- (`phrase-counts`, `list_counts`, `structure-counts`)
 pub steady : {A : Type 0} {m : Reader A} {W : A → List Token → Type 0} → Reads m W → ((a : A) (l : List Token) → W a l → Counted l) → (ts : List Token) (r : Read A) → m ts ≡ done r → live r.rest ≤ live ts
 steady rm h ts r e = omega (arith, (leaves rm h ts r e).2)
 

@@ -1,4 +1,6 @@
 // Linear forms read over the stored tokens.
+#![tactic(auto)]
+
 ghost use Rattle.std.specs.Prelude.{◌≡◌};
 ghost use Rattle.rules.specs.Limits.{token_limit};
 ghost use Rattle.tokens.specs.Stored.{Moves};

@@ -60,7 +60,7 @@ module _ (n : ℕ) (x : Parsed) (g : Given) where
         constraints = x.constraints;
         section = p;
         bytes = b;
-        goal = count;
+        given = count;
         end = ends.Read;
       } ≡ model_of n x g
   model-given p b count e = rw e refl
@@ -89,7 +89,7 @@ module _ (s t ns cs ds : List ℕ) (n : ℕ) (x : Parsed) (c : Scans s n t) (h :
       })
     where
       go : (o : Outcome (Read Structure)) → Parsing o s (take n t) x (Refused r p) ns cs
-          → Reading (what_of (follow o (λ y l. follow (read_data y.names l) (λ g. give (record { structure = y; goal = g }))))) s (take 0 t) ns cs ds (no_model r p) (ends.Refused r p)
+          → Reading (what_of (follow o (λ y l. follow (read_data y.names l) (λ g. give (record { structure = y; given = g }))))) s (take 0 t) ns cs ds (no_model r p) (ends.Refused r p)
       go (done y) k = absurd k
       go (refused m u) k = k
 
@@ -106,7 +106,7 @@ module _ (s t ns cs ds : List ℕ) (n : ℕ) (x : Parsed) (c : Scans s n t) (h :
       resolved = resolved-structure s (take n t) (take n t') ns cs x y h.named c.holds k z
 
       -- with the data section that was read
-      section : (v : Given) (o : Outcome (Read language.Given)) → GivenIs o s ds v → read_model s ≡ what_of (follow o (λ w. give (record { structure = y; goal = w })))
+      section : (v : Given) (o : Outcome (Read language.Given)) → GivenIs o s ds v → read_model s ≡ what_of (follow o (λ w. give (record { structure = y; given = w })))
           → ReadAs s (model_of n x v) t' ns cs ds
       section (goal.Of p b count) (done w) j m =
           record {
@@ -150,8 +150,8 @@ module _ (s t ns cs ds : List ℕ) (n : ℕ) (x : Parsed) (c : Scans s n t) (h :
         go (done y) i k =
             section y.what y.rest i k.1 g (read_data y.what.names (from s (take n t') a))
             (subst (λ names. GivenIs (read_data names (from s (take n t') a)) s ds g) (known y.what y.rest i k.1) (d.is (ground y.what y.rest i k.1)))
-            (ap (λ o. what_of (follow o (λ y l. follow (read_data y.names l) (λ w. give (record { structure = y; goal = w }))))) i
-            ∙ ap (λ l. what_of (follow (read_data y.what.names l) (λ w. give (record { structure = y.what; goal = w })))) (k.0 ∙ sym (z.same s a)))
+            (ap (λ o. what_of (follow o (λ y l. follow (read_data y.names l) (λ w. give (record { structure = y; given = w }))))) i
+            ∙ ap (λ l. what_of (follow (read_data y.what.names l) (λ w. give (record { structure = y.what; given = w })))) (k.0 ∙ sym (z.same s a)))
 
   pub read-model : (a : ℕ) (q : Model) (t' : List ℕ) → x.end ≡ At a → Finishes s t ns n x a q t' ds → ReadAs s q t' ns cs ds
   read-model a q t' e f = with-section t' f.resolves a f.section q e f.reads f.model

@@ -1,0 +1,7 @@
+-- `constraints::constraint` meets its contract.
+use borrow.Author.Rules.{rules}
+use Rattle.constraints.proofs.RowLaws.{row_is}
+use Rattle.constraints.proofs.constraint.Goals as goal
+
+pub returns : goal.returns
+returns c = search row_is depth 5

@@ -1,0 +1,7 @@
+-- `layout::packed` meets its contract.
+use borrow.Author.Rules.{rules}
+use Rattle.constraints.proofs.layout.Laws.{packs}
+use Rattle.constraints.proofs.layout.packed.Goals as goal
+
+pub returns : goal.returns
+returns c = search packs depth 6

@@ -1,0 +1,11 @@
+-- `constraints::read_rows` meets its contract.
+use Rattle.constraints.proofs.ListLaws.{ConstraintsOn, constraints-start, constraints-refused, constraints-wrong, constraints-on, constraints-end, constraints-full}
+use Prim.Native.Nat.{◌-◌}
+use borrow.Author.Rules.{rules}
+use Rattle.constraints.proofs.read_rows.Given as goal
+
+abbrev pub invariant-loop-n : goal.invariant-loop-n
+invariant-loop-n l = ConstraintsOn l.text l.names l.tokens l.initial.rows l.at l.n l.a l.rows
+
+abbrev pub decreases-loop-n : goal.decreases-loop-n
+decreases-loop-n l = 64 - l.n

@@ -1,0 +1,13 @@
+-- `constraints::title` meets its contract.
+use Rattle.constraints.proofs.TokenLaws.{title-yes, title-no, title-wrong}
+use borrow.Author.Rules.{rules}
+use Rattle.constraints.proofs.title.Goals as goal
+
+pub returns-then-k-eq-STRING : goal.returns-then-k-eq-STRING
+returns-then-k-eq-STRING c = search title-yes depth 7
+
+pub returns-else-k-eq-STRING : goal.returns-else-k-eq-STRING
+returns-else-k-eq-STRING c = search title-no depth 7
+
+pub returns-in-Refused : goal.returns-in-Refused
+returns-in-Refused c = search title-wrong depth 6

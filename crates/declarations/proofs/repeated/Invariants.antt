@@ -1,0 +1,10 @@
+-- `declarations::repeated` meets its contract.
+use Rattle.declarations.proofs.DueLaws.{Shows, shows-start, shows-none, shows-found, shows-on}
+use borrow.Author.Rules.{rules}
+use Rattle.declarations.proofs.repeated.Given as goal
+
+abbrev pub invariant-loop-j : goal.invariant-loop-j
+invariant-loop-j l = Shows l.list l.x l.k l.j
+
+abbrev pub decreases-loop-j : goal.decreases-loop-j
+decreases-loop-j l = l.j
