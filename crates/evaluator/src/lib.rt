@@ -1,4 +1,6 @@
 // Formulas, sums, subscripts and domains evaluated over the stored tokens, which have been read before. `table` holds the data.
+#![tactic(auto)]
+
 pub mod steps;
 
 ghost use Rattle.std.specs.Prelude.{◌<◌};

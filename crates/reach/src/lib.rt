@@ -1,5 +1,7 @@
 // How far a row of a problem can reach over the bounds of its variables: its least or its greatest value, from the problem's tables, or
 // that this end is open. Every public function is total.
+#![tactic(auto)]
+
 ghost use Rattle.std.specs.Prelude.{◌≡◌};
 ghost use Rattle.rows.specs.Bounds.{lower_word, upper_word};
 ghost use Rattle.rows.specs.Read.{lower_in, end_in, value_of};

@@ -1,0 +1,15 @@
+-- `names::resolve` meets its contract.
+use Prim.Native.Nat.{◌-◌}
+use lib.ListN.{length}
+use Rattle.evaluator.proofs.steps.Numbers.{Resolving, resolving-start, resolving-more, resolving-end}
+use borrow.Author.Rules.{rules}
+use Rattle.evaluator.proofs.steps.names.resolve.Goals as goal
+
+pub loop-i-init : goal.loop-i-init
+loop-i-init c = resolving-start _ _ _
+
+pub loop-i-preserved : goal.loop-i-preserved
+loop-i-preserved c = search resolving-more depth 6
+
+pub returns : goal.returns
+returns c = search resolving-end depth 5

@@ -1,0 +1,7 @@
+-- `values::bind_nth` meets its contract.
+use Rattle.evaluator.proofs.steps.Runs.{nth-bound}
+use borrow.Author.Rules.{rules}
+use Rattle.evaluator.proofs.steps.values.bind_nth.Goals as goal
+
+pub returns : goal.returns
+returns c = search nth-bound depth 6

@@ -1,0 +1,7 @@
+-- `values::literal` meets its contract.
+use Rattle.evaluator.proofs.steps.Answers.{literal-is}
+use borrow.Author.Rules.{rules}
+use Rattle.evaluator.proofs.steps.values.literal.Goals as goal
+
+pub returns : goal.returns
+returns c = search literal-is depth 5

@@ -1,0 +1,7 @@
+-- `value` meets its contract.
+use Rattle.evaluator.proofs.Laws.{value-formula}
+use borrow.Author.Rules.{rules}
+use Rattle.evaluator.proofs.value.Goals as goal
+
+pub returns : goal.returns
+returns c = search value-formula depth 4

@@ -1,0 +1,17 @@
+-- `within_fixed` meets its contract.
+use Prim.Native.Nat.{◌-◌}
+use borrow.Author.Rules.{rules}
+use Rattle.evaluator.proofs.Alone.{FixedOn, fixed-start, fixed-end, fixed-outside, fixed_on}
+use Rattle.evaluator.proofs.within_fixed.Goals as goal
+
+pub loop-j-init : goal.loop-j-init
+loop-j-init c = search fixed-start depth 6
+
+pub returns-then-not-lies : goal.returns-then-not-lies
+returns-then-not-lies c = search fixed-outside depth 14
+
+pub loop-j-preserved : goal.loop-j-preserved
+loop-j-preserved c = search fixed_on depth 14
+
+pub returns : goal.returns
+returns c = search fixed-end depth 8
