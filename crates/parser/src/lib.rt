@@ -1,4 +1,6 @@
 // A model up to its data section, read over the stored tokens into a table of names and a table of constraints.
+#![tactic(auto)]
+
 ghost use Rattle.std.specs.Prelude.{◌≡◌, false, ◌≤◌, length};
 ghost use Rattle.tokens.specs.Stored.{Gives, rows_of};
 ghost use Rattle.parser.specs.Readers.{opening_in, objective_in};
