@@ -1,6 +1,8 @@
 // The elements of a domain, one after the other: the first, and after each the next. A caller does its step between them.
 // Of `cx` only the rows of data and the visible names count: a domain is read from nothing bound. The upper limits of the runs
 // under way are kept with an element, so a limit is evaluated once for each run.
+#![tactic(auto)]
+
 ghost use Rattle.elements.specs.Steps.{FirstIs, NextIs, InsideIs, TurnsAre, AfterIs};
 
 use evaluator::steps::values;

@@ -1,0 +1,19 @@
+-- `elements::inside` and `elements::turns` meet their contracts.
+use Prim.Native.Nat.{ℕ, ◌<◌, ◌+◌, ◌*◌}
+use native.Mathlib.Omega.{arith}
+use borrow.Author.Rules.{rules}
+use Rattle.elements.proofs.Numbers.{left, up-less}
+use Rattle.elements.proofs.Entering.{TurnsOn, inside-none, inside-limit, inside-run, inside-turns, turns-start, turns-end, turns_at, turns-refused, turns-last, turns_more}
+use Rattle.elements.proofs.+inside_turns.Given as goal
+
+abbrev pub decreases-inside : goal.decreases-inside
+decreases-inside l = 2 * l.count
+
+abbrev pub decreases-turns : goal.decreases-turns
+decreases-turns l = 2 * l.count + 1
+
+abbrev pub invariant-turns-loop-cx : goal.invariant-turns-loop-cx
+invariant-turns-loop-cx l = TurnsOn l.names l.tokens l.table l.cx.given l.cx.level l.count l.outer l.initial.l l.l
+
+abbrev pub decreases-turns-loop-cx : goal.decreases-turns-loop-cx
+decreases-turns-loop-cx l = left l.l
