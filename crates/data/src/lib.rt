@@ -1,4 +1,6 @@
 // The data section, carried out as it is read, into a table that holds the store.
+#![tactic(auto)]
+
 mod carrying;
 mod entering;
 mod layouts;

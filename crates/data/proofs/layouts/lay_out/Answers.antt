@@ -1,0 +1,16 @@
+-- `layouts::lay_out` meets its contract.
+use Rattle.data.proofs.Laying.{LaidOn, laid-start, laid-stuck, laid_on, laid_end}
+use borrow.Author.Rules.{rules}
+use Rattle.data.proofs.layouts.lay_out.Goals as goal
+
+pub loop-left-init : goal.loop-left-init
+loop-left-init c = search laid-start
+
+pub returns-in_default : goal.returns-in_default
+returns-in_default c = search laid-stuck depth 8
+
+pub loop-left-preserved : goal.loop-left-preserved
+loop-left-preserved c = search laid_on depth 10
+
+pub returns : goal.returns
+returns c = search laid_end depth 6

@@ -1,0 +1,12 @@
+-- `entries::Entries::position` meets its contract.
+use Prim.Native.Nat.{◌-◌}
+use Rattle.data.specs.Reading.Entries.{entries_of}
+use Rattle.data.proofs.reading.Marks.{Placing, placing-start, placing-found, placing-on, placing-end}
+use borrow.Author.Rules.{rules}
+use Rattle.data.proofs.reading.entries.Entries.position.Given as goal
+
+abbrev pub invariant-loop-k : goal.invariant-loop-k
+invariant-loop-k l = Placing (entries_of l.self) l.i l.k
+
+abbrev pub decreases-loop-k : goal.decreases-loop-k
+decreases-loop-k l = l.n - l.k

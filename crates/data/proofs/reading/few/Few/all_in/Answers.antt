@@ -1,0 +1,19 @@
+-- `few::Few::all_in_lem` meets its contract.
+use Prim.Native.Nat.{◌-◌}
+use Rattle.data.specs.Reading.Few.{numbers_of}
+use Rattle.data.proofs.reading.Lists.{Among, among-start, among-not, among-on, among-end}
+use borrow.Author.Tests.{not-true, not-false}
+use borrow.Author.Rules.{rules}
+use Rattle.data.proofs.reading.few.Few.all_in.Goals as goal
+
+pub loop-k-init : goal.loop-k-init
+loop-k-init c = search among-start
+
+pub returns-then-not-has : goal.returns-then-not-has
+returns-then-not-has c = search (among-not, not-true) depth 9
+
+pub loop-k-preserved : goal.loop-k-preserved
+loop-k-preserved c = search (among-on, not-false) depth 9
+
+pub returns : goal.returns
+returns c = search among-end depth 6

@@ -1,0 +1,22 @@
+-- `few::Few::at` meets its contract.
+use Rattle.data.proofs.reading.Lists.{at-past, at_first, at_second, at-third, at-fourth, at-beyond}
+use native.Mathlib.Omega.{arith}
+use Rattle.data.proofs.reading.few.Few.at.Goals as goal
+
+pub returns-then-n-i : goal.returns-then-n-i
+returns-then-n-i c = search at-past
+
+pub returns-in-0 : goal.returns-in-0
+returns-in-0 c = search at_first
+
+pub returns-in-1 : goal.returns-in-1
+returns-in-1 c = search at_second
+
+pub returns-in-2 : goal.returns-in-2
+returns-in-2 c = search at-third
+
+pub returns-in-3 : goal.returns-in-3
+returns-in-3 c = search at-fourth
+
+pub returns-in_default : goal.returns-in_default
+returns-in_default c = at-beyond _ _ (omega arith)

@@ -1,0 +1,18 @@
+-- `few::Few::has` meets its contract.
+use Prim.Native.Nat.{◌-◌}
+use Rattle.data.specs.Reading.Few.{numbers_of}
+use Rattle.data.proofs.reading.Lists.{Seeks, seeks-start, seeks-found, seeks-on, seeks-none}
+use borrow.Author.Rules.{rules}
+use Rattle.data.proofs.reading.few.Few.has.Goals as goal
+
+pub loop-k-init : goal.loop-k-init
+loop-k-init c = search seeks-start
+
+pub returns-then-x-y : goal.returns-then-x-y
+returns-then-x-y c = search seeks-found depth 8
+
+pub loop-k-preserved : goal.loop-k-preserved
+loop-k-preserved c = search seeks-on depth 8
+
+pub returns : goal.returns
+returns c = search seeks-none depth 6

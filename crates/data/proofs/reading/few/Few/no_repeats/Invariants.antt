@@ -1,0 +1,12 @@
+-- `few::Few::no_repeats` meets its contract.
+use Prim.Native.Nat.{◌-◌}
+use Rattle.data.specs.Reading.Few.{numbers_of}
+use Rattle.data.proofs.reading.Lists.{Single, single-start, single-not, single-on, single-end}
+use borrow.Author.Rules.{rules}
+use Rattle.data.proofs.reading.few.Few.no_repeats.Given as goal
+
+abbrev pub invariant-loop-k : goal.invariant-loop-k
+invariant-loop-k l = Single (numbers_of l.self) l.k
+
+abbrev pub decreases-loop-k : goal.decreases-loop-k
+decreases-loop-k l = l.n - l.k

@@ -1,0 +1,13 @@
+-- `heads::index` meets its contract.
+use Rattle.data.proofs.reading.Steps.{index-wrong, index-yes, index-other}
+use borrow.Author.Rules.{rules}
+use Rattle.data.proofs.reading.heads.index.Goals as goal
+
+pub returns-then-sort-eq-INDEX : goal.returns-then-sort-eq-INDEX
+returns-then-sort-eq-INDEX c = search index-yes depth 7
+
+pub returns-else-sort-eq-INDEX : goal.returns-else-sort-eq-INDEX
+returns-else-sort-eq-INDEX c = search index-other depth 7
+
+pub returns-in-Refused : goal.returns-in-Refused
+returns-in-Refused c = search index-wrong depth 6

@@ -1,0 +1,11 @@
+-- `sections::portions_of` meets its contract.
+use native.Mathlib.Omega.{arith}
+use Rattle.data.proofs.Filling.{PortionsOn, portions-start, portions-none, portions-refused, portions-wrong, portions-end, portions-on}
+use borrow.Author.Rules.{rules}
+use Rattle.data.proofs.sections.portions_of.Given as goal
+
+abbrev pub invariant-loop-left : goal.invariant-loop-left
+invariant-loop-left l = PortionsOn l.text l.names l.tokens l.at l.a l.count l.left l.table
+
+abbrev pub decreases-loop-left : goal.decreases-loop-left
+decreases-loop-left l = l.left
