@@ -1,6 +1,8 @@
 // The lines of a listing. Each is written from the first byte of the part of the output that is lent to its writer, as far as
 // the part reaches; a writer gives the line's length, whether or not the part reaches that far.
 // Every public function is total: nothing stands for a number or a value that is out of range.
+#![tactic(auto)]
+
 pub mod bare;
 pub mod sheet;
 

@@ -1,0 +1,12 @@
+-- `listing::clear` meets its contract.
+use Prim.Native.Nat.{◌-◌}
+use borrow.Author.Rules.{rules}
+use lib.ListN.{length}
+use Rattle.listing.proofs.Writing.{Cleared, cleared-none, cleared_more, cleared-all}
+use Rattle.listing.proofs.clear.Given as goal
+
+abbrev pub invariant-loop-i : goal.invariant-loop-i
+invariant-loop-i l = Cleared l.initial.out l.i l.out
+
+abbrev pub decreases-loop-i : goal.decreases-loop-i
+decreases-loop-i l = length l.initial.out - l.i

@@ -1,0 +1,7 @@
+-- `sheet::is_within` meets its contract.
+use borrow.Author.Rules.{rules}
+use Rattle.listing.proofs.sheet.Words.{within-test}
+use Rattle.listing.proofs.sheet.is_within.Goals as goal
+
+pub returns : goal.returns
+returns c = within-test _ _ _ c.is_within.ensures

@@ -1,0 +1,7 @@
+-- `sheet::title_of` meets its contract.
+use borrow.Author.Rules.{rules}
+use Rattle.listing.proofs.sheet.Words.{title-is}
+use Rattle.listing.proofs.sheet.title_of.Goals as goal
+
+pub returns : goal.returns
+returns c = title-is _ _ _ _ _ _ c.title_of.ensures c.string_at.ensures

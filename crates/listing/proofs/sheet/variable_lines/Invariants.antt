@@ -1,0 +1,12 @@
+-- `sheet::variable_lines` meets its contract.
+use Prim.Native.Nat.{◌-◌}
+use native.Mathlib.Omega.{arith}
+use Rattle.listing.specs.Sheet.Told.{VariableTold}
+use Rattle.listing.proofs.sheet.Writing.{Writing, writing_start, writing_more, writing-end}
+use Rattle.listing.proofs.sheet.variable_lines.Given as goal
+
+abbrev pub invariant-loop-j : goal.invariant-loop-j
+invariant-loop-j l = Writing (VariableTold l.text l.names l.variables l.bounds l.discrete) l.n l.j l.initial.out l.at l.out l.next
+
+abbrev pub decreases-loop-j : goal.decreases-loop-j
+decreases-loop-j l = l.n - l.j

@@ -1,0 +1,11 @@
+-- `listing::text_field` meets its contract.
+use native.Mathlib.Omega.{arith}
+use borrow.Author.Rules.{rules}
+use Rattle.listing.proofs.Writing.{tab-then}
+use Rattle.listing.proofs.text_field.Goals as goal
+
+pub returns : goal.returns
+returns c =
+    let d = c in
+    let p = d in
+    (tab-then p.put-next.ensures d.put_text.ensures, omega (arith, p.put-next.ensures.next, d.put_text.ensures.next))
