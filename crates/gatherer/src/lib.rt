@@ -1,5 +1,7 @@
 // The coefficients of a linear form, gathered over the stored tokens into a lent row of counts of millionths, one for each
 // variable. `variables` and `total`: the table of variables and its rows; the other tables are the evaluator's.
+#![tactic(auto)]
+
 ghost use Rattle.std.specs.Prelude.{◌≡◌, false};
 ghost use Rattle.rules.specs.Limits.{token_limit, nesting_limit};
 ghost use Rattle.value.specs.Decimal.{one_value};

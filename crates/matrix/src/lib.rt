@@ -1,6 +1,8 @@
 // The objective and every constraint of a model, element by element: bounds in their table, rows in their slots. `table` and `given`:
 // the data and their rows; `variables` and `total`: the variables and how many there are. What the tables hold is said in the
 // crate `rows`.
+#![tactic(auto)]
+
 mod parts;
 mod sides;
 

@@ -1,0 +1,16 @@
+-- `number` meets its contract.
+use borrow.Author.Rules.{rules}
+use Rattle.gatherer.proofs.Numbers.{number-subscripts, number-outside, number-nothing, number-found}
+use Rattle.gatherer.proofs.number.Goals as goal
+
+pub returns-in-At : goal.returns-in-At
+returns-in-At c = search number-found depth 11
+
+pub returns-in-Nothing : goal.returns-in-Nothing
+returns-in-Nothing c = search number-nothing depth 11
+
+pub returns-in-Refused-test : goal.returns-in-Refused-test
+returns-in-Refused-test c = search number-outside depth 8
+
+pub returns-in-Refused : goal.returns-in-Refused
+returns-in-Refused c = search number-subscripts depth 6
