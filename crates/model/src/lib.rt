@@ -1,4 +1,6 @@
 // A model text read into tables: its tokens, its names, its constraints and its data.
+#![tactic(auto)]
+
 ghost use Rattle.std.specs.Prelude.{◌≡◌, ◌≤◌, length, take};
 ghost use Rattle.tokens.specs.Stored.{rows_of};
 ghost use Rattle.evaluator.specs.Steps.Names.{Resolves};

@@ -1,0 +1,7 @@
+-- `model::scan` meets its contract.
+use Rattle.model.proofs.Laws.{scan-holds}
+use borrow.Author.Rules.{rules}
+use Rattle.model.proofs.scan.Goals as goal
+
+pub returns : goal.returns
+returns c = search scan-holds depth 5
