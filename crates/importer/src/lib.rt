@@ -1,6 +1,8 @@
 // The reader of an export: the listing's lines of rows, floors, variables and coefficients without strings, names and index values, or that
 // the text is no export. Each line is awaited, so the text is stripped of it; all that is kept is which rows have a floor. A position in the
 // text is at most its length.
+#![tactic(auto)]
+
 ghost use Rattle.std.specs.Prelude.{◌≡◌, false, cond, [], ◌∷◌, ◌+◌, ◌*◌, ◌<◌, ◌≤◌, ◌^◌, length, get_or};
 ghost use Rattle.value.specs.Decimal.{Valid, is_zero};
 ghost use Rattle.value.specs.Printed.{natural, shown, Written};

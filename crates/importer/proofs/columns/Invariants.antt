@@ -1,0 +1,12 @@
+-- `importer::columns` meets its contract.
+use Prim.Native.Nat.{◌-◌}
+use native.Mathlib.Omega.{arith}
+use borrow.Author.Rules.{rules}
+use Rattle.importer.proofs.Variables.{Several, several-first, several-end, several-stop, several-none, several-more}
+use Rattle.importer.proofs.columns.Given as goal
+
+abbrev pub invariant-loop-k : goal.invariant-loop-k
+invariant-loop-k l = Several l.floors l.rows l.limit l.from l.text l.at l.initial.out l.place l.k l.next l.out l.to
+
+abbrev pub decreases-loop-k : goal.decreases-loop-k
+decreases-loop-k l = l.limit - l.k

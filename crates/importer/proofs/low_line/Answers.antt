@@ -1,0 +1,22 @@
+-- `importer::low_line` meets its contract.
+use native.Mathlib.Omega.{arith}
+use borrow.Author.Rules.{rules}
+use Rattle.language.specs.Listing.{low_line}
+use Rattle.listing.proofs.Lengths.{line-most}
+use Rattle.listing.proofs.sheet.Writing.{low-none, low-written}
+use Rattle.importer.proofs.low_line.Goals as goal
+
+pub overflow_add-result : goal.overflow_add-result
+overflow_add-result c =
+    let d = c in
+    let f = d in
+    omega (arith, d.low.ensures.next, line-most (low_line f.args.row f.in-At.v))
+
+pub returns-in-None : goal.returns-in-None
+returns-in-None c = low-none _ _ _ _ c.in-None.is
+
+pub returns-in-At : goal.returns-in-At
+returns-in-At c =
+    let d = c in
+    let f = d in
+    low-written _ _ _ f.rest_from-from.ensures _ _ _ f.in-At.is d.low.ensures

@@ -1,0 +1,16 @@
+-- `importer::signed` meets its contract.
+use borrow.Author.Rules.{rules}
+use Rattle.importer.proofs.Values.{signed-empty, signed-plain, minus-big, minus-fits}
+use Rattle.importer.proofs.signed.Goals as goal
+
+pub returns-then-t-eq0 : goal.returns-then-t-eq0
+returns-then-t-eq0 c = search signed-empty depth 6
+
+pub returns-then-t-ne45 : goal.returns-then-t-ne45
+returns-then-t-ne45 c = search signed-plain depth 6
+
+pub returns-in-Fits : goal.returns-in-Fits
+returns-in-Fits c = search minus-fits depth 9
+
+pub returns-in-TooBig : goal.returns-in-TooBig
+returns-in-TooBig c = search minus-big depth 8
