@@ -1,5 +1,7 @@
 // The problem of a model, generated from the model's tables into tables of its own: all data given, the variables numbered, the
 // objective, and each constraint at each element.
+#![tactic(auto)]
+
 mod missing;
 pub mod variables;
 
