@@ -1,5 +1,7 @@
 // The export of a problem, written from its tables. Each piece is written from the byte where the last one ended, as far as the
 // output reaches; the export's length is given whether or not the output reaches that far.
+#![tactic(auto)]
+
 ghost use Rattle.std.specs.Prelude.{◌≡◌, ◌++◌, ◌+◌, ◌-◌, ◌<◌, ◌≤◌, ◌^◌, length};
 ghost use Rattle.value.specs.Printed.{natural, shown, Written};
 ghost use Rattle.rows.specs.Read.{value_of};

@@ -1,5 +1,7 @@
 // The report of how far the rows of a problem can reach, written from its tables. Each line is written from the byte where the last one
 // ended, as far as the output reaches; the report's length is given whether or not the output reaches that far.
+#![tactic(auto)]
+
 ghost use Rattle.std.specs.Prelude.{◌≡◌, ◌+◌, ◌<◌, ◌≤◌, ◌^◌};
 ghost use Rattle.value.specs.Printed.{Written};
 ghost use Rattle.language.specs.Listing.{ending_line};

@@ -1,0 +1,7 @@
+-- `exporter::bounds_section` meets its contract.
+use borrow.Author.Rules.{rules}
+use Rattle.exporter.proofs.Writing.{bounds-then}
+use Rattle.exporter.proofs.bounds_section.Goals as goal
+
+pub returns : goal.returns
+returns c = search bounds-then depth 9

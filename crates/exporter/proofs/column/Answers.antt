@@ -1,0 +1,8 @@
+-- `exporter::column` meets its contract.
+use native.Mathlib.Omega.{arith}
+use borrow.Author.Rules.{rules}
+use Rattle.exporter.proofs.Writing.{column-then}
+use Rattle.exporter.proofs.column.Goals as goal
+
+pub returns : goal.returns
+returns c = (search column-then depth 9, omega arith)

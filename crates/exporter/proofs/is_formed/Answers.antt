@@ -1,0 +1,7 @@
+-- `exporter::is_formed` meets its contract.
+use borrow.Author.Rules.{rules}
+use Rattle.exporter.proofs.Writing.{formed-test}
+use Rattle.exporter.proofs.is_formed.Goals as goal
+
+pub returns : goal.returns
+returns c = search formed-test depth 6

@@ -1,0 +1,16 @@
+-- `exporter::put_value` meets its contract.
+use native.Mathlib.Omega.{arith}
+use borrow.Author.Rules.{rules}
+use Rattle.listing.proofs.Showing.{shown-most}
+use Rattle.listing.proofs.Writing.{written_from}
+use Rattle.exporter.proofs.put_value.Goals as goal
+
+pub overflow_add-result : goal.overflow_add-result
+overflow_add-result c =
+    let d = c in
+    omega (arith, d.print.ensures.next, shown-most d.args.v)
+
+pub returns : goal.returns
+returns c =
+    let d = c in
+    (search written_from depth 8, omega (arith, d.print.ensures.next, shown-most d.args.v))

@@ -1,0 +1,7 @@
+-- `exporter::put_word` meets its contract.
+use borrow.Author.Rules.{rules}
+use Rattle.listing.proofs.Writing.{written_from}
+use Rattle.exporter.proofs.put_word.Goals as goal
+
+pub returns : goal.returns
+returns c = search written_from depth 8

@@ -1,0 +1,16 @@
+-- `exporter::rights` meets its contract.
+use mathlib.Core.Path.{◌≡◌, refl, ◌∙◌}
+use Prim.Native.Nat.{◌+◌, ◌-◌, ◌*◌, ◌≤◌}
+use native.Mathlib.Omega.{arith}
+use lib.ListN.{length}
+use Rattle.listing.proofs.Writing.{Left}
+use Rattle.exporter.proofs.Writing.{text-start, text-more, text-end}
+use Rattle.exporter.specs.Texts.{text_from, right_text}
+use Rattle.exporter.proofs.rights.Given as goal
+
+abbrev pub invariant-loop-i : goal.invariant-loop-i
+invariant-loop-i l =
+    (l.i ≤ l.n) × (l.next ≤ l.at + 256 * l.i) × (length l.out ≡ length l.initial.out) × Left l.initial.out l.at (text_from (right_text l.slots l.less) l.n 0) l.out l.next (text_from (right_text l.slots l.less) (l.n - l.i) l.i)
+
+abbrev pub decreases-loop-i : goal.decreases-loop-i
+decreases-loop-i l = l.n - l.i

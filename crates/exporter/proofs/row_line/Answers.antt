@@ -1,0 +1,11 @@
+-- `exporter::row_line` meets its contract.
+use native.Mathlib.Omega.{arith}
+use borrow.Author.Rules.{rules}
+use Rattle.exporter.proofs.Writing.{less-line, equal-line}
+use Rattle.exporter.proofs.row_line.Goals as goal
+
+pub returns-then-i-less : goal.returns-then-i-less
+returns-then-i-less c = (search less-line depth 10, omega arith)
+
+pub returns : goal.returns
+returns c = (search equal-line depth 9, omega arith)

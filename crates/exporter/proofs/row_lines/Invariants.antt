@@ -1,0 +1,16 @@
+-- `exporter::row_lines` meets its contract.
+use mathlib.Core.Path.{◌≡◌, refl, ◌∙◌}
+use Prim.Native.Nat.{◌+◌, ◌-◌, ◌*◌, ◌≤◌}
+use native.Mathlib.Omega.{arith}
+use lib.ListN.{length}
+use Rattle.listing.proofs.Writing.{Left}
+use Rattle.exporter.proofs.Writing.{text-start, text-more, text-end}
+use Rattle.exporter.specs.Texts.{text_from, row_text}
+use Rattle.exporter.proofs.row_lines.Given as goal
+
+abbrev pub invariant-loop-i : goal.invariant-loop-i
+invariant-loop-i l =
+    (l.i ≤ l.n) × (l.next ≤ l.at + 128 * l.i) × (length l.out ≡ length l.initial.out) × Left l.initial.out l.at (text_from (row_text l.slots l.less) l.n 0) l.out l.next (text_from (row_text l.slots l.less) (l.n - l.i) l.i)
+
+abbrev pub decreases-loop-i : goal.decreases-loop-i
+decreases-loop-i l = l.n - l.i

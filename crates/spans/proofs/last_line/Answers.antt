@@ -1,0 +1,15 @@
+-- `spans::last_line_lem` meets its contract.
+use native.Mathlib.Omega.{arith}
+use borrow.Author.Rules.{rules}
+use Rattle.language.specs.Listing.{ending_line}
+use Rattle.listing.proofs.Lengths.{line-most}
+use Rattle.listing.proofs.Writing.{written_from}
+use Rattle.spans.proofs.last_line.Goals as goal
+
+pub overflow_add-result : goal.overflow_add-result
+overflow_add-result c = omega (arith, c.end.ensures.next, line-most ending_line)
+
+pub returns : goal.returns
+returns c =
+    let d = c in
+    written_from _ _ _ _ _ _ d.rest_from-from.ensures d.end.ensures
