@@ -11,35 +11,35 @@ use lexer::marks;
 use tokens::{Move, Seen, kinds};
 
 // The mark of a relation, and where its reading ended.
-#[derive(Drop)]
+#[derive(Clone, Copy)]
 pub struct Compared {
     pub mark: u64,
     pub end: Move,
 }
 
 // Whether the objective is a minimum, and where its word's reading ended.
-#[derive(Drop)]
+#[derive(Clone, Copy)]
 pub struct Aim {
     pub minimize: bool,
     pub end: Move,
 }
 
 // Whether one more constraint stands there, and where the reading ended.
-#[derive(Drop)]
+#[derive(Clone, Copy)]
 struct Joint {
     more: bool,
     end: Move,
 }
 
 // Whether a floor stands there, and where its reading ended.
-#[derive(Drop)]
+#[derive(Clone, Copy)]
 struct Floor {
     present: bool,
     end: Move,
 }
 
 // The mark of a relation, where its right side stands, and whether it has a floor; and where its reading ended.
-#[derive(Drop)]
+#[derive(Clone, Copy)]
 struct Bounds {
     mark: u64,
     right: u64,
@@ -49,7 +49,7 @@ struct Bounds {
 
 // Where a constraint's string, sides and domain stand, the mark of its relation and whether it has a floor; and where its reading
 // ended.
-#[derive(Drop)]
+#[derive(Clone, Copy)]
 struct Sites {
     title: u64,
     left: u64,
@@ -61,7 +61,7 @@ struct Sites {
 }
 
 // The words of a constraint's row, and where its reading ended.
-#[derive(Drop)]
+#[derive(Clone, Copy)]
 pub struct Row {
     pub title: u64,
     pub left: u64,
@@ -72,7 +72,7 @@ pub struct Row {
 }
 
 // How many constraints there are, and where their reading ended.
-#[derive(Drop)]
+#[derive(Clone, Copy)]
 pub struct Listed {
     pub count: usize,
     pub end: Move,

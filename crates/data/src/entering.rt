@@ -12,14 +12,14 @@ use store::{Element, Insertion};
 use value::{Value, Whole};
 
 // How many data elements there are now, or a refusal.
-#[derive(Drop)]
+#[derive(Clone, Copy)]
 pub enum Accepted {
     Count(usize),
     Refused(rules::Refusal, u64),
 }
 
 // The position behind what was read and how many data elements there are, or a refusal.
-#[derive(Drop)]
+#[derive(Clone, Copy)]
 pub enum Taken {
     At(usize, usize),
     Refused(rules::Refusal, u64),

@@ -7,13 +7,13 @@ use lexer::marks;
 use tokens::{Move, Seen};
 
 // An index's number, and the position behind its entry and the sign after it.
-#[derive(Drop)]
+#[derive(Clone, Copy)]
 enum Span {
     Of(usize, usize),
     Nothing,
 }
 
-#[derive(Drop)]
+#[derive(Clone, Copy)]
 pub struct Layout {
     pub starts: Few,
     pub indices: Few,

@@ -13,7 +13,7 @@ use tokens::Move;
 
 // The place of the data section's title and the number of its bytes, 0 where there is no data section; and how many data
 // elements there are. Or a refusal.
-#[derive(Drop)]
+#[derive(Clone, Copy)]
 pub enum Given {
     Of(u64, u64, usize),
     Refused(rules::Refusal, u64),

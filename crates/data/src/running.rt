@@ -19,7 +19,7 @@ use tokens::Seen;
 
 // A portion: its name's number and place, whether it is an integer, its declared domain, and the positions that run, the
 // outermost first.
-#[derive(Drop)]
+#[derive(Clone, Copy)]
 pub struct Portion {
     pub name: usize,
     pub place: u64,
@@ -30,7 +30,7 @@ pub struct Portion {
 }
 
 // A run's limits, and how many numbers it has.
-#[derive(Drop)]
+#[derive(Clone, Copy)]
 pub enum Run {
     Of(Limits, usize),
     Refused(rules::Refusal, u64),

@@ -10,7 +10,7 @@ use lexer::marks;
 use tokens::{Move, Seen, kinds};
 
 // The title's place and the number of its bytes, how many data elements there are, and the position behind `CLOSE`.
-#[derive(Drop)]
+#[derive(Clone, Copy)]
 pub enum Section {
     Of(u64, u64, usize, usize),
     Refused(rules::Refusal, u64),

@@ -13,21 +13,21 @@ use lexer::marks;
 use tokens::{Found, Known, Move, Seen, kinds, sorts};
 
 // An index by its number, and where its reading ended.
-#[derive(Drop)]
+#[derive(Clone, Copy)]
 struct Index {
     number: usize,
     end: Move,
 }
 
 // Whether a list goes on, and where the reading of its sign ended.
-#[derive(Drop)]
+#[derive(Clone, Copy)]
 struct Joint {
     more: bool,
     end: Move,
 }
 
 // The numbers of a list's indices, and where its reading ended.
-#[derive(Drop)]
+#[derive(Clone, Copy)]
 struct Indices {
     numbers: [usize; 4],
     count: usize,
@@ -36,7 +36,7 @@ struct Indices {
 
 // What stands behind a declared name: the number of its indices, the position of its formula or of its domain's first entry, and
 // where its reading ended.
-#[derive(Drop)]
+#[derive(Clone, Copy)]
 struct Entry {
     count: u64,
     position: u64,
@@ -44,7 +44,7 @@ struct Entry {
 }
 
 // A new name's place and number of bytes, and where its reading ended.
-#[derive(Drop)]
+#[derive(Clone, Copy)]
 struct Title {
     place: u64,
     bytes: u64,
@@ -52,7 +52,7 @@ struct Title {
 }
 
 // A declared name's row but for its sort, whether its list goes on, and where its reading ended.
-#[derive(Drop)]
+#[derive(Clone, Copy)]
 struct Row {
     place: u64,
     bytes: u64,
@@ -63,7 +63,7 @@ struct Row {
 }
 
 // How many names there are, and where the reading of declarations ended.
-#[derive(Drop)]
+#[derive(Clone, Copy)]
 pub struct Listed {
     pub count: usize,
     pub end: Move,

@@ -10,7 +10,7 @@ use evaluator::steps::values::Bounds;
 use store::Element;
 
 // A run under way: its index, the number at which it stands, its upper limit, and the position behind its entry.
-#[derive(Drop)]
+#[derive(Clone, Copy)]
 pub struct Level {
     pub name: usize,
     pub number: i64,
@@ -19,7 +19,7 @@ pub struct Level {
 }
 
 // The first `count` of four runs, the outermost first.
-#[derive(Drop)]
+#[derive(Clone, Copy)]
 pub struct Here {
     pub count: usize,
     pub first: Level,

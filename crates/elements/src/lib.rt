@@ -11,7 +11,7 @@ use here::{Here, Level};
 pub mod here;
 
 // What comes next: an element, the end, or a refusal and its place.
-#[derive(Drop)]
+#[derive(Clone, Copy)]
 pub enum Step {
     At(Here),
     Done,

@@ -18,7 +18,7 @@ use value::Value;
 
 // What a formula is read under: how many rows of data are given, how many names are visible, how many brackets may still open,
 // and what is bound.
-#[derive(Drop)]
+#[derive(Clone, Copy)]
 pub struct Context {
     pub given: usize,
     pub level: usize,
@@ -27,28 +27,28 @@ pub struct Context {
 }
 
 // Two limits and the position behind them.
-#[derive(Drop)]
+#[derive(Clone, Copy)]
 pub enum Limited {
     Limits(Limits, usize),
     Refused(rules::Refusal, u64),
 }
 
 // Subscripts and the position behind them.
-#[derive(Drop)]
+#[derive(Clone, Copy)]
 pub enum Numbers {
     Element(Element, usize),
     Refused(rules::Refusal, u64),
 }
 
 // An entry of a domain and the position behind it.
-#[derive(Drop)]
+#[derive(Clone, Copy)]
 pub enum Entered {
     Bounds(Bounds, usize),
     Refused(rules::Refusal, u64),
 }
 
 // A domain test.
-#[derive(Drop)]
+#[derive(Clone, Copy)]
 pub enum Passed {
     Inside,
     Refused(rules::Refusal, u64),
@@ -303,7 +303,7 @@ fn subscript(names: &[u64], tokens: &[u64], table: &[u64], cx: Context, at: usiz
 // ---- formulas of one token, which most limits and subscripts are: valued at once, outside the cycle
 
 // A value and the position behind what was read, or that this is no such formula.
-#[derive(Drop)]
+#[derive(Clone, Copy)]
 enum Single {
     Value(Value, usize),
     Nothing,
@@ -572,14 +572,14 @@ fn bounds(names: &[u64], tokens: &[u64], table: &[u64], cx: Context, at: usize, 
 // ---- domain tests by limits of one token, which most declared limits are: read at once, outside the cycle, with nothing bound
 
 // The two limits of an entry and the position behind it, or that they are no such limits.
-#[derive(Drop)]
+#[derive(Clone, Copy)]
 enum Fixed {
     Limits(Limits, usize),
     Nothing,
 }
 
 // A domain test, or that the domain has other limits.
-#[derive(Drop)]
+#[derive(Clone, Copy)]
 enum Tried {
     Test(Passed),
     Nothing,

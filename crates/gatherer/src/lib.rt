@@ -17,7 +17,7 @@ use tokens::{Move, Seen, kinds, sorts};
 use value::Value;
 
 // A variable's number from 0 and the position behind its subscripts.
-#[derive(Drop)]
+#[derive(Clone, Copy)]
 pub enum Numbered {
     Number(usize, usize),
     Refused(rules::Refusal, u64),
@@ -26,7 +26,7 @@ pub enum Numbered {
 // What a term ends with behind its primaries, with their product: a variable, by its number of name, number of indices, the
 // position of its declared domain, its place and the position behind its name; or a sigma, by its place and the position behind
 // its word.
-#[derive(Drop)]
+#[derive(Clone, Copy)]
 enum Ending {
     Variable(Value, usize, u64, usize, u64, usize),
     Sigma(Value, u64, usize),
@@ -34,7 +34,7 @@ enum Ending {
 }
 
 // A run: its index, limits, how many numbers it has, and the position of its body.
-#[derive(Drop)]
+#[derive(Clone, Copy)]
 enum Running {
     Run(usize, Limits, usize, usize),
     Refused(rules::Refusal, u64),

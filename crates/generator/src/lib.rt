@@ -1,4 +1,6 @@
 // The public entry points: a text and a lent output buffer give a number, a place and a length.
+#![tactic(auto)]
+
 ghost use Rattle.std.specs.Prelude.{◌≡◌, ◌≤◌, length, take, replicate};
 ghost use Rattle.rules.specs.Refusals.{refusal_number};
 ghost use Rattle.language.specs.Answer.{printing};
@@ -13,7 +15,7 @@ use rows::Sizes;
 
 // Number 0, place 0 and the report's length; or a refusal's number and place, and length 0.
 #[repr(C)]
-#[derive(Drop)]
+#[derive(Clone, Copy)]
 pub struct Answer {
     pub number: u32,
     pub place: usize,
@@ -21,7 +23,7 @@ pub struct Answer {
 }
 
 // The entry points by name, for programs that choose one while they run.
-#[derive(Drop)]
+#[derive(Clone, Copy)]
 pub enum Entry {
     List,
     Export,
@@ -29,14 +31,14 @@ pub enum Entry {
 }
 
 // What is printed of an accepted model.
-#[derive(Drop)]
+#[derive(Clone, Copy)]
 enum Report {
     Listing,
     Export,
 }
 
 // The report's length, whether or not the output reaches that far; or a refusal and its place.
-#[derive(Drop)]
+#[derive(Clone, Copy)]
 enum Generated {
     Printed(usize),
     Refused(rules::Refusal, u64),
@@ -309,8 +311,7 @@ fn answer_with(text: &[u8], kind: Report, out: &mut [u8]) -> Answer
 // ---- entry points. The text is as it was: it is not lent for writing
 
 // The listing of a text.
-#[unsafe(no_mangle)]
-pub extern "C" fn recipe_generate(text: &[u8], out: &mut [u8]) -> Answer
+pub fn recipe_generate(text: &[u8], out: &mut [u8]) -> Answer
     ensures defined { Defined text.now out.old result out.new }
     ensures accepts { Accepts text.now out.old result }
     ensures meaning { Meaning text.now out.old result out.new }
@@ -319,8 +320,7 @@ pub extern "C" fn recipe_generate(text: &[u8], out: &mut [u8]) -> Answer
 }
 
 // The export of a model for a solver.
-#[unsafe(no_mangle)]
-pub extern "C" fn recipe_export(text: &[u8], out: &mut [u8]) -> Answer
+pub fn recipe_export(text: &[u8], out: &mut [u8]) -> Answer
     ensures defined { Exports text.now out.old result out.new }
     ensures meaning { Carries text.now out.old result out.new }
 {
@@ -328,8 +328,7 @@ pub extern "C" fn recipe_export(text: &[u8], out: &mut [u8]) -> Answer
 }
 
 // What an export says: the `row`, `var` and `col` lines of its listing, without strings, names and index values.
-#[unsafe(no_mangle)]
-pub extern "C" fn recipe_read_export(text: &[u8], out: &mut [u8]) -> Answer
+pub fn recipe_read_export(text: &[u8], out: &mut [u8]) -> Answer
     ensures defined { ReadsBack text.now out.old result out.new }
 {
     listing::clear(out);

@@ -18,77 +18,77 @@ ghost use Rattle.importer.specs.Reads.{ReadsFrom, Reads};
 ghost use Rattle.importer.specs.Steps.{Strips, LineEnds, Finds, FindsFloor, Lists, Counts, Opens, Walks, WalksColumns, WalksMatrix, FindsEnd, FindsBounds};
 
 // The report's length, whether or not the output reaches that far; or that the text is no export.
-#[derive(Drop)]
+#[derive(Clone, Copy)]
 pub enum Reading {
     Read(usize),
     Nothing,
 }
 
 // Where the text goes on behind what was awaited, or that this is not there.
-#[derive(Drop)]
+#[derive(Clone, Copy)]
 enum Move {
     At(usize),
     Nothing,
 }
 
 // A value that was awaited, and where the text goes on.
-#[derive(Drop)]
+#[derive(Clone, Copy)]
 enum Found {
     Value(value::Value, usize),
     Nothing,
 }
 
 // Whether a floor is here, and where the text goes on.
-#[derive(Drop)]
+#[derive(Clone, Copy)]
 struct Floor {
     has: bool,
     at: usize,
 }
 
 // The rows that were counted, and where the text goes on.
-#[derive(Drop)]
+#[derive(Clone, Copy)]
 struct Count {
     rows: usize,
     at: usize,
 }
 
 // Where the columns begin, and the rows of either kind.
-#[derive(Drop)]
+#[derive(Clone, Copy)]
 enum RowsRead {
     At(usize, usize, usize),
     Nothing,
 }
 
 // Where the text goes on behind what was read, and the place of the output behind what was written.
-#[derive(Drop)]
+#[derive(Clone, Copy)]
 enum Step {
     To(usize, usize),
     Nothing,
 }
 
 // The same, with the columns that were read.
-#[derive(Drop)]
+#[derive(Clone, Copy)]
 enum ColumnsRead {
     To(usize, usize, usize),
     Nothing,
 }
 
 // The same, with the whole variables and with all variables.
-#[derive(Drop)]
+#[derive(Clone, Copy)]
 enum MatrixRead {
     To(usize, usize, usize, usize),
     Nothing,
 }
 
 // An upper bound or a floor, and where the text goes on.
-#[derive(Drop)]
+#[derive(Clone, Copy)]
 enum EndFound {
     At(rows::End, usize),
     Nothing,
 }
 
 // A variable's bounds, and where the text goes on.
-#[derive(Drop)]
+#[derive(Clone, Copy)]
 enum Limits {
     At(value::Value, rows::End, usize),
     Nothing,

@@ -11,7 +11,7 @@ pub mod marks;
 
 // A sign or word by its number; a name's first byte and length; whether a literal is digits only, and its value; the first
 // byte and length of what stands between braces; the text's end; no token, and why.
-#[derive(Drop)]
+#[derive(Clone, Copy)]
 pub enum Token {
     Mark(u8),
     Name(usize, usize),
@@ -24,7 +24,7 @@ pub enum Token {
 // ---- bytes
 
 // What a byte may be part of.
-#[derive(Drop)]
+#[derive(Clone, Copy)]
 enum Class {
     Blank,
     Digit,
@@ -212,7 +212,7 @@ fn small_word(run: &[u8]) -> u8
 // ---- tokens
 
 // A token, its place, and how many bytes it has.
-#[derive(Drop)]
+#[derive(Clone, Copy)]
 struct Found {
     token: Token,
     place: usize,
@@ -487,13 +487,13 @@ fn token_at(s: &[u8], at: usize) -> Found
 
 // ---- the cursor
 
-#[derive(Drop)]
+#[derive(Clone, Copy)]
 pub struct Cursor {
     pub at: usize,
 }
 
 // A token, its place, and the cursor past it.
-#[derive(Drop)]
+#[derive(Clone, Copy)]
 pub struct Step {
     pub token: Token,
     pub place: usize,
@@ -529,7 +529,7 @@ impl Cursor {
 // ---- the count of tokens
 
 // A cursor with how many tokens may still come before `INIT` or `CLOSE`, and whether these are still to come.
-#[derive(Drop)]
+#[derive(Clone, Copy)]
 pub struct Source {
     pub at: usize,
     pub left: usize,
@@ -537,7 +537,7 @@ pub struct Source {
 }
 
 // A token, its place, and what comes after.
-#[derive(Drop)]
+#[derive(Clone, Copy)]
 pub struct Turn {
     pub token: Token,
     pub place: usize,

@@ -93,7 +93,7 @@ fn letter_field(out: &mut [u8], at: usize, b: u8) -> usize
 }
 
 // What a row is: of `<=` or `>=`, of `=`, or with a floor.
-#[derive(Drop)]
+#[derive(Clone, Copy)]
 pub enum Kind {
     Less,
     Equal,

@@ -17,7 +17,7 @@ use sides::{Bounded, Ends};
 use store::Element;
 
 // How many rows there are, or a refusal and its place.
-#[derive(Drop)]
+#[derive(Clone, Copy)]
 pub enum Generated {
     Of(Filled),
     Refused(rules::Refusal, u64),

@@ -9,7 +9,7 @@ use tokens::Seen;
 // A constraint's place, the positions of its sides and of the first entry of its domain, and how many entries there are. `bare`:
 // its left side is one variable; `floor`: a floor follows its right side; `flips`: both sides of its row are negated; `equal`: it
 // is a row of `=`; `lower`, `upper`: which bound its right side is.
-#[derive(Drop)]
+#[derive(Clone, Copy)]
 pub struct Parts {
     pub place: u64,
     pub left: usize,

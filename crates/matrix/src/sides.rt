@@ -13,14 +13,14 @@ use tokens::{Move, Seen};
 use value::Value;
 
 // A variable's number from 0, the right side, and the word of the floor.
-#[derive(Drop)]
+#[derive(Clone, Copy)]
 pub enum Bounded {
     At(usize, Value, u64),
     Refused(rules::Refusal, u64),
 }
 
 // The right side, and the word of the floor: 0 where there is none.
-#[derive(Drop)]
+#[derive(Clone, Copy)]
 pub enum Ends {
     At(Value, u64),
     Refused(rules::Refusal, u64),

@@ -10,7 +10,7 @@ use data::Given;
 use tokens::Move;
 
 // A text is a model, or it is refused.
-#[derive(Drop)]
+#[derive(Clone, Copy)]
 pub enum End {
     Read,
     Refused(rules::Refusal, u64),
@@ -19,7 +19,7 @@ pub enum End {
 // The number of a text's tokens; the position of its string, the number of its names, whether its objective is a minimum and at
 // which position it stands, the number of its constraints; the place of the data section's string and the number of its bytes,
 // the number of data elements.
-#[derive(Drop)]
+#[derive(Clone, Copy)]
 pub struct Model {
     pub tokens: usize,
     pub title: u64,

@@ -8,14 +8,14 @@ use lexer::marks;
 use tokens::Move;
 
 // The position of a model's string, and where the reading of its opening ended.
-#[derive(Drop)]
+#[derive(Clone, Copy)]
 struct Opening {
     title: u64,
     end: Move,
 }
 
 // Whether an objective is a minimum, the position of its linear form, and where its reading ended.
-#[derive(Drop)]
+#[derive(Clone, Copy)]
 struct Aim {
     minimize: bool,
     position: u64,
@@ -23,7 +23,7 @@ struct Aim {
 }
 
 // What stands behind the declarations: the objective, the number of constraints, and where the reading ended.
-#[derive(Drop)]
+#[derive(Clone, Copy)]
 struct Body {
     minimize: bool,
     objective: u64,
@@ -33,7 +33,7 @@ struct Body {
 
 // The position of a model's string, the number of its names, whether its objective is a minimum and at which position it stands,
 // the number of its constraints; and where the reading ended.
-#[derive(Drop)]
+#[derive(Clone, Copy)]
 pub struct Parsed {
     pub title: u64,
     pub names: usize,

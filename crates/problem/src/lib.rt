@@ -11,7 +11,7 @@ use rows::Filled;
 use variables::Counted;
 
 // How many variables are discrete, how many there are, and how many rows.
-#[derive(Drop)]
+#[derive(Clone, Copy)]
 pub enum Problem {
     Of(usize, usize, Filled),
     Refused(rules::Refusal, u64),

@@ -10,14 +10,14 @@ use evaluator::steps::scope::Scope;
 use tokens::sorts;
 
 // How many variables are discrete, and how many there are.
-#[derive(Drop)]
+#[derive(Clone, Copy)]
 pub enum Counted {
     Of(usize, usize),
     Refused(rules::Refusal, u64),
 }
 
 // How many rows are filled.
-#[derive(Drop)]
+#[derive(Clone, Copy)]
 enum Added {
     Rows(usize),
     Refused(rules::Refusal, u64),

@@ -47,7 +47,7 @@ pub fn negate(counts: &mut [i64])
 // ---- slots
 
 // How many rows there are of `<=` and `>=`, and of `=`.
-#[derive(Drop)]
+#[derive(Clone, Copy)]
 pub struct Filled {
     pub less: usize,
     pub equal: usize,
@@ -197,7 +197,7 @@ pub fn state_floor(bounds: &mut [u64], j: usize, floor: u64)
 // ---- a problem's sizes, and what is read of its tables
 
 // The numbers of a problem's variables, with the discrete ones among them, and of its rows of either kind.
-#[derive(Drop)]
+#[derive(Clone, Copy)]
 pub struct Sizes {
     pub discrete: usize,
     pub variables: usize,
@@ -271,7 +271,7 @@ pub fn value_of(z: i64) -> value::Value
 }
 
 // A variable's upper bound or a row's floor, which may be absent.
-#[derive(Drop)]
+#[derive(Clone, Copy)]
 pub enum End {
     None,
     At(value::Value),

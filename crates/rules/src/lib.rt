@@ -4,7 +4,7 @@ ghost use Rattle.std.specs.Prelude.{◌≡◌};
 ghost use Rattle.rules.specs.Refusals.{refusal_number};
 
 // Why a model comes back, in the order of document 01's table.
-#[derive(Drop)]
+#[derive(Clone, Copy)]
 pub enum Refusal {
     LongText, // 1: text above 16,384 bytes
     StrangeByte, // 2: a byte that starts no token or may not stand in a string

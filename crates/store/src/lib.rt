@@ -8,7 +8,7 @@ ghost use Rattle.store.specs.Table.{key_at, word_at, part_at, rank_of, place_of,
 ghost use Rattle.store.specs.Packed.{packed, unpacked};
 
 // At most four whole numbers: the first `count` of a, b, c, d.
-#[derive(Drop)]
+#[derive(Clone, Copy)]
 pub struct Element {
     pub count: usize,
     pub a: i64,
@@ -18,7 +18,7 @@ pub struct Element {
 }
 
 // The key of a name and an element.
-#[derive(Drop)]
+#[derive(Clone, Copy)]
 pub struct Key {
     pub high: u64,
     pub middle: u64,
@@ -26,20 +26,20 @@ pub struct Key {
 }
 
 // The row that has a key.
-#[derive(Drop)]
+#[derive(Clone, Copy)]
 pub enum Found {
     At(usize),
     Nothing,
 }
 
 // The row that has a key, or the row that it would have.
-#[derive(Drop)]
+#[derive(Clone, Copy)]
 enum Place {
     Taken(usize),
     Free(usize),
 }
 
-#[derive(Drop)]
+#[derive(Clone, Copy)]
 pub enum Insertion {
     Done,
     Present, // the key has a row already

@@ -13,28 +13,28 @@ ghost use Rattle.tokens.specs.Pieces.{expect_in, bracket_in, index_in, head_in, 
 use lexer::marks;
 
 // The position after what was read, or a refusal and its place.
-#[derive(Drop)]
+#[derive(Clone, Copy)]
 pub enum Move {
     At(usize),
     Refused(rules::Refusal, u64),
 }
 
 // A token's kind, place, payload and the position after it; or its refusal.
-#[derive(Drop)]
+#[derive(Clone, Copy)]
 pub enum Seen {
     Token(u64, u64, u64, usize),
     Refused(rules::Refusal, u64),
 }
 
 // A declared name's number, sort and number of indices.
-#[derive(Drop)]
+#[derive(Clone, Copy)]
 pub enum Found {
     Name(usize, u64, u64),
     Nothing,
 }
 
 // A declared name that stands in the text: its number, sort, number of indices and place, and the position after it.
-#[derive(Drop)]
+#[derive(Clone, Copy)]
 pub enum Known {
     Name(usize, u64, u64, u64, usize),
     Refused(rules::Refusal, u64),

@@ -10,28 +10,28 @@ ghost use Rattle.value.specs.Literal.{is_digit, all_digits, digit_of, number_fro
 ghost use Rattle.value.specs.Printed.{width_from, digits, minus_sign, places, printed, shown, Written};
 ghost use Rattle.value.specs.Parts.{parts_value, signed_power, IsPower};
 
-#[derive(Drop)]
+#[derive(Clone, Copy)]
 pub struct Value {
     pub m: i64,
     pub s: usize,
 }
 
 // What an operation answers: a value that fits, or that there is none.
-#[derive(Drop)]
+#[derive(Clone, Copy)]
 pub enum Fit {
     Fits(Value),
     TooBig,
 }
 
 // The whole number that a value is, or that it is none.
-#[derive(Drop)]
+#[derive(Clone, Copy)]
 pub enum Whole {
     Number(i64),
     NotWhole,
 }
 
 // The power of ten of a literal, whether it is behind a minus and its digits, or that there is none.
-#[derive(Drop)]
+#[derive(Clone, Copy)]
 enum Exponent {
     Of(bool, usize),
     Nothing,

@@ -7,7 +7,7 @@ use lexer::marks;
 use tokens::{Move, Seen, kinds};
 
 // A string's place and the number of its bytes, and the position behind it.
-#[derive(Drop)]
+#[derive(Clone, Copy)]
 pub enum Titled {
     Of(u64, u64, usize),
     Refused(rules::Refusal, u64),

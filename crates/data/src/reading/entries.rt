@@ -8,14 +8,14 @@ ghost use Rattle.data.specs.Reading.Entries.{entry_of, entries_of, marks_index, 
 use super::few::Few;
 
 // A fixed whole number, or the number of the index name that marks the position.
-#[derive(Drop)]
+#[derive(Clone, Copy)]
 pub enum Entry {
     Fixed(i64),
     Marked(usize),
 }
 
 // The first `count` of a, b, c, d.
-#[derive(Drop)]
+#[derive(Clone, Copy)]
 pub struct Entries {
     pub count: usize,
     pub a: Entry,

@@ -5,7 +5,7 @@ ghost use Rattle.language.specs.Data.{no_repeats, all_in};
 ghost use Rattle.data.specs.Reading.Few.{numbers_of, Holds, Adds, rearranges_kept};
 
 // The first `count` of a, b, c, d. A count above four says that there are more, which are not kept.
-#[derive(Drop)]
+#[derive(Clone, Copy)]
 pub struct Few {
     pub count: usize,
     pub a: usize,

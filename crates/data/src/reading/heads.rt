@@ -12,28 +12,28 @@ use lexer::marks;
 use tokens::{Known, Move, Seen, kinds, sorts};
 
 // An index's number, and the position behind it.
-#[derive(Drop)]
+#[derive(Clone, Copy)]
 pub enum Indexed {
     Number(usize, usize),
     Refused(rules::Refusal, u64),
 }
 
 // An entry, and the position behind it.
-#[derive(Drop)]
+#[derive(Clone, Copy)]
 pub enum Entered {
     Of(Entry, usize),
     Refused(rules::Refusal, u64),
 }
 
 // The entries, and the position behind the `]`.
-#[derive(Drop)]
+#[derive(Clone, Copy)]
 pub enum Listed {
     Of(Entries, usize),
     Refused(rules::Refusal, u64),
 }
 
 // An index of an order, and the position behind the comma or behind the `)`.
-#[derive(Drop)]
+#[derive(Clone, Copy)]
 enum Turn {
     More(usize, usize),
     Last(usize, usize),
@@ -41,14 +41,14 @@ enum Turn {
 }
 
 // The indices of an order, and the position behind it.
-#[derive(Drop)]
+#[derive(Clone, Copy)]
 pub enum Order {
     Of(Few, usize),
     Refused(rules::Refusal, u64),
 }
 
 // The positions that run, outermost first; the entries; the position behind the head.
-#[derive(Drop)]
+#[derive(Clone, Copy)]
 pub enum Plan {
     Runs(Few, Entries, usize),
     Refused(rules::Refusal, u64),

@@ -7,7 +7,7 @@ use lexer::marks;
 use tokens::{Seen, kinds};
 
 // A value, the place of its sign, and the position behind it.
-#[derive(Drop)]
+#[derive(Clone, Copy)]
 pub enum Numbered {
     Of(value::Value, u64, usize),
     Refused(rules::Refusal, u64),

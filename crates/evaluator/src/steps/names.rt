@@ -6,14 +6,14 @@ ghost use Rattle.evaluator.specs.Steps.Names.{number_kept, resolved_word, number
 use tokens::{Found, Seen, kinds};
 
 // A name that the table tells of: its number, sort, number of indices, and the position of what was declared.
-#[derive(Drop)]
+#[derive(Clone, Copy)]
 pub enum Listed {
     Name(usize, u64, u64, usize),
     Nothing,
 }
 
 // An index's number, and the position behind the comma.
-#[derive(Drop)]
+#[derive(Clone, Copy)]
 pub enum Headed {
     Index(usize, usize),
     Refused(rules::Refusal, u64),

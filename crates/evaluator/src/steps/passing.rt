@@ -5,7 +5,7 @@ use lexer::marks;
 use tokens::Seen;
 
 // Whether a minus stands there, and the position behind the optional sign.
-#[derive(Drop)]
+#[derive(Clone, Copy)]
 pub enum Lead {
     Sign(bool, usize),
     Refused(rules::Refusal, u64),

@@ -6,7 +6,7 @@ ghost use Rattle.language.specs.Evaluation.{is_none};
 ghost use Rattle.evaluator.specs.Steps.Scopes.{bindings_of, bound_more, bound_option};
 
 // The first `count` of four indices by their numbers, each with its whole number; the last one was bound last.
-#[derive(Drop)]
+#[derive(Clone, Copy)]
 pub struct Scope {
     pub count: usize,
     pub first: usize,
@@ -20,7 +20,7 @@ pub struct Scope {
 }
 
 // What an index is bound to.
-#[derive(Drop)]
+#[derive(Clone, Copy)]
 pub enum Bound {
     To(i64),
     Nothing,

@@ -13,21 +13,21 @@ use store::Element;
 use value::{Fit, Value, Whole};
 
 // A value and the position behind it, or a refusal and its place.
-#[derive(Drop)]
+#[derive(Clone, Copy)]
 pub enum Answer {
     Value(Value, usize),
     Refused(rules::Refusal, u64),
 }
 
 // The two limits of a run.
-#[derive(Drop)]
+#[derive(Clone, Copy)]
 pub struct Limits {
     pub lower: i64,
     pub upper: i64,
 }
 
 // One entry of a domain: its index's number and place, and its limits.
-#[derive(Drop)]
+#[derive(Clone, Copy)]
 pub struct Bounds {
     pub number: usize,
     pub place: u64,
@@ -35,14 +35,14 @@ pub struct Bounds {
 }
 
 // How many numbers a run has.
-#[derive(Drop)]
+#[derive(Clone, Copy)]
 pub enum Runs {
     Count(usize),
     Refused(rules::Refusal, u64),
 }
 
 // A number inside its limits is bound; else a refusal.
-#[derive(Drop)]
+#[derive(Clone, Copy)]
 pub enum Tested {
     Inside(Scope),
     Refused(rules::Refusal, u64),
