@@ -1,7 +1,7 @@
 // Reading into a lent buffer, of any reader.
 #![tactic(auto)]
 
-ghost use Rattle.std.specs.Prelude.{◌≡◌, ◌<◌, ◌≤◌, length, take, IfOk};
+ghost use Rattle.std.specs.Prelude.{◌<◌, length, take, IfOk};
 ghost use Rattle.std.specs.Io.{ReadsAtMost};
 ghost use Rattle.std.specs.Io.KnownBytes.{Consumes, IsAtEnd};
 
@@ -23,21 +23,4 @@ pub fn read_full<R: Read>(reader: &mut R, buffer: &mut [u8]) -> io::Result<usize
         done += n;
     }
     Ok(done)
-}
-
-// Reads once, and answers whether anything came.
-fn read_on<R: Read>(reader: &mut R) -> io::Result<bool> {
-    let mut rest = [0u8; 65536];
-    let n = reader.read(&mut rest)?;
-    Ok(n > 0)
-}
-
-// Reads what is left of the input. The count only bounds the loop: no input is that long.
-pub fn drain<R: Read>(reader: &mut R) -> io::Result<()> {
-    for _ in 0..u64::MAX {
-        if !read_on(reader)? {
-            break;
-        }
-    }
-    Ok(())
 }

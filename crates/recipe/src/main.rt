@@ -80,12 +80,13 @@ fn print(rt: &impl Print, entry: Entry, text: &[u8]) -> io::Result<()> {
     rt.write_all(&out[..m])
 }
 
-// A model text, with one byte more than the longest one: a longer input is refused, whatever its other bytes are.
+// A model text, with one byte more than the longest one: a longer input is refused, whatever its other bytes are. What is left of
+// the input is read too.
 fn model<R: Input + Print>(rt: &R, entry: Entry) -> io::Result<()> {
     let mut text = [0u8; 16385];
     let mut reader = rt.reader();
     let n = input::read_full(&mut reader, &mut text)?;
-    input::drain(&mut reader)?;
+    io::copy(&mut reader, &mut io::sink())?;
     print(rt, entry, &text[..n])
 }
 
@@ -94,7 +95,7 @@ fn export<R: Input + Print + Eprint>(rt: &R) -> io::Result<()> {
     let mut text = [0u8; 262145];
     let mut reader = rt.reader();
     let n = input::read_full(&mut reader, &mut text)?;
-    input::drain(&mut reader)?;
+    io::copy(&mut reader, &mut io::sink())?;
     if n > 262144 {
         eprintln!(rt; "recipe: the input is longer than 256 KiB")?;
         return Ok(());
