@@ -1,4 +1,4 @@
-/* The recipe model generator for C: link target/staticlib/libgenerator.a (x86-64 Linux; made by `rt staticlib generator`).
+/* The recipe model generator for C: link target/staticlib/libgenerator.a (x86-64 Linux; made by host/library).
 
    recipe_generate       reads a model text and writes its listing
    recipe_export         reads a model text and writes it in free MPS form, for another solver
@@ -7,7 +7,7 @@
 
    Each has the same two buffers: the host lends a text, which is only read, and an output buffer, into which the report is
    written. Both stay the host's. The contract of each, for every text and every buffer length, is that of the function with its
-   name in crates/generator/src/lib.rt, and is proved. docs/LANGUAGE.md describes the language, docs/REPORTS.md the reports,
+   name in crates/generator_c/src/lib.rt, and is proved. docs/LANGUAGE.md describes the language, docs/REPORTS.md the reports,
    docs/REFUSALS.md the refusals.
 
    accepted   number 0, place 0, the length of the report; the bytes of the buffer after the report are zero

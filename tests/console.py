@@ -13,7 +13,7 @@ ROOT = pathlib.Path(__file__).resolve().parents[1]
 
 def generator(tested):
     """The program to run: the first argument, otherwise the program recipe if it is built, otherwise the independent generator."""
-    for path in map(pathlib.Path, sys.argv[1:] or [ROOT / 'target/bin/recipe', ROOT / 'target/independent/generate']):
+    for path in map(pathlib.Path, sys.argv[1:] or [ROOT / 'crates/recipe/out/recipe', ROOT / 'target/independent/generate']):
         if os.access(path, os.X_OK):
             return path.resolve()
     print(f'no generator is built: {tested} not run')
@@ -26,8 +26,8 @@ def furnish(folder, program):
         shutil.copy(ROOT / name, folder)
     shutil.copytree(ROOT / 'shell', folder / 'shell')
     (folder / 'examples').symlink_to(ROOT / 'examples')
-    (folder / 'target/bin').mkdir(parents=True)
-    (folder / 'target/bin/recipe').symlink_to(program)
+    (folder / 'crates/recipe/out').mkdir(parents=True)
+    (folder / 'crates/recipe/out/recipe').symlink_to(program)
 
 
 def has_terminal():

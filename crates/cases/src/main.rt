@@ -1,6 +1,8 @@
 // Runs the stored cases through the entry points, and writes for each its answer: a line of number, place, length and the count
 // of bytes behind the report that are not zero, parted by tabs; and then the report. tests/cases/make writes the input, in
 // frames, and what must come out, from the stored cases.
+#![tactic(auto)]
+
 mod frames;
 
 ghost use Rattle.std.specs.Prelude.{◌≡◌, [], ◌∷◌, ◌+◌, ◌<◌, ◌≤◌, ◌^◌, length};
@@ -11,6 +13,8 @@ ghost use Rattle.cases.specs.Told.{one_of, nonzero_of, told, Runs};
 
 use frames::Given;
 use generator::{Answer, Entry};
+use std::io;
+use std::io::{Print, Read};
 
 // ---- a line, written as the lines of a listing are
 
@@ -76,8 +80,8 @@ fn nonzero(bytes: &[u8]) -> usize
 
 // ---- all cases
 
-// Writes an answer and its report; whether they were written. No contract can say what is written: `line` says what it is.
-fn tell(a: Answer, out: &[u8]) -> bool {
+// Writes an answer and its report. A write that fails is an error. No contract can say what is written: `line` says what it is.
+fn tell(rt: &impl Print, a: Answer, out: &[u8]) -> io::Result<()> {
     let number = a.number;
     let length = a.length;
     let n = listing::rest_from(out.len(), length);
@@ -85,33 +89,38 @@ fn tell(a: Answer, out: &[u8]) -> bool {
     let mut text = [0u8; 128];
     let k = line(number as usize, a.place, length, behind, &mut text);
     let k = listing::rest_from(128, k);
-    io::write_all(1, &text[..k]) && io::write_all(1, &out[..n])
+    rt.write_all(&text[..k])?;
+    rt.write_all(&out[..n])
 }
 
 // Writes the answer for a text and an output buffer, whose bytes are the definition's.
-fn run(entry: Entry, text: &[u8], out: &mut [u8]) -> bool
+fn run(rt: &impl Print, entry: Entry, text: &[u8], out: &mut [u8]) -> io::Result<()>
     ensures { Runs entry text.now out.old out.new }
 {
     let a = generator::call(entry, text, out);
-    tell(a, out)
+    tell(rt, a, out)
 }
 
-// One case; whether there was one and its answer was written. Its buffer has no zero byte before the call.
-fn turn() -> bool {
-    let mut buffer = io::large_buffer();
-    let given = frames::take(&mut buffer);
+// One case; whether there was one. Its buffer has no zero byte before the call.
+fn turn<P: Print, R: Read>(rt: &P, reader: &mut R) -> io::Result<bool> {
+    let mut buffer = [0u8; 65536];
+    let given = frames::take(reader, &mut buffer)?;
     let Given::Text(entry, n, k) = given else {
-        return false;
+        return Ok(false);
     };
     let mut out = [170u8; 65536];
     let k = listing::rest_from(65536, k);
-    run(entry, &buffer[..n], &mut out[..k])
+    run(rt, entry, &buffer[..n], &mut out[..k])?;
+    Ok(true)
 }
 
-// A proved loop has to end, and nothing says that the input does: so it counts its turns down.
-fn main() {
-    let mut turns = u64::MAX;
-    while turns > 0 && turn() {
-        turns -= 1;
+// A proved loop has to end, and nothing says that the input does: so its turns are counted.
+fn main(rt: HostRuntime) -> io::Result<()> {
+    let mut reader = rt.reader();
+    for _ in 0..u64::MAX {
+        if !turn(&rt, &mut reader)? {
+            break;
+        }
     }
+    Ok(())
 }

@@ -1,4 +1,6 @@
 // The public entry points: a text and a lent output buffer give a number, a place and a length.
+#![tactic(auto)]
+
 ghost use Rattle.std.specs.Prelude.{◌≡◌, ◌≤◌, length, take, replicate};
 ghost use Rattle.rules.specs.Refusals.{refusal_number};
 ghost use Rattle.language.specs.Answer.{printing};
@@ -309,8 +311,7 @@ fn answer_with(text: &[u8], kind: Report, out: &mut [u8]) -> Answer
 // ---- entry points. The text is as it was: it is not lent for writing
 
 // The listing of a text.
-#[unsafe(no_mangle)]
-pub extern "C" fn recipe_generate(text: &[u8], out: &mut [u8]) -> Answer
+pub fn recipe_generate(text: &[u8], out: &mut [u8]) -> Answer
     ensures defined { Defined text.now out.old result out.new }
     ensures accepts { Accepts text.now out.old result }
     ensures meaning { Meaning text.now out.old result out.new }
@@ -319,8 +320,7 @@ pub extern "C" fn recipe_generate(text: &[u8], out: &mut [u8]) -> Answer
 }
 
 // The export of a model for a solver.
-#[unsafe(no_mangle)]
-pub extern "C" fn recipe_export(text: &[u8], out: &mut [u8]) -> Answer
+pub fn recipe_export(text: &[u8], out: &mut [u8]) -> Answer
     ensures defined { Exports text.now out.old result out.new }
     ensures meaning { Carries text.now out.old result out.new }
 {
@@ -328,8 +328,7 @@ pub extern "C" fn recipe_export(text: &[u8], out: &mut [u8]) -> Answer
 }
 
 // What an export says: the `row`, `var` and `col` lines of its listing, without strings, names and index values.
-#[unsafe(no_mangle)]
-pub extern "C" fn recipe_read_export(text: &[u8], out: &mut [u8]) -> Answer
+pub fn recipe_read_export(text: &[u8], out: &mut [u8]) -> Answer
     ensures defined { ReadsBack text.now out.old result out.new }
 {
     listing::clear(out);

@@ -1,11 +1,15 @@
 // The program. Without a word it reads a model text from standard input and writes its listing, with `--mps` its export; with
 // `--read-mps` it reads an export and writes what it says. A refusal is one line with its number and place.
+#![tactic(auto)]
+
 ghost use Rattle.std.specs.Prelude.{◌≡◌, length};
 ghost use Rattle.recipe.specs.Printed.{Tells, Prints};
 ghost use Rattle.recipe.specs.Asked.{job_of};
 
 use generator::{Answer, Entry};
-use libc::{STDERR_FILENO, STDIN_FILENO, STDOUT_FILENO};
+use std::env::{Env, FillError};
+use std::io;
+use std::io::{Eprint, Print};
 
 // What is asked of the program: an entry point, or what it does not know.
 #[derive(Clone, Copy)]
@@ -28,18 +32,23 @@ fn named(word: &[u8]) -> Job
     Job::Unknown
 }
 
-// No contract can say what word is there: `named` says what it means.
-fn asked() -> Job {
-    let n = os::arg_count();
-    if n < 2 {
-        return Job::Of(Entry::List);
-    }
-    if n > 2 {
+// Whether the program was given a word at this place; its own name stands at 0.
+fn has_word(rt: &impl Env, place: usize) -> bool {
+    let mut word = [0u8; 16];
+    !matches!(rt.arg(place, &mut word), Err(FillError::NotPresent))
+}
+
+// No contract can say what word is there: `named` says what it means. No word that means something is longer than 16 bytes.
+fn asked(rt: &impl Env) -> Job {
+    if has_word(rt, 2) {
         return Job::Unknown;
     }
     let mut word = [0u8; 16];
-    let k = os::arg(1, &mut word);
-    named(&word[..k])
+    match rt.arg(1, &mut word) {
+        Ok(k) => named(&word[..k]),
+        Err(FillError::NotPresent) => Job::Of(Entry::List),
+        Err(FillError::TooLong) => Job::Unknown,
+    }
 }
 
 // ---- the answer
@@ -63,64 +72,51 @@ fn answer(entry: Entry, text: &[u8], out: &mut [u8]) -> usize
     tell(a, out)
 }
 
-// ---- input and output
+// ---- input and output. A read or a write that fails ends the program with its error
 
-// Reads once, and answers whether anything came.
-fn read_on() -> bool {
-    let mut rest = io::large_buffer();
-    libc::read(STDIN_FILENO, &mut rest) > 0
-}
-
-// Reads what is left of the input. The count only bounds the loop: no input is that long.
-fn drain() {
-    let mut turns = u64::MAX;
-    while turns > 0 && read_on() {
-        turns -= 1;
-    }
-}
-
-fn print(entry: Entry, text: &[u8]) {
-    let mut out = io::large_buffer();
+fn print(rt: &impl Print, entry: Entry, text: &[u8]) -> io::Result<()> {
+    let mut out = [0u8; 65536];
     let m = answer(entry, text, &mut out);
-    io::write_all(STDOUT_FILENO, &out[..m]);
+    rt.write_all(&out[..m])
 }
 
-// A model text, with one byte more than the longest one: a longer input is refused, whatever its other bytes are.
-fn model(entry: Entry) {
+// A model text, with one byte more than the longest one: a longer input is refused, whatever its other bytes are. What is left of
+// the input is read too.
+fn model<R: Input + Print>(rt: &R, entry: Entry) -> io::Result<()> {
     let mut text = [0u8; 16385];
-    let n = io::read_full(STDIN_FILENO, &mut text);
-    drain();
-    print(entry, &text[..n]);
+    let mut reader = rt.reader();
+    let n = input::read_full(&mut reader, &mut text)?;
+    io::copy(&mut reader, &mut io::sink())?;
+    print(rt, entry, &text[..n])
 }
 
 // An export, with one byte more than 256 KiB. One whose report has at most 65,536 bytes is shorter; a longer input gets no answer.
-fn export() {
+fn export<R: Input + Print + Eprint>(rt: &R) -> io::Result<()> {
     let mut text = [0u8; 262145];
-    let n = io::read_full(STDIN_FILENO, &mut text);
-    drain();
+    let mut reader = rt.reader();
+    let n = input::read_full(&mut reader, &mut text)?;
+    io::copy(&mut reader, &mut io::sink())?;
     if n > 262144 {
-        io::write_all(STDERR_FILENO, b"recipe: the input is longer than 256 KiB\n");
-        return;
+        eprintln!(rt; "recipe: the input is longer than 256 KiB")?;
+        return Ok(());
     }
-    print(Entry::Read, &text[..n]);
+    print(rt, Entry::Read, &text[..n])
 }
 
-fn run(entry: Entry) {
+fn run<R: Input + Print + Eprint>(rt: &R, entry: Entry) -> io::Result<()> {
     match entry {
-        Entry::Read => export(),
-        _ => model(entry),
+        Entry::Read => export(rt),
+        _ => model(rt, entry),
     }
 }
 
-fn main() {
-    let job = asked();
+fn main(rt: HostRuntime) -> io::Result<()> {
+    let job = asked(&rt);
     match job {
-        Job::Of(entry) => run(entry),
+        Job::Of(entry) => run(&rt, entry),
         Job::Unknown => {
-            io::write_all(
-                STDERR_FILENO,
-                b"usage: recipe [--mps | --read-mps] < FILE\n",
-            );
+            eprintln!(rt; "usage: recipe [--mps | --read-mps] < FILE")?;
+            Ok(())
         }
     }
 }
