@@ -1,0 +1,7 @@
+-- `generator::answer_with` meets its contract.
+use borrow.Author.Rules.{rules}
+use Rattle.generator.proofs.Answers.{report-gives}
+use Rattle.generator.proofs.answer_with.Goals as goal
+
+pub returns : goal.returns
+returns c = search report-gives depth 8

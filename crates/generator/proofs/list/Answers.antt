@@ -1,0 +1,7 @@
+-- `generator::list` meets its contract.
+use mathlib.Core.Path.{refl}
+use borrow.Author.Rules.{rules}
+use Rattle.generator.proofs.list.Goals as goal
+
+pub returns : goal.returns
+returns c = c.list_in.ensures.prints refl

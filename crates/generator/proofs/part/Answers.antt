@@ -1,0 +1,10 @@
+-- `generator::part` meets its contract.
+use borrow.Author.Rules.{rules}
+use Rattle.model.proofs.Laws.{rows-part, tokens-part}
+use Rattle.generator.proofs.part.Goals as goal
+
+pub slice_bounds-list-end : goal.slice_bounds-list-end
+slice_bounds-list-end c = search rows-part depth 5
+
+pub slice_bounds-list-end-2 : goal.slice_bounds-list-end-2
+slice_bounds-list-end-2 c = search tokens-part depth 5
