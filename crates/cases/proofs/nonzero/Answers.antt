@@ -1,0 +1,19 @@
+-- `cases::nonzero` meets its contract. The measure is the number of bytes that are left.
+use Prim.Native.Nat.{◌-◌}
+use native.Mathlib.Omega.{arith}
+use borrow.Author.Rules.{rules}
+use lib.ListN.{length}
+use Rattle.cases.proofs.Laws.{Counted, counted_none, counted-more, counted-all}
+use Rattle.cases.proofs.nonzero.Goals as goal
+
+pub loop-i-init : goal.loop-i-init
+loop-i-init c = counted_none _
+
+pub overflow_add-count : goal.overflow_add-count
+overflow_add-count c = omega arith
+
+pub loop-i-preserved : goal.loop-i-preserved
+loop-i-preserved c = search counted-more depth 8
+
+pub returns : goal.returns
+returns c = search counted-all depth 8

@@ -1,0 +1,7 @@
+-- `cases::put` meets its contract.
+use borrow.Author.Rules.{rules}
+use Rattle.value.proofs.Writing.{written-past}
+use Rattle.cases.proofs.put.Goals as goal
+
+pub returns-then-out-at : goal.returns-then-out-at
+returns-then-out-at c = search written-past depth 5
