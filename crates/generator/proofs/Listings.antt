@@ -17,7 +17,7 @@ use Rattle.language.specs.Outcome.{Outcome, done, refused}
 use Rattle.language.specs.All.{All}
 use Rattle.language.specs.Reader.{expect, next, passed}
 use Rattle.language.specs.Grammar.{structure}
-use Rattle.language.specs.Model.{Model, read_model, model, start}
+use Rattle.language.specs.Model.{Model, read_model, model}
 use Rattle.language.specs.Numbering.{Lp, generate}
 use Rattle.language.specs.Listing.{lines_of}
 use Rattle.language.specs.Proper as Proper

@@ -31,7 +31,7 @@ use Rattle.language.specs.Demand3.{Holds, RowMet, FloorIs, Rising}
 use Rattle.value.proofs.Numbers.{exactly-negate}
 use Rattle.language.proofs.Evaluated.{eval-done, eval_all-done}
 use Rattle.language.proofs.Gathered.{dot, number_of-at, gathered-done, gathered-long}
-use Rattle.language.proofs.Listwise.{collect, listed, Grown, over-grown}
+use Rattle.language.proofs.Listwise.{collect, Grown, over-grown}
 use Rattle.language.proofs.Ordered.{rising-nil, rising-cons}
 use Rattle.language.proofs.Elements.{Walk, walk, walk-in, in-walk, only}
 

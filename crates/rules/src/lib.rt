@@ -1,5 +1,7 @@
 // Document 01, "Why a model comes back" and its tables: the refusals by name, and every limit as one constant.
 // The same limits stand in specs/Limits.antt, where the definition reads them.
+#![tactic(auto)]
+
 ghost use Rattle.std.specs.Prelude.{◌≡◌};
 ghost use Rattle.rules.specs.Refusals.{refusal_number};
 

@@ -23,7 +23,6 @@ use Rattle.tokens.specs.declared.Seen.TheVariants as seen
 use Rattle.tokens.specs.declared.Found.{Found}
 use Rattle.tokens.specs.declared.Found.TheVariants as found
 use Rattle.tokens.specs.declared.Known.{Known}
-use Rattle.tokens.specs.declared.Known.TheVariants as Known
 use Rattle.tokens.specs.Stored.{spelling, name_bytes, kind_of, token, from, mark_number, Unread, Sees, Looks, look_up, Named, Matches, Moves, known_found, known_by, KnownAt, Knowing, Knows, Shaped, Gives, Stands}
 use Rattle.tokens.specs.Pieces.{expect_in, bracket_in, index_in, head_in, sign_in}
 use Rattle.tokens.proofs.Tables.{mark-of, mark-same, no_name_lem, passes, Declared, declared, not-declared, index-sort, other-sort}

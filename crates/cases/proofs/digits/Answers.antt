@@ -1,6 +1,5 @@
 -- `cases::digits` meets its contract.
 use native.Mathlib.Omega.{arith}
-use borrow.Author.Rules.{rules}
 use Rattle.cases.proofs.Laws.{digits-none, digits-most, digits-some}
 use Rattle.cases.proofs.digits.Goals as goal
 

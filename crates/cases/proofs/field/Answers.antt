@@ -1,6 +1,5 @@
 -- `cases::field` meets its contract.
 use native.Mathlib.Omega.{arith}
-use borrow.Author.Rules.{rules}
 use Rattle.listing.proofs.Writing.{tab-then}
 use Rattle.cases.proofs.field.Goals as goal
 

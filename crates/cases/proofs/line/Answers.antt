@@ -1,6 +1,5 @@
 -- `cases::line` meets its contract.
 use native.Mathlib.Omega.{arith}
-use borrow.Author.Rules.{rules}
 use Rattle.cases.proofs.Laws.{line-is}
 use Rattle.cases.proofs.line.Goals as goal
 

@@ -1,9 +1,6 @@
 -- `cases::nonzero` meets its contract. The measure is the number of bytes that are left.
-use Prim.Native.Nat.{◌-◌}
 use native.Mathlib.Omega.{arith}
-use borrow.Author.Rules.{rules}
-use lib.ListN.{length}
-use Rattle.cases.proofs.Laws.{Counted, counted_none, counted-more, counted-all}
+use Rattle.cases.proofs.Laws.{counted_none, counted-more, counted-all}
 use Rattle.cases.proofs.nonzero.Goals as goal
 
 pub loop-i-init : goal.loop-i-init

@@ -1,9 +1,7 @@
 -- `cases::nonzero` meets its contract. The measure is the number of bytes that are left.
 use Prim.Native.Nat.{◌-◌}
-use native.Mathlib.Omega.{arith}
-use borrow.Author.Rules.{rules}
 use lib.ListN.{length}
-use Rattle.cases.proofs.Laws.{Counted, counted_none, counted-more, counted-all}
+use Rattle.cases.proofs.Laws.{Counted}
 use Rattle.cases.proofs.nonzero.Given as goal
 
 abbrev pub invariant-loop-i : goal.invariant-loop-i

@@ -1,5 +1,4 @@
 -- `cases::put` meets its contract.
-use borrow.Author.Rules.{rules}
 use Rattle.value.proofs.Writing.{written-past}
 use Rattle.cases.proofs.put.Goals as goal
 

@@ -1,6 +1,5 @@
 -- `constraints::comparison` meets its contract.
 use Rattle.constraints.proofs.ComparisonLaws.{comparison-relation, comparison-right, comparison-floor}
-use borrow.Author.Rules.{rules}
 use Rattle.constraints.proofs.comparison.Goals as goal
 
 pub returns-in_default : goal.returns-in_default

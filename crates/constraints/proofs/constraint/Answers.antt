@@ -1,5 +1,4 @@
 -- `constraints::constraint` meets its contract.
-use borrow.Author.Rules.{rules}
 use Rattle.constraints.proofs.RowLaws.{row_is}
 use Rattle.constraints.proofs.constraint.Goals as goal
 

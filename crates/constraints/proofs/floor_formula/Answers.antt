@@ -1,6 +1,5 @@
 -- `constraints::floor_formula` meets its contract.
 use Rattle.constraints.proofs.FloorLaws.{floor-unsigned, floor-signed}
-use borrow.Author.Rules.{rules}
 use Rattle.constraints.proofs.floor_formula.Goals as goal
 
 pub returns-in_default : goal.returns-in_default

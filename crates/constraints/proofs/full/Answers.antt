@@ -1,6 +1,5 @@
 -- `constraints::full` meets its contract.
 use Rattle.constraints.proofs.ListLaws.{full-token, full-wrong}
-use borrow.Author.Rules.{rules}
 use Rattle.constraints.proofs.full.Goals as goal
 
 pub returns-in-Token : goal.returns-in-Token

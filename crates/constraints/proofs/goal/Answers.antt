@@ -1,6 +1,5 @@
 -- `constraints::goal` meets its contract.
 use Rattle.constraints.proofs.TokenLaws.{goal-yes, goal-no, goal-wrong}
-use borrow.Author.Rules.{rules}
 use Rattle.constraints.proofs.goal.Goals as goal
 
 pub returns-then-k : goal.returns-then-k

@@ -1,6 +1,5 @@
 -- `constraints::locate` meets its contract.
 use Rattle.constraints.proofs.RowLaws.{row-title, row-left, row-right, row-domain}
-use borrow.Author.Rules.{rules}
 use Rattle.constraints.proofs.locate.Goals as goal
 
 pub returns-in_default : goal.returns-in_default

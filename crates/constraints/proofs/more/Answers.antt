@@ -1,6 +1,5 @@
 -- `constraints::more` meets its contract.
 use Rattle.constraints.proofs.TokenLaws.{more-token, more-wrong}
-use borrow.Author.Rules.{rules}
 use Rattle.constraints.proofs.more.Goals as goal
 
 pub returns-in-Token : goal.returns-in-Token

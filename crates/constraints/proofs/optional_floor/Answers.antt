@@ -1,6 +1,5 @@
 -- `constraints::optional_floor` meets its contract.
 use Rattle.constraints.proofs.FloorLaws.{floor-other, floor-none, floor-some, floor-wrong}
-use borrow.Author.Rules.{rules}
 use Rattle.constraints.proofs.optional_floor.Goals as goal
 
 pub returns-then-mark : goal.returns-then-mark

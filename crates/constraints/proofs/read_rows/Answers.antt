@@ -1,7 +1,5 @@
 -- `constraints::read_rows` meets its contract.
-use Rattle.constraints.proofs.ListLaws.{ConstraintsOn, constraints-start, constraints-refused, constraints-wrong, constraints-on, constraints-end, constraints-full}
-use Prim.Native.Nat.{◌-◌}
-use borrow.Author.Rules.{rules}
+use Rattle.constraints.proofs.ListLaws.{constraints-start, constraints-refused, constraints-wrong, constraints-on, constraints-end, constraints-full}
 use Rattle.constraints.proofs.read_rows.Goals as goal
 
 pub loop-n-init : goal.loop-n-init

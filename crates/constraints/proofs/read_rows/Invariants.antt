@@ -1,7 +1,6 @@
 -- `constraints::read_rows` meets its contract.
-use Rattle.constraints.proofs.ListLaws.{ConstraintsOn, constraints-start, constraints-refused, constraints-wrong, constraints-on, constraints-end, constraints-full}
+use Rattle.constraints.proofs.ListLaws.{ConstraintsOn}
 use Prim.Native.Nat.{◌-◌}
-use borrow.Author.Rules.{rules}
 use Rattle.constraints.proofs.read_rows.Given as goal
 
 abbrev pub invariant-loop-n : goal.invariant-loop-n

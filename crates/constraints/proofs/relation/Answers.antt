@@ -1,6 +1,5 @@
 -- `constraints::relation` meets its contract.
 use Rattle.constraints.proofs.TokenLaws.{relation-yes, relation-no, relation-wrong}
-use borrow.Author.Rules.{rules}
 use Rattle.constraints.proofs.relation.Goals as goal
 
 pub returns-then-k : goal.returns-then-k

@@ -1,6 +1,5 @@
 -- `constraints::title` meets its contract.
 use Rattle.constraints.proofs.TokenLaws.{title-yes, title-no, title-wrong}
-use borrow.Author.Rules.{rules}
 use Rattle.constraints.proofs.title.Goals as goal
 
 pub returns-then-k-eq-STRING : goal.returns-then-k-eq-STRING

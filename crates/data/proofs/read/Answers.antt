@@ -1,6 +1,5 @@
 -- `read` meets its contract.
 use Rattle.data.proofs.Filling.{read_done, read-not, read-refused}
-use borrow.Author.Rules.{rules}
 use Rattle.data.proofs.read.Goals as goal
 
 pub returns-in-At : goal.returns-in-At

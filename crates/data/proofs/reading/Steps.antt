@@ -26,7 +26,6 @@ use Rattle.tokens.specs.declared.Move.TheVariants as move
 use Rattle.tokens.specs.declared.Seen.{Seen}
 use Rattle.tokens.specs.declared.Seen.TheVariants as seen
 use Rattle.tokens.specs.declared.Known.{Known}
-use Rattle.tokens.specs.declared.Known.TheVariants as Known
 use Rattle.tokens.specs.Stored.{name_bytes, spelling, kind_of, token, from, Sees, Looks, Shaped, Named, Knowing, KnownAt, Knows}
 use Rattle.tokens.proofs.Tables.{false-true, mark-of, mark-same, index-sort, other-sort, no-string}
 use Rattle.tokens.proofs.Moved.{next-is, knows-of}

@@ -1,6 +1,5 @@
 -- `declarations::declarations` meets its contract.
 use Rattle.declarations.proofs.ListLaws.{declared-all}
-use borrow.Author.Rules.{rules}
 use Rattle.declarations.proofs.declarations.Goals as goal
 
 pub returns : goal.returns

@@ -1,6 +1,5 @@
 -- `declarations::domain` meets its contract.
 use Rattle.declarations.proofs.EntryLaws.{domain-open, domain-list, domain-first, domain-due}
-use borrow.Author.Rules.{rules}
 use Rattle.declarations.proofs.domain.Goals as goal
 
 pub returns-in_default : goal.returns-in_default

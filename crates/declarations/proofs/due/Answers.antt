@@ -1,9 +1,6 @@
 -- `declarations::due` meets its contract.
-use Prim.Native.Nat.{◌-◌, ◌≤◌}
-use lib.ListN.{length}
-use Rattle.declarations.proofs.DueLaws.{DueOn, due-start, due-none, due-entry, due-last, due-comma, due-on}
+use Rattle.declarations.proofs.DueLaws.{due-start, due-none, due-entry, due-last, due-comma, due-on}
 use native.Mathlib.Omega.{arith}
-use borrow.Author.Rules.{rules}
 use Rattle.declarations.proofs.due.Goals as goal
 
 pub loop-k-init : goal.loop-k-init

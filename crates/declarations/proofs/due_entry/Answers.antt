@@ -1,6 +1,5 @@
 -- `declarations::due_entry` meets its contract.
 use Rattle.domains.proofs.Laws.{entry-lower, entry-index, entry-sign, entry-upper}
-use borrow.Author.Rules.{rules}
 use Rattle.declarations.proofs.due_entry.Goals as goal
 
 pub returns-in_default : goal.returns-in_default

@@ -1,6 +1,5 @@
 -- `declarations::due_index` meets its contract.
 use Rattle.declarations.proofs.DueLaws.{due-wrong, due-yes, due-other}
-use borrow.Author.Rules.{rules}
 use Rattle.declarations.proofs.due_index.Goals as goal
 
 pub returns-then-number-i : goal.returns-then-number-i

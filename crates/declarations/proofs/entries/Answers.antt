@@ -1,6 +1,5 @@
 -- `declarations::entries` meets its contract.
-use Rattle.declarations.proofs.ListLaws.{EntriesOn, entries-start, entries-part, entries_none, entries-refused, entries-end, entries-on}
-use borrow.Author.Rules.{rules}
+use Rattle.declarations.proofs.ListLaws.{entries-start, entries-part, entries_none, entries-refused, entries-end, entries-on}
 use Rattle.declarations.proofs.entries.Goals as goal
 
 pub loop-left-init : goal.loop-left-init

@@ -1,6 +1,5 @@
 -- `declarations::entries` meets its contract.
-use Rattle.declarations.proofs.ListLaws.{EntriesOn, entries-start, entries-part, entries_none, entries-refused, entries-end, entries-on}
-use borrow.Author.Rules.{rules}
+use Rattle.declarations.proofs.ListLaws.{EntriesOn}
 use Rattle.declarations.proofs.entries.Given as goal
 
 abbrev pub invariant-loop-left : goal.invariant-loop-left

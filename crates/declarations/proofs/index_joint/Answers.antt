@@ -1,6 +1,5 @@
 -- `declarations::index_joint` meets its contract.
 use Rattle.declarations.proofs.IndexLaws.{joint-last, joint-comma, joint-close, joint-wrong}
-use borrow.Author.Rules.{rules}
 use Rattle.declarations.proofs.index_joint.Goals as goal
 
 pub returns-then-left-eq0 : goal.returns-then-left-eq0

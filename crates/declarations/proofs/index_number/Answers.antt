@@ -1,6 +1,5 @@
 -- `declarations::index_number` meets its contract.
 use Rattle.declarations.proofs.IndexLaws.{number-wrong, number-other, number-yes}
-use borrow.Author.Rules.{rules}
 use Rattle.declarations.proofs.index_number.Goals as goal
 
 pub returns-then-sort-eq-INDEX : goal.returns-then-sort-eq-INDEX

@@ -1,6 +1,5 @@
 -- `declarations::item` meets its contract.
 use Rattle.declarations.proofs.DueLaws.{item-past}
-use borrow.Author.Rules.{rules}
 use Rattle.declarations.proofs.item.Goals as goal
 
 pub returns-else-k-list : goal.returns-else-k-list

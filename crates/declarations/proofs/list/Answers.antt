@@ -1,6 +1,5 @@
 -- `declarations::list` meets its contract.
 use Rattle.declarations.proofs.ListLaws.{list-word, list-none, list-wrong}
-use borrow.Author.Rules.{rules}
 use Rattle.declarations.proofs.list.Goals as goal
 
 pub returns-then-k-sort : goal.returns-then-k-sort

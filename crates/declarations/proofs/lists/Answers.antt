@@ -1,7 +1,5 @@
 -- `declarations::lists` meets its contract.
-use Prim.Native.Nat.{◌-◌}
-use Rattle.declarations.proofs.ListLaws.{ListsOn, lists-start, lists-end, lists-refused, lists-on}
-use borrow.Author.Rules.{rules}
+use Rattle.declarations.proofs.ListLaws.{lists-start, lists-end, lists-refused, lists-on}
 use Rattle.declarations.proofs.lists.Goals as goal
 
 pub loop-sort-init : goal.loop-sort-init

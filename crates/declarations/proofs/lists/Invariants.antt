@@ -1,7 +1,6 @@
 -- `declarations::lists` meets its contract.
 use Prim.Native.Nat.{◌-◌}
-use Rattle.declarations.proofs.ListLaws.{ListsOn, lists-start, lists-end, lists-refused, lists-on}
-use borrow.Author.Rules.{rules}
+use Rattle.declarations.proofs.ListLaws.{ListsOn}
 use Rattle.declarations.proofs.lists.Given as goal
 
 abbrev pub invariant-loop-sort : goal.invariant-loop-sort

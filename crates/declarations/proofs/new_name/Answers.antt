@@ -1,6 +1,5 @@
 -- `declarations::new_name` meets its contract.
 use Rattle.declarations.proofs.RowLaws.{title-wrong, title-no-name, title-again, title-full, title-new}
-use borrow.Author.Rules.{rules}
 use Rattle.declarations.proofs.new_name.Goals as goal
 
 pub returns-in-Name : goal.returns-in-Name

@@ -1,6 +1,5 @@
 -- `declarations::read_entry` meets its contract.
 use Rattle.declarations.proofs.EntryLaws.{sort-index, sort-domain, sort-equals, sort-formula}
-use borrow.Author.Rules.{rules}
 use Rattle.declarations.proofs.read_entry.Goals as goal
 
 pub returns-then-sort-eq-INDEX : goal.returns-then-sort-eq-INDEX

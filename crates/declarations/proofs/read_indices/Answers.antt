@@ -1,8 +1,6 @@
 -- `declarations::read_indices` meets its contract.
-use Prim.Native.Nat.{◌-◌, ◌≤◌}
-use Rattle.declarations.proofs.IndexLaws.{IndicesOn, indices-start, indices-full, indices-index, indices-sign, indices-end, indices-on}
+use Rattle.declarations.proofs.IndexLaws.{indices-start, indices-full, indices-index, indices-sign, indices-end, indices-on}
 use native.Mathlib.Omega.{arith}
-use borrow.Author.Rules.{rules}
 use Rattle.declarations.proofs.read_indices.Goals as goal
 
 pub loop-n-init : goal.loop-n-init

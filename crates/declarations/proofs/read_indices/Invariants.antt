@@ -1,8 +1,6 @@
 -- `declarations::read_indices` meets its contract.
 use Prim.Native.Nat.{◌-◌, ◌≤◌}
-use Rattle.declarations.proofs.IndexLaws.{IndicesOn, indices-start, indices-full, indices-index, indices-sign, indices-end, indices-on}
-use native.Mathlib.Omega.{arith}
-use borrow.Author.Rules.{rules}
+use Rattle.declarations.proofs.IndexLaws.{IndicesOn}
 use Rattle.declarations.proofs.read_indices.Given as goal
 
 abbrev pub invariant-loop-n : goal.invariant-loop-n

@@ -1,6 +1,5 @@
 -- `declarations::read_row` meets its contract.
 use Rattle.declarations.proofs.RowLaws.{row-title, row-entry, row-sign}
-use borrow.Author.Rules.{rules}
 use Rattle.declarations.proofs.read_row.Goals as goal
 
 pub returns-in_default : goal.returns-in_default

@@ -1,6 +1,5 @@
 -- `declarations::repeated` meets its contract.
-use Rattle.declarations.proofs.DueLaws.{Shows, shows-start, shows-none, shows-found, shows-on}
-use borrow.Author.Rules.{rules}
+use Rattle.declarations.proofs.DueLaws.{shows-start, shows-none, shows-found, shows-on}
 use Rattle.declarations.proofs.repeated.Goals as goal
 
 pub loop-j-init : goal.loop-j-init

@@ -1,6 +1,5 @@
 -- `declarations::repeated` meets its contract.
-use Rattle.declarations.proofs.DueLaws.{Shows, shows-start, shows-none, shows-found, shows-on}
-use borrow.Author.Rules.{rules}
+use Rattle.declarations.proofs.DueLaws.{Shows}
 use Rattle.declarations.proofs.repeated.Given as goal
 
 abbrev pub invariant-loop-j : goal.invariant-loop-j

@@ -1,6 +1,5 @@
 -- `declarations::separator` meets its contract.
 use Rattle.declarations.proofs.RowLaws.{separator-comma, separator-end, separator-no, separator-wrong}
-use borrow.Author.Rules.{rules}
 use Rattle.declarations.proofs.separator.Goals as goal
 
 pub returns-then-k : goal.returns-then-k

@@ -1,6 +1,5 @@
 -- `declarations::subscripted` meets its contract.
 use Rattle.declarations.proofs.EntryLaws.{subscripted-some, subscripted-none, subscripted-wrong}
-use borrow.Author.Rules.{rules}
 use Rattle.declarations.proofs.subscripted.Goals as goal
 
 pub returns-then-k : goal.returns-then-k

@@ -1,8 +1,5 @@
 -- `domains::entries` meets its contract.
 use Rattle.domains.proofs.Laws.{entries-first, entries-last, entries-wrong, entries-end, entries-on}
-use native.Mathlib.Omega.{arith}
-use borrow.Author.Rules.{rules}
-use Prim.Native.Nat.{ℕ, ◌<◌}
 use Rattle.domains.proofs.+entries.Goals as goal
 
 pub returns-in_default : goal.returns-in_default

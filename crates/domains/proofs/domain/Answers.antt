@@ -1,6 +1,5 @@
 -- `domains::domain` meets its contract.
 use Rattle.domains.proofs.Laws.{domain-open, domain-entries}
-use borrow.Author.Rules.{rules}
 use Rattle.domains.proofs.domain.Goals as goal
 
 pub returns-in_default : goal.returns-in_default

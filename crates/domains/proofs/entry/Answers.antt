@@ -1,6 +1,5 @@
 -- `domains::entry` meets its contract.
 use Rattle.domains.proofs.Laws.{entry-lower, entry-index, entry-sign, entry-upper}
-use borrow.Author.Rules.{rules}
 use Rattle.domains.proofs.entry.Goals as goal
 
 pub returns-in_default : goal.returns-in_default

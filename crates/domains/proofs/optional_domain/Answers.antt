@@ -1,6 +1,5 @@
 -- `domains::optional_domain` meets its contract.
 use Rattle.domains.proofs.Laws.{optional-wrong, optional-some, optional-none}
-use borrow.Author.Rules.{rules}
 use Rattle.domains.proofs.optional_domain.Goals as goal
 
 pub returns-then-k : goal.returns-then-k

@@ -1,9 +1,6 @@
 -- `elements::inside` and `elements::turns` meet their contracts.
-use Prim.Native.Nat.{ℕ, ◌<◌, ◌+◌, ◌*◌}
-use native.Mathlib.Omega.{arith}
-use borrow.Author.Rules.{rules}
-use Rattle.elements.proofs.Numbers.{left, up-less}
-use Rattle.elements.proofs.Entering.{TurnsOn, inside-none, inside-limit, inside-run, inside-turns, turns-start, turns-end, turns_at, turns-refused, turns-last, turns_more}
+use Rattle.elements.proofs.Numbers.{up-less}
+use Rattle.elements.proofs.Entering.{inside-none, inside-limit, inside-run, inside-turns, turns-start, turns-end, turns_at, turns-refused, turns-last, turns_more}
 use Rattle.elements.proofs.+inside_turns.Goals as goal
 
 pub inside-returns-then-count-eq0 : goal.inside-returns-then-count-eq0

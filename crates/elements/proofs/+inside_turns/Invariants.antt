@@ -1,9 +1,7 @@
 -- `elements::inside` and `elements::turns` meet their contracts.
-use Prim.Native.Nat.{ℕ, ◌<◌, ◌+◌, ◌*◌}
-use native.Mathlib.Omega.{arith}
-use borrow.Author.Rules.{rules}
-use Rattle.elements.proofs.Numbers.{left, up-less}
-use Rattle.elements.proofs.Entering.{TurnsOn, inside-none, inside-limit, inside-run, inside-turns, turns-start, turns-end, turns_at, turns-refused, turns-last, turns_more}
+use Prim.Native.Nat.{◌+◌, ◌*◌}
+use Rattle.elements.proofs.Numbers.{left}
+use Rattle.elements.proofs.Entering.{TurnsOn}
 use Rattle.elements.proofs.+inside_turns.Given as goal
 
 abbrev pub decreases-inside : goal.decreases-inside

@@ -1,5 +1,4 @@
 -- `first` meets its contract.
-use borrow.Author.Rules.{rules}
 use Rattle.elements.proofs.Entering.{first-is}
 use Rattle.elements.proofs.first.Goals as goal
 

@@ -1,5 +1,4 @@
 -- `next` meets its contract: the innermost run goes on, or what `after` gives.
-use borrow.Author.Rules.{rules}
 use Rattle.elements.proofs.Going.{next-is, next-on}
 use Rattle.elements.proofs.next.Goals as goal
 

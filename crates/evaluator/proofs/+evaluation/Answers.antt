@@ -1,18 +1,14 @@
 -- The cycle of evaluation: each function meets its contract. The level falls at a declared name, the nesting at a bracket.
-use Prim.Native.Nat.{◌+◌, ◌*◌, ◌-◌}
 use native.Mathlib.Omega.{arith}
-use borrow.Author.Rules.{rules}
-use Rattle.evaluator.specs.Cycle.{factors_in, summands_in}
 use Rattle.evaluator.proofs.Laws.{inside-full, inside-formula, part-refused, part-skip, subscript-refused, subscript-whole, limits-low, limits-high, limits-both, term-refused, term-rest, formula-sign, formula-term, formula-rest}
 use Rattle.evaluator.proofs.Entries.{bounds-wrong, bounds-high, bounds-both, entry-low, entry-bounds}
 use Rattle.evaluator.proofs.Sums.{sum_head, sum-limits, sum-run, sum_body}
 use Rattle.evaluator.proofs.Names.{named-unknown, named-late, named-index, named-refused, named-formula, named-datum, named_other, datum-subscripts, datum-outside, datum-known}
 use Rattle.evaluator.proofs.Alone.{part-single, within-tried}
 use Rattle.evaluator.proofs.Primaries.{primary-wrong, primary-sum, primary-part, primary-name, primary-literal, primary-other}
-use Rattle.evaluator.proofs.Loops.{factors-start, factors-none, factors-wrong, factors-end, factors-refused, factors-unfit, factors-on, summands-start, summands-none, summands-wrong, summands-end, summands-refused, summands-unfit, summands-on, LoopOn}
-use Rattle.evaluator.proofs.Turns.{turns-start, body_end, body_refused, body-unfit, turns-on, TurnsOn}
-use Rattle.evaluator.proofs.Lists.{subscripts-point, numbers-start, numbers-end, numbers-refused, numbers_on, within-start, within_end, within-entry, within-outside, within_on, NumbersOn, WithinOn}
-use Prim.Native.Nat.{ℕ, ◌<◌}
+use Rattle.evaluator.proofs.Loops.{factors-start, factors-none, factors-wrong, factors-end, factors-refused, factors-unfit, factors-on, summands-start, summands-none, summands-wrong, summands-end, summands-refused, summands-unfit, summands-on}
+use Rattle.evaluator.proofs.Turns.{turns-start, body_end, body_refused, body-unfit, turns-on}
+use Rattle.evaluator.proofs.Lists.{subscripts-point, numbers-start, numbers-end, numbers-refused, numbers_on, within-start, within_end, within-entry, within-outside, within_on}
 use Rattle.evaluator.proofs.+evaluation.Goals as goal
 
 pub body-loop-j-init : goal.body-loop-j-init

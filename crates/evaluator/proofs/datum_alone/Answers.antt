@@ -1,5 +1,4 @@
 -- `datum_alone` meets its contract.
-use borrow.Author.Rules.{rules}
 use Rattle.evaluator.proofs.Alone.{datum-fixed}
 use Rattle.evaluator.proofs.datum_alone.Goals as goal
 

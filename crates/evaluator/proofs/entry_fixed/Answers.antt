@@ -1,5 +1,4 @@
 -- `entry_fixed` meets its contract.
-use borrow.Author.Rules.{rules}
 use Rattle.evaluator.proofs.Alone.{entry-fixed}
 use Rattle.evaluator.proofs.entry_fixed.Goals as goal
 

@@ -1,5 +1,4 @@
 -- `formula_alone` meets its contract.
-use borrow.Author.Rules.{rules}
 use Rattle.evaluator.proofs.Alone.{single-is}
 use Rattle.evaluator.proofs.formula_alone.Goals as goal
 

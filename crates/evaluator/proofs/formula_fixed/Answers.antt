@@ -1,5 +1,4 @@
 -- `formula_fixed` meets its contract.
-use borrow.Author.Rules.{rules}
 use Rattle.evaluator.proofs.Alone.{formula-fixed}
 use Rattle.evaluator.proofs.formula_fixed.Goals as goal
 

@@ -1,5 +1,4 @@
 -- `name_alone` meets its contract.
-use borrow.Author.Rules.{rules}
 use Rattle.evaluator.proofs.Alone.{alone-index, alone-datum}
 use Rattle.evaluator.proofs.name_alone.Goals as goal
 

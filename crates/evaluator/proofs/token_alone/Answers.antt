@@ -1,5 +1,4 @@
 -- `token_alone` meets its contract.
-use borrow.Author.Rules.{rules}
 use Rattle.evaluator.proofs.Alone.{alone-literal, alone-name}
 use Rattle.evaluator.proofs.token_alone.Goals as goal
 

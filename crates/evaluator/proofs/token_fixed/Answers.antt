@@ -1,5 +1,4 @@
 -- `token_fixed` meets its contract.
-use borrow.Author.Rules.{rules}
 use Rattle.evaluator.proofs.Alone.{fixed-literal, fixed-name}
 use Rattle.evaluator.proofs.token_fixed.Goals as goal
 

@@ -1,6 +1,5 @@
 -- `value` meets its contract.
 use Rattle.evaluator.proofs.Laws.{value-formula}
-use borrow.Author.Rules.{rules}
 use Rattle.evaluator.proofs.value.Goals as goal
 
 pub returns : goal.returns

@@ -1,7 +1,5 @@
 -- `within_fixed` meets its contract.
-use Prim.Native.Nat.{◌-◌}
-use borrow.Author.Rules.{rules}
-use Rattle.evaluator.proofs.Alone.{FixedOn, fixed-start, fixed-end, fixed-outside, fixed_on}
+use Rattle.evaluator.proofs.Alone.{fixed-start, fixed-end, fixed-outside, fixed_on}
 use Rattle.evaluator.proofs.within_fixed.Goals as goal
 
 pub loop-j-init : goal.loop-j-init

@@ -1,7 +1,6 @@
 -- `within_fixed` meets its contract.
 use Prim.Native.Nat.{◌-◌}
-use borrow.Author.Rules.{rules}
-use Rattle.evaluator.proofs.Alone.{FixedOn, fixed-start, fixed-end, fixed-outside, fixed_on}
+use Rattle.evaluator.proofs.Alone.{FixedOn}
 use Rattle.evaluator.proofs.within_fixed.Given as goal
 
 abbrev pub invariant-loop-j : goal.invariant-loop-j

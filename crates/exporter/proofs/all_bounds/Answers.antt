@@ -1,10 +1,6 @@
 -- `exporter::all_bounds` meets its contract.
-use mathlib.Core.Path.{◌≡◌, refl, ◌∙◌}
-use Prim.Native.Nat.{◌+◌, ◌-◌, ◌*◌, ◌≤◌}
+use mathlib.Core.Path.{refl, ◌∙◌}
 use native.Mathlib.Omega.{arith}
-use lib.ListN.{length}
-use Rattle.listing.proofs.Writing.{Left}
-use Rattle.exporter.specs.Texts.{text_from, bound_text}
 use Rattle.exporter.proofs.Writing.{text-start, text-more, text-end}
 use Rattle.exporter.proofs.all_bounds.Goals as goal
 

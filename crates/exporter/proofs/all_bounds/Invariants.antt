@@ -1,11 +1,9 @@
 -- `exporter::all_bounds` meets its contract.
-use mathlib.Core.Path.{◌≡◌, refl, ◌∙◌}
+use mathlib.Core.Path.{◌≡◌}
 use Prim.Native.Nat.{◌+◌, ◌-◌, ◌*◌, ◌≤◌}
-use native.Mathlib.Omega.{arith}
 use lib.ListN.{length}
 use Rattle.listing.proofs.Writing.{Left}
 use Rattle.exporter.specs.Texts.{text_from, bound_text}
-use Rattle.exporter.proofs.Writing.{text-start, text-more, text-end}
 use Rattle.exporter.proofs.all_bounds.Given as goal
 
 abbrev pub invariant-loop-j : goal.invariant-loop-j

@@ -1,6 +1,5 @@
 -- `exporter::bound_lines` meets its contract.
 use native.Mathlib.Omega.{arith}
-use borrow.Author.Rules.{rules}
 use Rattle.exporter.proofs.Writing.{bound-lines}
 use Rattle.exporter.proofs.bound_lines.Goals as goal
 

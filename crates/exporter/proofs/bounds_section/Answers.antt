@@ -1,5 +1,4 @@
 -- `exporter::bounds_section` meets its contract.
-use borrow.Author.Rules.{rules}
 use Rattle.exporter.proofs.Writing.{bounds-then}
 use Rattle.exporter.proofs.bounds_section.Goals as goal
 

@@ -1,7 +1,6 @@
 -- `exporter::cell` meets its contract.
 use mathlib.Core.Path.{sym, ◌∙◌, ap}
 use native.Mathlib.Omega.{arith}
-use borrow.Author.Rules.{rules}
 use mir.Syntax.{w64}
 use mir.Val.{to_z}
 use Rattle.value.proofs.Integers.{back}

@@ -1,6 +1,5 @@
 -- `exporter::cell_line` meets its contract.
 use native.Mathlib.Omega.{arith}
-use borrow.Author.Rules.{rules}
 use Rattle.exporter.proofs.Writing.{cell-then}
 use Rattle.exporter.proofs.cell_line.Goals as goal
 

@@ -1,6 +1,5 @@
 -- `exporter::cell_lines` meets its contract.
 use native.Mathlib.Omega.{arith}
-use borrow.Author.Rules.{rules}
 use Rattle.exporter.proofs.Writing.{twice-none, twice-at}
 use Rattle.exporter.proofs.cell_lines.Goals as goal
 

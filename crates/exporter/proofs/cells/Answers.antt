@@ -1,12 +1,7 @@
 -- `exporter::cells` meets its contract.
-use mathlib.Core.Path.{◌≡◌, refl, ◌∙◌}
-use Prim.Native.Nat.{◌+◌, ◌-◌, ◌*◌, ◌≤◌}
+use mathlib.Core.Path.{refl, ◌∙◌}
 use native.Mathlib.Omega.{arith}
-use borrow.Author.Rules.{rules}
-use lib.ListN.{length}
 use Rattle.value.proofs.Integers.{back}
-use Rattle.listing.proofs.Writing.{Left}
-use Rattle.exporter.specs.Texts.{text_from, cell_text}
 use Rattle.exporter.proofs.Writing.{text-start, text-more, text-end, cell-told}
 use Rattle.exporter.proofs.cells.Goals as goal
 

@@ -1,13 +1,9 @@
 -- `exporter::cells` meets its contract.
-use mathlib.Core.Path.{◌≡◌, refl, ◌∙◌}
+use mathlib.Core.Path.{◌≡◌}
 use Prim.Native.Nat.{◌+◌, ◌-◌, ◌*◌, ◌≤◌}
-use native.Mathlib.Omega.{arith}
-use borrow.Author.Rules.{rules}
 use lib.ListN.{length}
-use Rattle.value.proofs.Integers.{back}
 use Rattle.listing.proofs.Writing.{Left}
 use Rattle.exporter.specs.Texts.{text_from, cell_text}
-use Rattle.exporter.proofs.Writing.{text-start, text-more, text-end, cell-told}
 use Rattle.exporter.proofs.cells.Given as goal
 
 abbrev pub invariant-loop-i : goal.invariant-loop-i

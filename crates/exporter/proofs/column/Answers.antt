@@ -1,6 +1,5 @@
 -- `exporter::column` meets its contract.
 use native.Mathlib.Omega.{arith}
-use borrow.Author.Rules.{rules}
 use Rattle.exporter.proofs.Writing.{column-then}
 use Rattle.exporter.proofs.column.Goals as goal
 

@@ -1,11 +1,8 @@
 -- `exporter::columns` meets its contract.
-use mathlib.Core.Path.{◌≡◌, refl, ◌∙◌}
-use Prim.Native.Nat.{◌+◌, ◌-◌, ◌*◌, ◌≤◌}
+use mathlib.Core.Path.{refl, ◌∙◌}
 use native.Mathlib.Omega.{arith}
-use lib.ListN.{length}
-use Rattle.listing.proofs.Writing.{Left, left-all}
+use Rattle.listing.proofs.Writing.{left-all}
 use Rattle.exporter.proofs.Writing.{text-more, text-end}
-use Rattle.exporter.specs.Texts.{text_from, column_text}
 use Rattle.exporter.proofs.columns.Goals as goal
 
 pub loop-j-init : goal.loop-j-init

@@ -1,10 +1,8 @@
 -- `exporter::columns` meets its contract.
-use mathlib.Core.Path.{◌≡◌, refl, ◌∙◌}
+use mathlib.Core.Path.{◌≡◌}
 use Prim.Native.Nat.{◌+◌, ◌-◌, ◌*◌, ◌≤◌}
-use native.Mathlib.Omega.{arith}
 use lib.ListN.{length}
-use Rattle.listing.proofs.Writing.{Left, left-all}
-use Rattle.exporter.proofs.Writing.{text-more, text-end}
+use Rattle.listing.proofs.Writing.{Left}
 use Rattle.exporter.specs.Texts.{text_from, column_text}
 use Rattle.exporter.proofs.columns.Given as goal
 

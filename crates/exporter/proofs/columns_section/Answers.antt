@@ -1,6 +1,5 @@
 -- `exporter::columns_section` meets its contract.
 use native.Mathlib.Omega.{arith}
-use borrow.Author.Rules.{rules}
 use Rattle.exporter.proofs.Writing.{columns-then}
 use Rattle.exporter.proofs.columns_section.Goals as goal
 

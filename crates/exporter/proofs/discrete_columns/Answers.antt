@@ -1,6 +1,5 @@
 -- `exporter::discrete_columns` meets its contract.
 use native.Mathlib.Omega.{arith}
-use borrow.Author.Rules.{rules}
 use Rattle.exporter.proofs.Writing.{discrete-none, discrete-then}
 use Rattle.exporter.proofs.discrete_columns.Goals as goal
 

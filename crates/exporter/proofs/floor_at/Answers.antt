@@ -1,5 +1,4 @@
 -- `exporter::floor_at` meets its contract.
-use borrow.Author.Rules.{rules}
 use Rattle.exporter.proofs.Writing.{floor-here, floor-behind}
 use Rattle.exporter.proofs.floor_at.Goals as goal
 

@@ -1,6 +1,5 @@
 -- `exporter::floor_line` meets its contract.
 use native.Mathlib.Omega.{arith}
-use borrow.Author.Rules.{rules}
 use Rattle.exporter.proofs.Writing.{no-floor-line, floor-line}
 use Rattle.exporter.proofs.floor_line.Goals as goal
 

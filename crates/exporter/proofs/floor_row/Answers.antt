@@ -1,6 +1,5 @@
 -- `exporter::floor_row` meets its contract.
 use native.Mathlib.Omega.{arith}
-use borrow.Author.Rules.{rules}
 use Rattle.exporter.proofs.Writing.{no-floor-row, floor-row}
 use Rattle.exporter.proofs.floor_row.Goals as goal
 

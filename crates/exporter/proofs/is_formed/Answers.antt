@@ -1,5 +1,4 @@
 -- `exporter::is_formed` meets its contract.
-use borrow.Author.Rules.{rules}
 use Rattle.exporter.proofs.Writing.{formed-test}
 use Rattle.exporter.proofs.is_formed.Goals as goal
 

@@ -1,6 +1,5 @@
 -- `exporter::named_line` meets its contract.
 use native.Mathlib.Omega.{arith}
-use borrow.Author.Rules.{rules}
 use Rattle.exporter.proofs.Writing.{named-then}
 use Rattle.exporter.proofs.named_line.Goals as goal
 

@@ -1,6 +1,5 @@
 -- `exporter::numbered` meets its contract.
 use native.Mathlib.Omega.{arith}
-use borrow.Author.Rules.{rules}
 use Rattle.value.proofs.Writing.{written_then}
 use Rattle.exporter.proofs.numbered.Goals as goal
 

@@ -1,6 +1,5 @@
 -- `exporter::objective_line` meets its contract.
 use native.Mathlib.Omega.{arith}
-use borrow.Author.Rules.{rules}
 use Rattle.value.proofs.Integers.{back}
 use Rattle.exporter.proofs.Writing.{objective-line}
 use Rattle.exporter.proofs.objective_line.Goals as goal

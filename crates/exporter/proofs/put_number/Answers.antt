@@ -1,6 +1,5 @@
 -- `exporter::put_number` meets its contract.
 use native.Mathlib.Omega.{arith}
-use borrow.Author.Rules.{rules}
 use Rattle.exporter.proofs.Writing.{number-written}
 use Rattle.exporter.proofs.put_number.Goals as goal
 

@@ -1,6 +1,5 @@
 -- `exporter::put_value` meets its contract.
 use native.Mathlib.Omega.{arith}
-use borrow.Author.Rules.{rules}
 use Rattle.listing.proofs.Showing.{shown-most}
 use Rattle.listing.proofs.Writing.{written_from}
 use Rattle.exporter.proofs.put_value.Goals as goal

@@ -1,5 +1,4 @@
 -- `exporter::put_word` meets its contract.
-use borrow.Author.Rules.{rules}
 use Rattle.listing.proofs.Writing.{written_from}
 use Rattle.exporter.proofs.put_word.Goals as goal
 

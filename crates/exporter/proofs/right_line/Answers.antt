@@ -1,6 +1,5 @@
 -- `exporter::right_line` meets its contract.
 use native.Mathlib.Omega.{arith}
-use borrow.Author.Rules.{rules}
 use Rattle.exporter.proofs.Writing.{right-line}
 use Rattle.exporter.proofs.right_line.Goals as goal
 

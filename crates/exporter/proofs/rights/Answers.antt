@@ -1,11 +1,7 @@
 -- `exporter::rights` meets its contract.
-use mathlib.Core.Path.{◌≡◌, refl, ◌∙◌}
-use Prim.Native.Nat.{◌+◌, ◌-◌, ◌*◌, ◌≤◌}
+use mathlib.Core.Path.{refl, ◌∙◌}
 use native.Mathlib.Omega.{arith}
-use lib.ListN.{length}
-use Rattle.listing.proofs.Writing.{Left}
 use Rattle.exporter.proofs.Writing.{text-start, text-more, text-end}
-use Rattle.exporter.specs.Texts.{text_from, right_text}
 use Rattle.exporter.proofs.rights.Goals as goal
 
 pub loop-i-init : goal.loop-i-init

@@ -1,6 +1,5 @@
 -- `exporter::rights_section` meets its contract.
 use native.Mathlib.Omega.{arith}
-use borrow.Author.Rules.{rules}
 use Rattle.exporter.proofs.Writing.{rights-then}
 use Rattle.exporter.proofs.rights_section.Goals as goal
 

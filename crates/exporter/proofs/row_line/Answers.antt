@@ -1,6 +1,5 @@
 -- `exporter::row_line` meets its contract.
 use native.Mathlib.Omega.{arith}
-use borrow.Author.Rules.{rules}
 use Rattle.exporter.proofs.Writing.{less-line, equal-line}
 use Rattle.exporter.proofs.row_line.Goals as goal
 

@@ -1,11 +1,7 @@
 -- `exporter::row_lines` meets its contract.
-use mathlib.Core.Path.{◌≡◌, refl, ◌∙◌}
-use Prim.Native.Nat.{◌+◌, ◌-◌, ◌*◌, ◌≤◌}
+use mathlib.Core.Path.{refl, ◌∙◌}
 use native.Mathlib.Omega.{arith}
-use lib.ListN.{length}
-use Rattle.listing.proofs.Writing.{Left}
 use Rattle.exporter.proofs.Writing.{text-start, text-more, text-end}
-use Rattle.exporter.specs.Texts.{text_from, row_text}
 use Rattle.exporter.proofs.row_lines.Goals as goal
 
 pub loop-i-init : goal.loop-i-init

@@ -1,10 +1,8 @@
 -- `exporter::row_lines` meets its contract.
-use mathlib.Core.Path.{◌≡◌, refl, ◌∙◌}
+use mathlib.Core.Path.{◌≡◌}
 use Prim.Native.Nat.{◌+◌, ◌-◌, ◌*◌, ◌≤◌}
-use native.Mathlib.Omega.{arith}
 use lib.ListN.{length}
 use Rattle.listing.proofs.Writing.{Left}
-use Rattle.exporter.proofs.Writing.{text-start, text-more, text-end}
 use Rattle.exporter.specs.Texts.{text_from, row_text}
 use Rattle.exporter.proofs.row_lines.Given as goal
 

@@ -1,6 +1,5 @@
 -- `exporter::rows_section` meets its contract.
 use native.Mathlib.Omega.{arith}
-use borrow.Author.Rules.{rules}
 use Rattle.exporter.proofs.Writing.{rows_then}
 use Rattle.exporter.proofs.rows_section.Goals as goal
 

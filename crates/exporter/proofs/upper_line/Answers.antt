@@ -1,6 +1,5 @@
 -- `exporter::upper_line` meets its contract.
 use native.Mathlib.Omega.{arith}
-use borrow.Author.Rules.{rules}
 use Rattle.exporter.proofs.Writing.{upper-none, upper-at}
 use Rattle.exporter.proofs.upper_line.Goals as goal
 

@@ -1,6 +1,5 @@
 -- `exporter::value_line` meets its contract.
 use native.Mathlib.Omega.{arith}
-use borrow.Author.Rules.{rules}
 use Rattle.exporter.proofs.Writing.{value-then}
 use Rattle.exporter.proofs.value_line.Goals as goal
 

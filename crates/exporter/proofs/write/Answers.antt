@@ -1,7 +1,6 @@
 -- `exporter::write` meets its contract.
 use mathlib.Core.Path.{sym, ◌∙◌}
 use native.Mathlib.Omega.{arith}
-use borrow.Author.Rules.{rules}
 use borrow.Author.Tests.{not-false}
 use Rattle.exporter.proofs.Told.{Limited, formed-yes, exports-none, exports-all}
 use Rattle.exporter.proofs.write.Goals as goal
@@ -14,6 +13,7 @@ pub overflow_add-n : goal.overflow_add-n
 overflow_add-n c =
     let limits : Limited (c).args.sizes = formed-yes _ (sym c.is_formed.ensures ∙ not-false _ c.if-not-is_formed.false-raw) in
     let e = limits in omega (arith, e.sizes.rows)
+
 pub rows_section-at-requires : goal.rows_section-at-requires
 rows_section-at-requires c =
     let limits : Limited (c).args.sizes = formed-yes _ (sym c.is_formed.ensures ∙ not-false _ c.if-not-is_formed.false-raw) in

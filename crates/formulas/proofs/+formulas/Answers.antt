@@ -1,10 +1,6 @@
 -- The cycle of formulas: each function meets its contract.
-use Prim.Native.Nat.{◌+◌, ◌*◌}
 use Rattle.formulas.proofs.Laws.{inside-full, inside-formula, part-refused, part-sign, nested-full, nested-part, term-refused, term-rest, formula-sign, formula-term, formula-rest, sum_head, sum-lower, sum-upper, sum_body, named-unknown, named-plain, named-datum, named_other, primary-wrong, primary-sum, primary-nested, primary-name, primary-literal, primary-other}
-use Rattle.formulas.proofs.Loops.{FactorsOn, SummandsOn, factors-start, factors-none, factors-wrong, factors-end, factors-refused, factors-on, summands-start, summands-none, summands-wrong, summands-end, summands-refused, summands-on, EntriesOn, subscripts-none, subscripts-open, entries-start, entries-refused, entries-on, entries-last}
-use native.Mathlib.Omega.{arith}
-use borrow.Author.Rules.{rules}
-use Prim.Native.Nat.{ℕ, ◌<◌}
+use Rattle.formulas.proofs.Loops.{factors-start, factors-none, factors-wrong, factors-end, factors-refused, factors-on, summands-start, summands-none, summands-wrong, summands-end, summands-refused, summands-on, subscripts-none, subscripts-open, entries-start, entries-refused, entries-on, entries-last}
 use Rattle.formulas.proofs.+formulas.Goals as goal
 
 pub factors-loop-left-init : goal.factors-loop-left-init

@@ -1,12 +1,7 @@
 -- The cycle of terms, forms and sigmas: each function meets its contract. The number of tokens behind the position
 -- falls from a sigma to the sigma in its body.
-use Prim.Native.Nat.{ℕ, ◌+◌, ◌*◌, ◌-◌, ◌<◌}
-use native.Mathlib.Omega.{arith}
-use mathlib.Core.Bool.{cond}
-use lib.ListN.{length}
-use borrow.Author.Rules.{rules}
 use Rattle.gatherer.proofs.Forms.{body-sigma, body-form, body-wrong, form-term, form-rest, form-sign, sigma-full, sigma-runs, sigma-refused, term-variable, term-sigma, term-end, sigma-falls, term-falls, body-falls}
-use Rattle.gatherer.proofs.Loops.{RunsOn, TermsOn, runs-start, runs-refused, runs_on, runs-end, terms-start, terms-refused, terms-end, terms-wrong, terms-on, terms-none}
+use Rattle.gatherer.proofs.Loops.{runs-start, runs-refused, runs_on, runs-end, terms-start, terms-refused, terms-end, terms-wrong, terms-on, terms-none}
 use Rattle.gatherer.proofs.+gathering.Goals as goal
 
 pub body-sigma-requires : goal.body-sigma-requires

@@ -1,6 +1,5 @@
 -- `end_of` meets its contract.
-use borrow.Author.Rules.{rules}
-use Rattle.gatherer.proofs.Endings.{EndingOn, ending-start, ending-none, ending-wrong, ending-sigma, ending-variable, ending-refused, ending-on}
+use Rattle.gatherer.proofs.Endings.{ending-start, ending-none, ending-wrong, ending-sigma, ending-variable, ending-refused, ending-on}
 use Rattle.gatherer.proofs.end_of.Goals as goal
 
 pub loop-left-init : goal.loop-left-init

@@ -1,6 +1,5 @@
 -- `end_of` meets its contract.
-use borrow.Author.Rules.{rules}
-use Rattle.gatherer.proofs.Endings.{EndingOn, ending-start, ending-none, ending-wrong, ending-sigma, ending-variable, ending-refused, ending-on}
+use Rattle.gatherer.proofs.Endings.{EndingOn}
 use Rattle.gatherer.proofs.end_of.Given as goal
 
 abbrev pub invariant-loop-left : goal.invariant-loop-left

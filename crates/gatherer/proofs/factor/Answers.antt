@@ -1,5 +1,4 @@
 -- `factor` meets its contract.
-use borrow.Author.Rules.{rules}
 use Rattle.gatherer.proofs.Endings.{factor-refused, factor-wrong, factor-product}
 use Rattle.gatherer.proofs.factor.Goals as goal
 

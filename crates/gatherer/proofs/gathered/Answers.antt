@@ -1,5 +1,4 @@
 -- `gathered` meets its contract.
-use borrow.Author.Rules.{rules}
 use Rattle.gatherer.proofs.Forms.{gathered-form}
 use Rattle.gatherer.proofs.gathered.Goals as goal
 

@@ -1,5 +1,4 @@
 -- `number` meets its contract.
-use borrow.Author.Rules.{rules}
 use Rattle.gatherer.proofs.Numbers.{number-subscripts, number-outside, number-nothing, number-found}
 use Rattle.gatherer.proofs.number.Goals as goal
 

@@ -1,5 +1,4 @@
 -- `run_of` meets its contract.
-use borrow.Author.Rules.{rules}
 use Rattle.gatherer.proofs.Variables.{run-head, run-limits, run-refused, run-back, run-count}
 use Rattle.gatherer.proofs.run_of.Goals as goal
 

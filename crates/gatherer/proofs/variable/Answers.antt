@@ -1,5 +1,4 @@
 -- `variable` meets its contract.
-use borrow.Author.Rules.{rules}
 use Rattle.gatherer.proofs.Variables.{variable-refused, variable-fits, variable-unfit}
 use Rattle.gatherer.proofs.variable.Goals as goal
 

@@ -1,5 +1,4 @@
 -- `variable_at` meets its contract.
-use borrow.Author.Rules.{rules}
 use Rattle.gatherer.proofs.Numbers.{at_mark_lem, at-unknown, at-late, at-variable, at_other}
 use Rattle.gatherer.proofs.variable_at.Goals as goal
 

@@ -1,5 +1,4 @@
 -- `generator::answer_with` meets its contract.
-use borrow.Author.Rules.{rules}
 use Rattle.generator.proofs.Answers.{report-gives}
 use Rattle.generator.proofs.answer_with.Goals as goal
 

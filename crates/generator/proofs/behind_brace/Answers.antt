@@ -1,5 +1,4 @@
 -- `generator::behind_brace` meets its contract.
-use borrow.Author.Rules.{rules}
 use Rattle.generator.proofs.Listings.{brace-inside, brace-outside}
 use Rattle.generator.proofs.behind_brace.Goals as goal
 

@@ -1,5 +1,4 @@
 -- `generator::call` meets its contract.
-use borrow.Author.Rules.{rules}
 use Rattle.generator.proofs.Entries.{calls-list, calls-export, calls-read}
 use Rattle.generator.proofs.call.Goals as goal
 

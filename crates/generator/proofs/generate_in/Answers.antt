@@ -1,5 +1,4 @@
 -- `generator::generate_in` meets its contract.
-use borrow.Author.Rules.{rules}
 use Rattle.generator.proofs.Listings.{text-unread, text-printed}
 use Rattle.generator.proofs.generate_in.Goals as goal
 

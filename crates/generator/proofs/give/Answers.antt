@@ -1,5 +1,4 @@
 -- `generator::give` meets its contract.
-use borrow.Author.Rules.{rules}
 use Rattle.generator.proofs.Answers.{give-refused, give-long, give-printed}
 use Rattle.generator.proofs.give.Goals as goal
 

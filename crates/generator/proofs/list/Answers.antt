@@ -1,6 +1,5 @@
 -- `generator::list` meets its contract.
 use mathlib.Core.Path.{refl}
-use borrow.Author.Rules.{rules}
 use Rattle.generator.proofs.list.Goals as goal
 
 pub returns : goal.returns

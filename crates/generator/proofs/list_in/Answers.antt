@@ -1,5 +1,4 @@
 -- `generator::list_in` meets its contract.
-use borrow.Author.Rules.{rules}
 use Rattle.generator.proofs.Listings.{print-refused, print-done}
 use Rattle.generator.proofs.list_in.Goals as goal
 

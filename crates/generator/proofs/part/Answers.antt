@@ -1,5 +1,4 @@
 -- `generator::part` meets its contract.
-use borrow.Author.Rules.{rules}
 use Rattle.model.proofs.Laws.{rows-part, tokens-part}
 use Rattle.generator.proofs.part.Goals as goal
 

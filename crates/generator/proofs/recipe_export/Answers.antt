@@ -1,5 +1,4 @@
 -- `generator::recipe_export` meets its contract.
-use borrow.Author.Rules.{rules}
 use Rattle.generator.proofs.Exports.{export-defined, export-carries}
 use Rattle.generator.proofs.recipe_export.Goals as goal
 

@@ -1,5 +1,4 @@
 -- `generator::recipe_generate` meets its contract.
-use borrow.Author.Rules.{rules}
 use Rattle.generator.proofs.Answers.{listing-defined, listing-accepts, listing-means}
 use Rattle.generator.proofs.recipe_generate.Goals as goal
 

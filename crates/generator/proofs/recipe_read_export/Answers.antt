@@ -1,5 +1,4 @@
 -- `generator::recipe_read_export` meets its contract.
-use borrow.Author.Rules.{rules}
 use Rattle.generator.proofs.Exports.{reads-back}
 use Rattle.generator.proofs.recipe_read_export.Goals as goal
 

@@ -1,5 +1,4 @@
 -- `generator::reread` meets its contract.
-use borrow.Author.Rules.{rules}
 use Rattle.generator.proofs.Exports.{reread-read, reread-nothing}
 use Rattle.generator.proofs.reread.Goals as goal
 

@@ -1,5 +1,4 @@
 -- `generator::write` meets its contract.
-use borrow.Author.Rules.{rules}
 use Rattle.model.proofs.Laws.{rows-part}
 use Rattle.generator.proofs.Listings.{written-listing}
 use Rattle.generator.proofs.Exports.{written-export}

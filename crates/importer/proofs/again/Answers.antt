@@ -1,5 +1,4 @@
 -- `importer::again` meets its contract.
-use borrow.Author.Rules.{rules}
 use Rattle.importer.proofs.Stripping.{move-inside}
 use Rattle.importer.proofs.Coefficients.{again-none, again-head, again-other, again-all}
 use Rattle.importer.proofs.again.Goals as goal

@@ -1,10 +1,7 @@
 -- `importer::bounds` meets its contract.
-use Prim.Native.Nat.{◌-◌}
 use native.Mathlib.Omega.{arith}
-use borrow.Author.Rules.{rules}
-use Rattle.importer.specs.Sections.{bounds_at, bounds_bytes}
 use Rattle.importer.proofs.Sides.{bounds-more, bounds-stop}
-use Rattle.importer.proofs.Walking.{Each, each_first, each-end}
+use Rattle.importer.proofs.Walking.{each_first, each-end}
 use Rattle.importer.proofs.bounds.Goals as goal
 
 pub loop-j-init : goal.loop-j-init

@@ -1,10 +1,7 @@
 -- `importer::bounds` meets its contract.
 use Prim.Native.Nat.{◌-◌}
-use native.Mathlib.Omega.{arith}
-use borrow.Author.Rules.{rules}
 use Rattle.importer.specs.Sections.{bounds_at, bounds_bytes}
-use Rattle.importer.proofs.Sides.{bounds-more, bounds-stop}
-use Rattle.importer.proofs.Walking.{Each, each_first, each-end}
+use Rattle.importer.proofs.Walking.{Each}
 use Rattle.importer.proofs.bounds.Given as goal
 
 abbrev pub invariant-loop-j : goal.invariant-loop-j

@@ -1,6 +1,5 @@
 -- `importer::bounds_at` meets its contract.
 use native.Mathlib.Omega.{arith}
-use borrow.Author.Rules.{rules}
 use Rattle.importer.proofs.Sides.{bounds-none, bounds-open, bounds-found}
 use Rattle.importer.proofs.Values.{found_inside}
 use Rattle.importer.proofs.bounds_at.Goals as goal

@@ -1,6 +1,5 @@
 -- `importer::bounds_part` meets its contract.
 use native.Mathlib.Omega.{arith}
-use borrow.Author.Rules.{rules}
 use Rattle.importer.proofs.Sides.{part_none, part-stop, part-open, part-all}
 use Rattle.importer.proofs.Stripping.{move-inside}
 use Rattle.importer.proofs.Walking.{step-inside}

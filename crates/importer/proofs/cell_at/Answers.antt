@@ -1,6 +1,5 @@
 -- `importer::cell_at` meets its contract.
 use native.Mathlib.Omega.{arith}
-use borrow.Author.Rules.{rules}
 use Rattle.importer.proofs.Coefficients.{cell-blank, cell-unread, cell-zero, cell_other, cell-found}
 use Rattle.importer.proofs.Stripping.{move-inside}
 use Rattle.importer.proofs.Values.{found_inside, found-valid}

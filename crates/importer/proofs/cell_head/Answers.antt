@@ -1,6 +1,5 @@
 -- `importer::cell_head` meets its contract.
 use native.Mathlib.Omega.{arith}
-use borrow.Author.Rules.{rules}
 use Rattle.importer.proofs.Stripping.{move-inside, head-none, head-number, head-all}
 use Rattle.importer.proofs.cell_head.Goals as goal
 

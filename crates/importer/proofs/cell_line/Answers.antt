@@ -1,6 +1,5 @@
 -- `importer::cell_line` meets its contract.
 use native.Mathlib.Omega.{arith}
-use borrow.Author.Rules.{rules}
 use Rattle.importer.proofs.Lines.{zero-line, some-line}
 use Rattle.importer.proofs.cell_line.Goals as goal
 

@@ -1,10 +1,7 @@
 -- `importer::cells` meets its contract.
-use Prim.Native.Nat.{◌-◌}
 use native.Mathlib.Omega.{arith}
-use borrow.Author.Rules.{rules}
-use Rattle.importer.specs.Sections.{cell_at, cell_bytes}
 use Rattle.importer.proofs.Coefficients.{cells-more, cells-stop}
-use Rattle.importer.proofs.Walking.{Each, each_first, each-end}
+use Rattle.importer.proofs.Walking.{each_first, each-end}
 use Rattle.importer.proofs.cells.Goals as goal
 
 pub loop-i-init : goal.loop-i-init

@@ -1,10 +1,7 @@
 -- `importer::cells` meets its contract.
 use Prim.Native.Nat.{◌-◌}
-use native.Mathlib.Omega.{arith}
-use borrow.Author.Rules.{rules}
 use Rattle.importer.specs.Sections.{cell_at, cell_bytes}
-use Rattle.importer.proofs.Coefficients.{cells-more, cells-stop}
-use Rattle.importer.proofs.Walking.{Each, each_first, each-end}
+use Rattle.importer.proofs.Walking.{Each}
 use Rattle.importer.proofs.cells.Given as goal
 
 abbrev pub invariant-loop-i : goal.invariant-loop-i

@@ -1,6 +1,5 @@
 -- `importer::column` meets its contract.
 use native.Mathlib.Omega.{arith}
-use borrow.Author.Rules.{rules}
 use Rattle.importer.proofs.Coefficients.{column-none, column-open, column-all, column-place}
 use Rattle.importer.proofs.Walking.{step-inside}
 use Rattle.importer.proofs.column.Goals as goal

@@ -1,6 +1,5 @@
 -- `importer::column_line` meets its contract.
 use native.Mathlib.Omega.{arith}
-use borrow.Author.Rules.{rules}
 use Rattle.language.specs.Listing.{col_line}
 use Rattle.listing.proofs.Lengths.{line-most}
 use Rattle.listing.proofs.Writing.{written_from}

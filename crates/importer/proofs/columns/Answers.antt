@@ -1,8 +1,6 @@
 -- `importer::columns` meets its contract.
-use Prim.Native.Nat.{◌-◌}
 use native.Mathlib.Omega.{arith}
-use borrow.Author.Rules.{rules}
-use Rattle.importer.proofs.Variables.{Several, several-first, several-end, several-stop, several-none, several-more}
+use Rattle.importer.proofs.Variables.{several-first, several-end, several-stop, several-none, several-more}
 use Rattle.importer.proofs.columns.Goals as goal
 
 pub loop-k-init : goal.loop-k-init

@@ -1,6 +1,5 @@
 -- `importer::discrete` meets its contract.
 use native.Mathlib.Omega.{arith}
-use borrow.Author.Rules.{rules}
 use Rattle.importer.proofs.Stripping.{move-inside}
 use Rattle.importer.proofs.Variables.{discrete-none, discrete-bad, discrete-empty, discrete-open, discrete-all, columns-inside}
 use Rattle.importer.proofs.discrete.Goals as goal

@@ -1,6 +1,5 @@
 -- `importer::ending` meets its contract.
 use native.Mathlib.Omega.{arith}
-use borrow.Author.Rules.{rules}
 use Rattle.importer.proofs.Walking.{step-inside}
 use Rattle.importer.proofs.Whole.{ending-none, ending-place, ending-some}
 use Rattle.importer.proofs.ending.Goals as goal

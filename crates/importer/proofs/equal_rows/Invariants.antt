@@ -1,8 +1,6 @@
 -- `importer::equal_rows` meets its contract.
 use Prim.Native.Nat.{◌-◌}
-use native.Mathlib.Omega.{arith}
-use borrow.Author.Rules.{rules}
-use Rattle.importer.proofs.Rows.{Counting, count-first, count-out, count-stop, count-more}
+use Rattle.importer.proofs.Rows.{Counting}
 use Rattle.importer.proofs.equal_rows.Given as goal
 
 abbrev pub invariant-loop-k : goal.invariant-loop-k

@@ -1,5 +1,4 @@
 -- `importer::floor_at` meets its contract.
-use borrow.Author.Rules.{rules}
 use Rattle.importer.proofs.Sides.{floor-absent, floor-missing, floor-found}
 use Rattle.importer.proofs.floor_at.Goals as goal
 

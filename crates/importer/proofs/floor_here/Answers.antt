@@ -1,5 +1,4 @@
 -- `importer::floor_here` meets its contract.
-use borrow.Author.Rules.{rules}
 use Rattle.importer.proofs.Rows.{floor-none, floor-some}
 use Rattle.importer.proofs.floor_here.Goals as goal
 

@@ -1,5 +1,4 @@
 -- `importer::has_floor` meets its contract.
-use borrow.Author.Rules.{rules}
 use Rattle.importer.proofs.Rows.{floor-behind}
 use Rattle.importer.proofs.has_floor.Goals as goal
 

@@ -1,5 +1,4 @@
 -- `importer::is_print` meets its contract.
-use borrow.Author.Rules.{rules}
 use Rattle.importer.proofs.Values.{print-other, print-same}
 use Rattle.importer.proofs.is_print.Goals as goal
 

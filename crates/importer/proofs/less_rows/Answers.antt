@@ -1,9 +1,7 @@
 -- `importer::less_rows` meets its contract.
-use Prim.Native.Nat.{◌-◌}
 use native.Mathlib.Omega.{arith}
-use borrow.Author.Rules.{rules}
 use Rattle.importer.proofs.Stripping.{move-inside}
-use Rattle.importer.proofs.Rows.{Listing, list-first, list-out, list-stop, list-more}
+use Rattle.importer.proofs.Rows.{list-first, list-out, list-stop, list-more}
 use Rattle.importer.proofs.less_rows.Goals as goal
 
 pub loop-k-init : goal.loop-k-init

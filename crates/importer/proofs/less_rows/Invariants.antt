@@ -1,9 +1,6 @@
 -- `importer::less_rows` meets its contract.
 use Prim.Native.Nat.{◌-◌}
-use native.Mathlib.Omega.{arith}
-use borrow.Author.Rules.{rules}
-use Rattle.importer.proofs.Stripping.{move-inside}
-use Rattle.importer.proofs.Rows.{Listing, list-first, list-out, list-stop, list-more}
+use Rattle.importer.proofs.Rows.{Listing}
 use Rattle.importer.proofs.less_rows.Given as goal
 
 abbrev pub invariant-loop-k : goal.invariant-loop-k

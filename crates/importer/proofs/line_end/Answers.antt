@@ -1,8 +1,5 @@
 -- `importer::line_end` meets its contract.
-use Prim.Native.Nat.{◌-◌}
-use borrow.Author.Rules.{rules}
-use lib.ListN.{length}
-use Rattle.importer.proofs.Values.{Running, run-first, run_more, run-stop, run_out}
+use Rattle.importer.proofs.Values.{run-first, run_more, run-stop, run_out}
 use Rattle.importer.proofs.line_end.Goals as goal
 
 pub loop-i-init : goal.loop-i-init

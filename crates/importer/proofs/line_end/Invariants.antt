@@ -1,8 +1,7 @@
 -- `importer::line_end` meets its contract.
 use Prim.Native.Nat.{◌-◌}
-use borrow.Author.Rules.{rules}
 use lib.ListN.{length}
-use Rattle.importer.proofs.Values.{Running, run-first, run_more, run-stop, run_out}
+use Rattle.importer.proofs.Values.{Running}
 use Rattle.importer.proofs.line_end.Given as goal
 
 abbrev pub invariant-loop-i : goal.invariant-loop-i

@@ -1,5 +1,4 @@
 -- `importer::line_value` meets its contract.
-use borrow.Author.Rules.{rules}
 use Rattle.importer.proofs.Stripping.{move-inside}
 use Rattle.importer.proofs.Values.{line-none, line-some}
 use Rattle.importer.proofs.line_value.Goals as goal

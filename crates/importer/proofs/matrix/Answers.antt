@@ -1,6 +1,5 @@
 -- `importer::matrix` meets its contract.
 use native.Mathlib.Omega.{arith}
-use borrow.Author.Rules.{rules}
 use Rattle.importer.proofs.Variables.{columns-inside, columns-few, matrix-none, matrix-bad, matrix-all, matrix-few, matrix-place, matrix-sum}
 use Rattle.importer.proofs.matrix.Goals as goal
 

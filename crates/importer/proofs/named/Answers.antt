@@ -1,6 +1,5 @@
 -- `importer::named` meets its contract.
 use native.Mathlib.Omega.{arith}
-use borrow.Author.Rules.{rules}
 use Rattle.importer.proofs.Stripping.{move-inside, named_none, named-number, named-all}
 use Rattle.importer.proofs.named.Goals as goal
 

@@ -1,6 +1,5 @@
 -- `importer::opening` meets its contract.
 use native.Mathlib.Omega.{arith}
-use borrow.Author.Rules.{rules}
 use Rattle.importer.proofs.Rows.{open_none, open-other, open-all}
 use Rattle.importer.proofs.Stripping.{move-inside}
 use Rattle.importer.proofs.opening.Goals as goal

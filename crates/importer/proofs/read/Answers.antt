@@ -1,5 +1,4 @@
 -- `importer::read` meets its contract.
-use borrow.Author.Rules.{rules}
 use Rattle.importer.proofs.Whole.{read_none, open-inside, open-fits, open-size, open-few, read_some}
 use Rattle.importer.proofs.read.Goals as goal
 

@@ -1,5 +1,4 @@
 -- `importer::read_value` meets its contract.
-use borrow.Author.Rules.{rules}
 use Rattle.importer.proofs.Values.{value-big, value-other, value-open, value_found}
 use Rattle.importer.proofs.read_value.Goals as goal
 

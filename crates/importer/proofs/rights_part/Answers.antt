@@ -1,6 +1,5 @@
 -- `importer::rights_part` meets its contract.
 use native.Mathlib.Omega.{arith}
-use borrow.Author.Rules.{rules}
 use Rattle.importer.proofs.Sides.{rights-none, rights-some}
 use Rattle.importer.proofs.Stripping.{move-inside}
 use Rattle.importer.proofs.rights_part.Goals as goal

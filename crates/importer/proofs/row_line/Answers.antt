@@ -1,6 +1,5 @@
 -- `importer::row_line` meets its contract.
 use native.Mathlib.Omega.{arith}
-use borrow.Author.Rules.{rules}
 use Rattle.listing.specs.Kinds.{kind_in}
 use Rattle.listing.proofs.Lengths.{row-most}
 use Rattle.listing.proofs.Writing.{written_from}

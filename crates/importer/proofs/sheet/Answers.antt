@@ -1,6 +1,5 @@
 -- `importer::sheet` meets its contract.
 use native.Mathlib.Omega.{arith}
-use borrow.Author.Rules.{rules}
 use Rattle.importer.proofs.Whole.{sheet-none, sheet-inside, sheet-few, sheet-bad, sheet-place, sheet-long, sheet-never, sheet-all}
 use Rattle.importer.proofs.sheet.Goals as goal
 

@@ -1,6 +1,5 @@
 -- `importer::side_lines` meets its contract.
 use native.Mathlib.Omega.{arith}
-use borrow.Author.Rules.{rules}
 use Rattle.importer.proofs.Lines.{side-lines}
 use Rattle.importer.proofs.side_lines.Goals as goal
 

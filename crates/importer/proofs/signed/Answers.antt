@@ -1,5 +1,4 @@
 -- `importer::signed` meets its contract.
-use borrow.Author.Rules.{rules}
 use Rattle.importer.proofs.Values.{signed-empty, signed-plain, minus-big, minus-fits}
 use Rattle.importer.proofs.signed.Goals as goal
 

@@ -1,8 +1,5 @@
 -- `importer::strip` meets its contract.
-use Prim.Native.Nat.{◌-◌}
-use borrow.Author.Rules.{rules}
-use lib.ListN.{length}
-use Rattle.importer.proofs.Stripping.{Stripped, strip-first, strip-out, strip-other, strip-more, strip-end}
+use Rattle.importer.proofs.Stripping.{strip-first, strip-out, strip-other, strip-more, strip-end}
 use Rattle.importer.proofs.strip.Goals as goal
 
 pub loop-i-init : goal.loop-i-init

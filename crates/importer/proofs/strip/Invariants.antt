@@ -1,8 +1,7 @@
 -- `importer::strip` meets its contract.
 use Prim.Native.Nat.{◌-◌}
-use borrow.Author.Rules.{rules}
 use lib.ListN.{length}
-use Rattle.importer.proofs.Stripping.{Stripped, strip-first, strip-out, strip-other, strip-more, strip-end}
+use Rattle.importer.proofs.Stripping.{Stripped}
 use Rattle.importer.proofs.strip.Given as goal
 
 abbrev pub invariant-loop-i : goal.invariant-loop-i

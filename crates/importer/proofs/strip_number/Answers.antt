@@ -1,5 +1,4 @@
 -- `importer::strip_number` meets its contract.
-use borrow.Author.Rules.{rules}
 use Rattle.importer.proofs.Values.{number-strips}
 use Rattle.importer.proofs.strip_number.Goals as goal
 

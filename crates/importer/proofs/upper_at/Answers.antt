@@ -1,5 +1,4 @@
 -- `importer::upper_at` meets its contract.
-use borrow.Author.Rules.{rules}
 use Rattle.importer.proofs.Sides.{upper-absent, upper-none, upper-some}
 use Rattle.importer.proofs.upper_at.Goals as goal
 

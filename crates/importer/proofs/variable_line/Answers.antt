@@ -1,6 +1,5 @@
 -- `importer::variable_line` meets its contract.
 use native.Mathlib.Omega.{arith}
-use borrow.Author.Rules.{rules}
 use Rattle.listing.proofs.Lengths.{variable-most}
 use Rattle.listing.proofs.Writing.{written_from}
 use Rattle.rows.specs.End.{end_of}

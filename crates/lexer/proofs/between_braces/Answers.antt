@@ -1,5 +1,4 @@
 -- `lexer::between_braces` meets its contract.
-use borrow.Author.Rules.{rules}
 use Rattle.lexer.proofs.Runs.{braces-out, run-slice}
 use Rattle.lexer.proofs.between_braces.Goals as goal
 

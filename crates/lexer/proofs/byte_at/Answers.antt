@@ -1,6 +1,5 @@
 -- `lexer::byte_at` meets its contract.
 use mathlib.Core.Path.{sym}
-use borrow.Author.Rules.{rules}
 use lib.ListN.{get_or-eq_default}
 use Rattle.lexer.proofs.byte_at.Goals as goal
 

@@ -1,5 +1,4 @@
 -- `lexer::capital_word` meets its contract.
-use borrow.Author.Rules.{rules}
 use Rattle.lexer.specs.Marks.{capital_words}
 use Rattle.lexer.proofs.Words.{word_none, word-or}
 use Rattle.lexer.proofs.capital_word.Goals as goal

@@ -1,5 +1,4 @@
 -- `lexer::ends_count` meets its contract.
-use borrow.Author.Rules.{rules}
 use Rattle.lexer.specs.Text.{uncounted}
 use Rattle.lexer.proofs.Calls.{ends_is}
 use Rattle.lexer.proofs.ends_count.Goals as goal

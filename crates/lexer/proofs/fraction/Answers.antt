@@ -1,5 +1,4 @@
 -- `lexer::fraction` meets its contract.
-use borrow.Author.Rules.{rules}
 use Rattle.lexer.proofs.Tokens.{fraction-is}
 use Rattle.lexer.proofs.fraction.Goals as goal
 

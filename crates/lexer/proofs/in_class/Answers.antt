@@ -1,5 +1,4 @@
 -- `lexer::in_class` meets its contract.
-use borrow.Author.Rules.{rules}
 use Rattle.lexer.proofs.Runs.{class-is}
 use Rattle.lexer.proofs.in_class.Goals as goal
 

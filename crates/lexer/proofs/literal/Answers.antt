@@ -1,5 +1,4 @@
 -- `lexer::literal` meets its contract.
-use borrow.Author.Rules.{rules}
 use Rattle.lexer.proofs.Tokens.{point-after, literal-fraction, literal-whole}
 use Rattle.lexer.proofs.literal.Goals as goal
 

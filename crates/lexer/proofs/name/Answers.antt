@@ -1,5 +1,4 @@
 -- `lexer::name` meets its contract.
-use borrow.Author.Rules.{rules}
 use Rattle.rules.specs.Limits.{name_length}
 use Rattle.lexer.proofs.Tokens.{name-word, name_new, name-long}
 use Rattle.lexer.proofs.name.Goals as goal

@@ -1,5 +1,4 @@
 -- `lexer::order` meets its contract.
-use borrow.Author.Rules.{rules}
 use Rattle.lexer.proofs.Tokens.{order-yes, order-no}
 use Rattle.lexer.proofs.order.Goals as goal
 

@@ -1,5 +1,4 @@
 -- `lexer::other` meets its contract.
-use borrow.Author.Rules.{rules}
 use Rattle.lexer.proofs.Tokens.{other-string, other-most, other-least, other-wrong}
 use Rattle.lexer.proofs.other.Goals as goal
 

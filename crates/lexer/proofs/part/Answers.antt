@@ -1,5 +1,4 @@
 -- `lexer::part` meets its contract.
-use borrow.Author.Rules.{rules}
 use Rattle.lexer.proofs.Runs.{part_out, part-rest, part-whole}
 use Rattle.lexer.proofs.part.Goals as goal
 

@@ -1,5 +1,4 @@
 -- `lexer::pointed` meets its contract.
-use borrow.Author.Rules.{rules}
 use Rattle.lexer.proofs.Tokens.{point-end, point-here}
 use Rattle.lexer.proofs.pointed.Goals as goal
 

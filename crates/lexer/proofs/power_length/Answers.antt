@@ -1,5 +1,4 @@
 -- `lexer::power_length` meets its contract.
-use borrow.Author.Rules.{rules}
 use Rattle.lexer.proofs.Powers.{power-out, power-other, power-here}
 use Rattle.lexer.proofs.power_length.Goals as goal
 

@@ -1,5 +1,4 @@
 -- `lexer::power_size` meets its contract.
-use borrow.Author.Rules.{rules}
 use Rattle.lexer.proofs.Powers.{size-long, size_none, size-some}
 use Rattle.lexer.proofs.power_size.Goals as goal
 

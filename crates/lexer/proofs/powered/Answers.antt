@@ -1,5 +1,4 @@
 -- `lexer::powered` meets its contract.
-use borrow.Author.Rules.{rules}
 use Rattle.lexer.proofs.Powers.{powered-is}
 use Rattle.lexer.proofs.powered.Goals as goal
 

@@ -1,8 +1,5 @@
 -- `lexer::run_length` meets its contract.
-use Prim.Native.Nat.{◌-◌}
-use borrow.Author.Rules.{rules}
-use lib.ListN.{length}
-use Rattle.lexer.proofs.Runs.{Run, run-first, run_more, run-stop, run_out}
+use Rattle.lexer.proofs.Runs.{run-first, run_more, run-stop, run_out}
 use Rattle.lexer.proofs.run_length.Goals as goal
 
 pub loop-i-init : goal.loop-i-init

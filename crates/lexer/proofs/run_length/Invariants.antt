@@ -1,8 +1,7 @@
 -- `lexer::run_length` meets its contract.
 use Prim.Native.Nat.{◌-◌}
-use borrow.Author.Rules.{rules}
 use lib.ListN.{length}
-use Rattle.lexer.proofs.Runs.{Run, run-first, run_more, run-stop, run_out}
+use Rattle.lexer.proofs.Runs.{Run}
 use Rattle.lexer.proofs.run_length.Given as goal
 
 abbrev pub invariant-loop-i : goal.invariant-loop-i

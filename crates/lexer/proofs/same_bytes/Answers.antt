@@ -1,8 +1,5 @@
 -- `lexer::same_bytes` meets its contract.
-use Prim.Native.Nat.{◌-◌}
-use borrow.Author.Rules.{rules}
-use lib.ListN.{length}
-use Rattle.lexer.proofs.Same.{Same, same_length, same_first, same_more, same_stop, same_out}
+use Rattle.lexer.proofs.Same.{same_length, same_first, same_more, same_stop, same_out}
 use Rattle.lexer.proofs.same_bytes.Goals as goal
 
 pub returns-then-a-b : goal.returns-then-a-b

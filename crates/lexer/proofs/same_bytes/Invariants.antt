@@ -1,8 +1,7 @@
 -- `lexer::same_bytes` meets its contract.
 use Prim.Native.Nat.{◌-◌}
-use borrow.Author.Rules.{rules}
 use lib.ListN.{length}
-use Rattle.lexer.proofs.Same.{Same, same_length, same_first, same_more, same_stop, same_out}
+use Rattle.lexer.proofs.Same.{Same}
 use Rattle.lexer.proofs.same_bytes.Given as goal
 
 abbrev pub invariant-loop-i : goal.invariant-loop-i

@@ -1,5 +1,4 @@
 -- `lexer::sign_length` meets its contract.
-use borrow.Author.Rules.{rules}
 use Rattle.lexer.proofs.Powers.{sign-some, sign-none}
 use Rattle.lexer.proofs.sign_length.Goals as goal
 

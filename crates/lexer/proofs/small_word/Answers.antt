@@ -1,5 +1,4 @@
 -- `lexer::small_word` meets its contract.
-use borrow.Author.Rules.{rules}
 use Rattle.lexer.specs.Marks.{small_words}
 use Rattle.lexer.proofs.Words.{word_none, word-or}
 use Rattle.lexer.proofs.small_word.Goals as goal

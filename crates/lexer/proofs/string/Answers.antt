@@ -1,5 +1,4 @@
 -- `lexer::string` meets its contract.
-use borrow.Author.Rules.{rules}
 use Rattle.rules.specs.Limits.{string_length}
 use Rattle.lexer.proofs.Tokens.{string-strange, string-good, string-wrong}
 use Rattle.lexer.proofs.string.Goals as goal

@@ -1,5 +1,4 @@
 -- `lexer::token_at` meets its contract.
-use borrow.Author.Rules.{rules}
 use Rattle.lexer.proofs.Tokens.{token-sign, token-number, token-name, token-word, token-other}
 use Rattle.lexer.proofs.token_at.Goals as goal
 

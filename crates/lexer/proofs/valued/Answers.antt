@@ -1,5 +1,4 @@
 -- `lexer::valued` meets its contract.
-use borrow.Author.Rules.{rules}
 use Rattle.lexer.proofs.Tokens.{found-is}
 use Rattle.lexer.proofs.valued.Goals as goal
 

@@ -1,5 +1,4 @@
 -- `lexer::word` meets its contract.
-use borrow.Author.Rules.{rules}
 use Rattle.lexer.proofs.Tokens.{word-mark, word-wrong}
 use Rattle.lexer.proofs.word.Goals as goal
 

@@ -1,5 +1,4 @@
 -- `lexer::word_or` meets its contract.
-use borrow.Author.Rules.{rules}
 use Rattle.lexer.proofs.Words.{word_same, word-other}
 use Rattle.lexer.proofs.word_or.Goals as goal
 

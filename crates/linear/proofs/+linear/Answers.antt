@@ -1,9 +1,5 @@
 -- The cycle of terms, forms and sigmas: each function meets its contract.
-use Prim.Native.Nat.{◌+◌, ◌*◌}
-use Rattle.linear.proofs.Laws.{TermOn, term-start, term-none, term-wrong, term-sigma, term-variable, term-primary, term-star, term-on, TermsOn, terms-start, terms-none, terms-wrong, terms-end, terms-refused, terms-on, form-sign, form-term, form-rest, body-wrong, body-sigma, body-plain, sigma-head, sigma-full, sigma-lower, sigma-upper, sigma-body, sigma-close}
-use native.Mathlib.Omega.{arith}
-use borrow.Author.Rules.{rules}
-use Prim.Native.Nat.{ℕ, ◌<◌}
+use Rattle.linear.proofs.Laws.{term-start, term-none, term-wrong, term-sigma, term-variable, term-primary, term-star, term-on, terms-start, terms-none, terms-wrong, terms-end, terms-refused, terms-on, form-sign, form-term, form-rest, body-wrong, body-sigma, body-plain, sigma-head, sigma-full, sigma-lower, sigma-upper, sigma-body, sigma-close}
 use Rattle.linear.proofs.+linear.Goals as goal
 
 pub body-returns-then-k : goal.body-returns-then-k

@@ -1,9 +1,6 @@
 -- The cycle of terms, forms and sigmas: each function meets its contract.
 use Prim.Native.Nat.{◌+◌, ◌*◌}
-use Rattle.linear.proofs.Laws.{TermOn, term-start, term-none, term-wrong, term-sigma, term-variable, term-primary, term-star, term-on, TermsOn, terms-start, terms-none, terms-wrong, terms-end, terms-refused, terms-on, form-sign, form-term, form-rest, body-wrong, body-sigma, body-plain, sigma-head, sigma-full, sigma-lower, sigma-upper, sigma-body, sigma-close}
-use native.Mathlib.Omega.{arith}
-use borrow.Author.Rules.{rules}
-use Prim.Native.Nat.{ℕ, ◌<◌}
+use Rattle.linear.proofs.Laws.{TermOn, TermsOn}
 use Rattle.linear.proofs.+linear.Given as goal
 
 abbrev pub decreases-body : goal.decreases-body

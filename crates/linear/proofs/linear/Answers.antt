@@ -1,6 +1,5 @@
 -- `linear::linear` meets its contract.
 use Rattle.linear.proofs.Laws.{linear-form}
-use borrow.Author.Rules.{rules}
 use Rattle.linear.proofs.linear.Goals as goal
 
 pub returns : goal.returns

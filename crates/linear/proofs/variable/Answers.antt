@@ -1,6 +1,5 @@
 -- `linear::variable` meets its contract.
 use Rattle.linear.proofs.Laws.{variable-name, variable-other, variable-unknown, variable-mark}
-use borrow.Author.Rules.{rules}
 use Rattle.linear.proofs.variable.Goals as goal
 
 pub returns-then-sort : goal.returns-then-sort

@@ -1,8 +1,5 @@
 -- `listing::clear` meets its contract.
-use Prim.Native.Nat.{◌-◌}
-use borrow.Author.Rules.{rules}
-use lib.ListN.{length}
-use Rattle.listing.proofs.Writing.{Cleared, cleared-none, cleared_more, cleared-all}
+use Rattle.listing.proofs.Writing.{cleared-none, cleared_more, cleared-all}
 use Rattle.listing.proofs.clear.Goals as goal
 
 pub loop-i-init : goal.loop-i-init

@@ -1,8 +1,7 @@
 -- `listing::clear` meets its contract.
 use Prim.Native.Nat.{◌-◌}
-use borrow.Author.Rules.{rules}
 use lib.ListN.{length}
-use Rattle.listing.proofs.Writing.{Cleared, cleared-none, cleared_more, cleared-all}
+use Rattle.listing.proofs.Writing.{Cleared}
 use Rattle.listing.proofs.clear.Given as goal
 
 abbrev pub invariant-loop-i : goal.invariant-loop-i

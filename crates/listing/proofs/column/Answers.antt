@@ -1,6 +1,5 @@
 -- `listing::column` meets its contract.
 use native.Mathlib.Omega.{arith}
-use borrow.Author.Rules.{rules}
 use Rattle.language.specs.Listing.{col_line}
 use Rattle.listing.proofs.Writing.{line-then, field-then, line-end}
 use Rattle.listing.proofs.column.Goals as goal

@@ -1,16 +1,10 @@
 -- `listing::element_fields` meets its contract.
-use mathlib.Core.List.{map}
-use Prim.Native.Nat.{◌+◌, ◌-◌, ◌*◌, ◌≤◌}
+use Prim.Native.Nat.{◌≤◌}
 use native.Mathlib.Omega.{arith}
-use borrow.Author.Rules.{rules}
-use lib.ListN.{drop}
 use Rattle.value.proofs.Integers.{back}
 use Rattle.value.proofs.Writing.{written-length}
 use Rattle.store.proofs.Elements.{length-few}
-use Rattle.store.specs.Element.{list_of}
-use Rattle.language.specs.Listing.{fields}
-use Rattle.listing.specs.Shown.{shown_whole}
-use Rattle.listing.proofs.Writing.{Left, left-all, element-more, element-end}
+use Rattle.listing.proofs.Writing.{left-all, element-more, element-end}
 use Rattle.listing.proofs.element_fields.Goals as goal
 
 pub loop-i-init : goal.loop-i-init
@@ -20,6 +14,7 @@ pub whole_field-next-requires : goal.whole_field-next-requires
 whole_field-next-requires c =
     let few : c.length-n.result ≤ 4 = rw c.length-n.ensures (length-few c.args.e) in
     omega (arith, few)
+
 pub loop-i-preserved : goal.loop-i-preserved
 loop-i-preserved c =
     let d = c in
@@ -34,6 +29,7 @@ pub put-requires : goal.put-requires
 put-requires c =
     let few : c.length-n.result ≤ 4 = rw c.length-n.ensures (length-few c.args.e) in
     omega (arith, few)
+
 pub shape_of-out : goal.shape_of-out
 shape_of-out c = written-length _ _ _ _ _ (let d = c in
     let t = d in

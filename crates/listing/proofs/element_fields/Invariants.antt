@@ -1,16 +1,11 @@
 -- `listing::element_fields` meets its contract.
 use mathlib.Core.List.{map}
 use Prim.Native.Nat.{◌+◌, ◌-◌, ◌*◌, ◌≤◌}
-use native.Mathlib.Omega.{arith}
-use borrow.Author.Rules.{rules}
 use lib.ListN.{drop}
-use Rattle.value.proofs.Integers.{back}
-use Rattle.value.proofs.Writing.{written-length}
-use Rattle.store.proofs.Elements.{length-few}
 use Rattle.store.specs.Element.{list_of}
 use Rattle.language.specs.Listing.{fields}
 use Rattle.listing.specs.Shown.{shown_whole}
-use Rattle.listing.proofs.Writing.{Left, left-all, element-more, element-end}
+use Rattle.listing.proofs.Writing.{Left}
 use Rattle.listing.proofs.element_fields.Given as goal
 
 abbrev pub invariant-loop-i : goal.invariant-loop-i

@@ -1,5 +1,4 @@
 -- `listing::end` meets its contract.
-use borrow.Author.Rules.{rules}
 use Rattle.listing.proofs.Writing.{end_line}
 use Rattle.listing.proofs.end.Goals as goal
 

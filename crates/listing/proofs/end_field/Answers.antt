@@ -1,6 +1,5 @@
 -- `listing::end_field` meets its contract.
 use native.Mathlib.Omega.{arith}
-use borrow.Author.Rules.{rules}
 use Rattle.listing.proofs.Spanning.{end_none, end-at}
 use Rattle.listing.proofs.end_field.Goals as goal
 

@@ -1,6 +1,5 @@
 -- `listing::idle_field` meets its contract.
 use native.Mathlib.Omega.{arith}
-use borrow.Author.Rules.{rules}
 use Rattle.listing.proofs.Spanning.{idle-yes, idle-no}
 use Rattle.listing.proofs.idle_field.Goals as goal
 

@@ -1,5 +1,4 @@
 -- `listing::kind_field` meets its contract.
-use borrow.Author.Rules.{rules}
 use Rattle.listing.proofs.kind_field.Goals as goal
 
 pub returns : goal.returns

@@ -1,5 +1,4 @@
 -- `listing::kind_letter` meets its contract.
-use borrow.Author.Rules.{rules}
 use Rattle.listing.proofs.Showing.{letter-less, letter-equal, letter-range}
 use Rattle.listing.proofs.kind_letter.Goals as goal
 

@@ -1,6 +1,5 @@
 -- `listing::lp` meets its contract.
 use native.Mathlib.Omega.{arith}
-use borrow.Author.Rules.{rules}
 use Rattle.language.specs.Listing.{lp_line}
 use Rattle.listing.proofs.Writing.{line-then, field-then, line-end}
 use Rattle.listing.proofs.lp.Goals as goal

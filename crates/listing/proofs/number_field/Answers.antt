@@ -1,6 +1,5 @@
 -- `listing::number_field` meets its contract.
 use native.Mathlib.Omega.{arith}
-use borrow.Author.Rules.{rules}
 use Rattle.listing.proofs.Showing.{natural-read, natural-none}
 use Rattle.listing.proofs.number_field.Goals as goal
 

@@ -1,5 +1,4 @@
 -- `listing::put` meets its contract.
-use borrow.Author.Rules.{rules}
 use Rattle.value.proofs.Writing.{written-past}
 use Rattle.listing.proofs.put.Goals as goal
 

@@ -1,11 +1,8 @@
 -- `listing::put_text` meets its contract.
 use mathlib.Core.Path.{◌≡◌}
 use Prim.Native.Nat.{◌+◌, ◌-◌, ◌≤◌}
-use native.Mathlib.Omega.{arith}
-use borrow.Author.Rules.{rules}
 use lib.ListN.{length, drop}
-use Rattle.value.proofs.Writing.{written-length}
-use Rattle.listing.proofs.Writing.{Left, left-all, text-more, text-end}
+use Rattle.listing.proofs.Writing.{Left}
 use Rattle.listing.proofs.put_text.Given as goal
 
 abbrev pub invariant-loop-i : goal.invariant-loop-i

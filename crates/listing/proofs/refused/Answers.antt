@@ -1,6 +1,5 @@
 -- `listing::refused` meets its contract.
 use native.Mathlib.Omega.{arith}
-use borrow.Author.Rules.{rules}
 use Rattle.listing.proofs.Writing.{refused-then, field-then, line-end}
 use Rattle.listing.proofs.refused.Goals as goal
 

@@ -1,6 +1,5 @@
 -- `listing::row` meets its contract.
 use native.Mathlib.Omega.{arith}
-use borrow.Author.Rules.{rules}
 use Rattle.language.specs.Listing.{row_line}
 use Rattle.listing.proofs.Writing.{line-then, field-then}
 use Rattle.listing.proofs.row.Goals as goal

@@ -1,6 +1,5 @@
 -- `listing::span` meets its contract.
 use native.Mathlib.Omega.{arith}
-use borrow.Author.Rules.{rules}
 use Rattle.listing.proofs.Writing.{field-then, line-end}
 use Rattle.listing.proofs.Spanning.{span-then}
 use Rattle.listing.proofs.span.Goals as goal

@@ -1,6 +1,5 @@
 -- `listing::text_field` meets its contract.
 use native.Mathlib.Omega.{arith}
-use borrow.Author.Rules.{rules}
 use Rattle.listing.proofs.Writing.{tab-then}
 use Rattle.listing.proofs.text_field.Goals as goal
 

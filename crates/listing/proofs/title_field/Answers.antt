@@ -1,6 +1,5 @@
 -- `listing::title_field` meets its contract.
 use native.Mathlib.Omega.{arith}
-use borrow.Author.Rules.{rules}
 use Rattle.listing.proofs.Showing.{cut_most, cut-is}
 use Rattle.listing.proofs.title_field.Goals as goal
 

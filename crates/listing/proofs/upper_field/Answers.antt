@@ -1,6 +1,5 @@
 -- `listing::upper_field` meets its contract.
 use native.Mathlib.Omega.{arith}
-use borrow.Author.Rules.{rules}
 use Rattle.listing.proofs.Showing.{upper-none, upper-at}
 use Rattle.listing.proofs.upper_field.Goals as goal
 

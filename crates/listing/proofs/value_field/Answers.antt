@@ -1,6 +1,5 @@
 -- `listing::value_field` meets its contract.
 use native.Mathlib.Omega.{arith}
-use borrow.Author.Rules.{rules}
 use Rattle.listing.proofs.Showing.{shown-most}
 use Rattle.listing.proofs.Writing.{tab-then, written_from}
 use Rattle.listing.proofs.value_field.Goals as goal

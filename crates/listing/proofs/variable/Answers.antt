@@ -1,6 +1,5 @@
 -- `listing::variable` meets its contract.
 use native.Mathlib.Omega.{arith}
-use borrow.Author.Rules.{rules}
 use Rattle.language.specs.Listing.{var_line}
 use Rattle.listing.proofs.Writing.{line-then, field-then}
 use Rattle.listing.proofs.variable.Goals as goal

@@ -1,5 +1,4 @@
 -- `listing::whole_field` meets its contract.
-use borrow.Author.Rules.{rules}
 use mir.Facts.{to_z-of_z}
 use Rattle.listing.proofs.Showing.{whole_is}
 use Rattle.listing.proofs.whole_field.Goals as goal

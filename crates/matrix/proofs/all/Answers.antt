@@ -1,7 +1,5 @@
 -- `matrix::all` meets its contract.
-use Prim.Native.Nat.{◌-◌}
-use Rattle.matrix.proofs.Listing.{AllOn, all_start, all_done, all-refused, all_more}
-use borrow.Author.Rules.{rules}
+use Rattle.matrix.proofs.Listing.{all_start, all_done, all-refused, all_more}
 use native.Mathlib.Omega.{arith}
 use Rattle.matrix.proofs.all.Goals as goal
 

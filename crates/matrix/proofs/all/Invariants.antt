@@ -1,8 +1,6 @@
 -- `matrix::all` meets its contract.
 use Prim.Native.Nat.{◌-◌}
-use Rattle.matrix.proofs.Listing.{AllOn, all_start, all_done, all-refused, all_more}
-use borrow.Author.Rules.{rules}
-use native.Mathlib.Omega.{arith}
+use Rattle.matrix.proofs.Listing.{AllOn}
 use Rattle.matrix.proofs.all.Given as goal
 
 abbrev pub invariant-loop-k : goal.invariant-loop-k

@@ -1,6 +1,5 @@
 -- `matrix::bound` meets its contract.
 use Rattle.matrix.proofs.Adding.{bound-refused, bound-stated}
-use borrow.Author.Rules.{rules}
 use Rattle.matrix.proofs.bound.Goals as goal
 
 pub returns-in-At : goal.returns-in-At

@@ -1,8 +1,6 @@
 -- `matrix::bounds_of` meets its contract.
 use Rattle.elements.specs.Steps.{turns_left}
-use Rattle.elements.proofs.Loops.{next-less}
-use Rattle.matrix.proofs.Looping.{BoundsOn, bounds-start, bounds-done, bounds-stopped, bounds-refused, bounds-more}
-use borrow.Author.Rules.{rules}
+use Rattle.matrix.proofs.Looping.{BoundsOn}
 use Rattle.matrix.proofs.bounds_of.Given as goal
 
 abbrev pub invariant-loop-step : goal.invariant-loop-step

@@ -1,6 +1,5 @@
 -- `matrix::constraints` meets its contract.
 use Rattle.matrix.proofs.Listing.{too_many, few-enough}
-use borrow.Author.Rules.{rules}
 use Rattle.matrix.proofs.constraints.Goals as goal
 
 pub returns-then-total-gt-VARIABLE_LIMIT : goal.returns-then-total-gt-VARIABLE_LIMIT

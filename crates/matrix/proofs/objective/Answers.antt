@@ -1,6 +1,5 @@
 -- `matrix::objective` meets its contract.
 use Rattle.matrix.proofs.Adding.{objective-many}
-use borrow.Author.Rules.{rules}
 use Rattle.matrix.proofs.objective.Goals as goal
 
 pub returns-then-total-gt-VARIABLE_LIMIT : goal.returns-then-total-gt-VARIABLE_LIMIT

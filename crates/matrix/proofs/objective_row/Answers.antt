@@ -1,6 +1,5 @@
 -- `matrix::objective_row` meets its contract.
 use Rattle.matrix.proofs.Adding.{objective-is}
-use borrow.Author.Rules.{rules}
 use Rattle.matrix.proofs.objective_row.Goals as goal
 
 pub returns : goal.returns

@@ -1,6 +1,5 @@
 -- `matrix::one` meets its contract.
 use Rattle.matrix.proofs.Listing.{one-rows, one-bounds, one-refused}
-use borrow.Author.Rules.{rules}
 use Rattle.matrix.proofs.one.Goals as goal
 
 pub returns-in-Inside : goal.returns-in-Inside

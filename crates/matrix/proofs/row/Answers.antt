@@ -1,6 +1,5 @@
 -- `matrix::row` meets its contract.
 use Rattle.matrix.proofs.Adding.{slot-low, row-refused, row-full, row_written}
-use borrow.Author.Rules.{rules}
 use native.Mathlib.Omega.{arith}
 use Rattle.matrix.proofs.row.Goals as goal
 

@@ -1,8 +1,6 @@
 -- `matrix::rows_of` meets its contract.
 use Rattle.elements.specs.Steps.{turns_left}
-use Rattle.elements.proofs.Loops.{next-less}
-use Rattle.matrix.proofs.Looping.{RowsOn, rows_start, rows-done, rows-stopped, rows-refused, rows_more}
-use borrow.Author.Rules.{rules}
+use Rattle.matrix.proofs.Looping.{RowsOn}
 use Rattle.matrix.proofs.rows_of.Given as goal
 
 abbrev pub invariant-loop-step : goal.invariant-loop-step

@@ -1,6 +1,5 @@
 -- `model::finish` meets its contract.
 use Rattle.model.proofs.Laws.{finishes}
-use borrow.Author.Rules.{rules}
 use Rattle.model.proofs.finish.Goals as goal
 
 pub returns : goal.returns

@@ -1,6 +1,5 @@
 -- `model::model_of` meets its contract.
 use Rattle.model.proofs.Laws.{model-given, model-refused}
-use borrow.Author.Rules.{rules}
 use Rattle.model.proofs.model_of.Goals as goal
 
 pub returns-in-Of : goal.returns-in-Of

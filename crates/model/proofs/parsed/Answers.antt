@@ -1,6 +1,5 @@
 -- `model::parsed` meets its contract.
 use Rattle.model.proofs.Laws.{tokens-part}
-use borrow.Author.Rules.{rules}
 use Rattle.model.proofs.parsed.Goals as goal
 
 pub slice_bounds-parse-end : goal.slice_bounds-parse-end

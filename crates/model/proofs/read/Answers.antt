@@ -1,6 +1,5 @@
 -- `model::read` meets its contract.
 use Rattle.model.proofs.Laws.{read-model, read-refused}
-use borrow.Author.Rules.{rules}
 use Rattle.model.proofs.read.Goals as goal
 
 pub returns-in-At : goal.returns-in-At

@@ -1,6 +1,5 @@
 -- `model::read_section` meets its contract.
 use Rattle.model.proofs.Laws.{tokens-part, rows-part}
-use borrow.Author.Rules.{rules}
 use Rattle.model.proofs.read_section.Goals as goal
 
 pub slice_bounds-read-end : goal.slice_bounds-read-end

@@ -1,6 +1,5 @@
 -- `model::resolve` meets its contract.
 use Rattle.model.proofs.Laws.{tokens-part, rows-part, resolved-part}
-use borrow.Author.Rules.{rules}
 use Rattle.model.proofs.resolve.Goals as goal
 
 pub slice_bounds-resolve-end : goal.slice_bounds-resolve-end

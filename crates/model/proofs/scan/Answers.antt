@@ -1,6 +1,5 @@
 -- `model::scan` meets its contract.
 use Rattle.model.proofs.Laws.{scan-holds}
-use borrow.Author.Rules.{rules}
 use Rattle.model.proofs.scan.Goals as goal
 
 pub returns : goal.returns

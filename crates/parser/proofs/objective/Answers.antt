@@ -1,6 +1,5 @@
 -- `parser::objective` meets its contract.
 use Rattle.parser.proofs.Laws.{objective-goal, objective-colon, objective-form}
-use borrow.Author.Rules.{rules}
 use Rattle.parser.proofs.objective.Goals as goal
 
 pub returns-in_default : goal.returns-in_default

@@ -1,6 +1,5 @@
 -- `parser::parse` meets its contract.
 use Rattle.parser.proofs.Laws.{parse-opening, parse-names, parse-body}
-use borrow.Author.Rules.{rules}
 use Rattle.parser.proofs.parse.Goals as goal
 
 pub returns-in_default : goal.returns-in_default

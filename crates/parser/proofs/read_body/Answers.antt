@@ -1,6 +1,5 @@
 -- `parser::read_body` meets its contract.
 use Rattle.parser.proofs.Laws.{names-part, body-objective, body-rows}
-use borrow.Author.Rules.{rules}
 use Rattle.parser.proofs.read_body.Goals as goal
 
 pub slice_bounds-objective-end : goal.slice_bounds-objective-end

@@ -1,6 +1,5 @@
 -- `parser::read_opening` meets its contract.
 use Rattle.parser.proofs.Laws.{opening-word, opening-title}
-use borrow.Author.Rules.{rules}
 use Rattle.parser.proofs.read_opening.Goals as goal
 
 pub returns-in_default : goal.returns-in_default

@@ -1,5 +1,4 @@
 -- `problem::generate` meets its contract.
-use borrow.Author.Rules.{rules}
 use Rattle.problem.proofs.Problems.{missing-refused, variables-refused, shaped}
 use Rattle.problem.proofs.generate.Goals as goal
 

@@ -1,5 +1,4 @@
 -- `problem::shape` meets its contract.
-use borrow.Author.Rules.{rules}
 use Rattle.problem.proofs.Problems.{objective-refused, constraints-refused, constraints-done}
 use Rattle.problem.proofs.shape.Goals as goal
 

@@ -1,5 +1,4 @@
 -- `reach::added` meets its contract.
-use borrow.Author.Rules.{rules}
 use Rattle.reach.proofs.Reaching.{added-open, added-unfit, added-sum, added-sum-unfit}
 use Rattle.reach.proofs.added.Goals as goal
 

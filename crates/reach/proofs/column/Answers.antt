@@ -1,5 +1,4 @@
 -- `reach::column` meets its contract.
-use borrow.Author.Rules.{rules}
 use Rattle.value.proofs.Integers.{back}
 use Rattle.reach.proofs.Reaching.{column-zero, column-added}
 use Rattle.reach.proofs.column.Goals as goal

@@ -1,8 +1,6 @@
 -- `reach::end_of` meets its contract.
-use Prim.Native.Nat.{◌-◌}
-use borrow.Author.Rules.{rules}
 use Rattle.value.proofs.Integers.{back}
-use Rattle.reach.proofs.Reaching.{Reaching, reaching-first, reaching-more, reaches-open, reaches_end}
+use Rattle.reach.proofs.Reaching.{reaching-first, reaching-more, reaches-open, reaches_end}
 use Rattle.reach.proofs.end_of.Goals as goal
 
 pub loop-j-init : goal.loop-j-init

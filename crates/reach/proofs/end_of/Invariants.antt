@@ -1,8 +1,6 @@
 -- `reach::end_of` meets its contract.
 use Prim.Native.Nat.{◌-◌}
-use borrow.Author.Rules.{rules}
-use Rattle.value.proofs.Integers.{back}
-use Rattle.reach.proofs.Reaching.{Reaching, reaching-first, reaching-more, reaches-open, reaches_end}
+use Rattle.reach.proofs.Reaching.{Reaching}
 use Rattle.reach.proofs.end_of.Given as goal
 
 abbrev pub invariant-loop-j : goal.invariant-loop-j

@@ -1,5 +1,4 @@
 -- `reach::taken` meets its contract.
-use borrow.Author.Rules.{rules}
 use Rattle.value.proofs.Integers.{back}
 use Rattle.reach.proofs.Reaching.{takes-lower, takes-upper}
 use Rattle.reach.proofs.taken.Goals as goal

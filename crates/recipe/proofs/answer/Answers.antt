@@ -1,5 +1,4 @@
 -- `recipe::answer` meets its contract.
-use borrow.Author.Rules.{rules}
 use Rattle.recipe.proofs.Printing.{entry-prints}
 use Rattle.recipe.proofs.answer.Goals as goal
 

@@ -1,5 +1,4 @@
 -- `recipe::named` meets its contract.
-use borrow.Author.Rules.{rules}
 use Rattle.recipe.proofs.Asking.{asked-export, asked-read, asked-unknown}
 use Rattle.recipe.proofs.named.Goals as goal
 

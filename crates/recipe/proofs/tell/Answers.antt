@@ -1,5 +1,4 @@
 -- `recipe::tell` meets its contract.
-use borrow.Author.Rules.{rules}
 use Rattle.recipe.proofs.Printing.{tells-report, tells-refusal}
 use Rattle.recipe.proofs.tell.Goals as goal
 

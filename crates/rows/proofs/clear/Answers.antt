@@ -1,10 +1,6 @@
 -- `rows::clear` meets its contract.
 use mathlib.Core.Path.{refl, ◌∙◌}
-use Prim.Native.Nat.{◌-◌}
-use lib.ListN.{length}
-use lib.IntN.{pos}
-use Rattle.rows.proofs.Counting.{Turned, turned_none, turned_more, turned-end, map-zeros}
-use borrow.Author.Rules.{rules}
+use Rattle.rows.proofs.Counting.{turned_none, turned_more, turned-end, map-zeros}
 use native.Mathlib.Omega.{arith}
 use Rattle.rows.proofs.clear.Goals as goal
 

@@ -1,6 +1,5 @@
 -- `rows::count_at` meets its contract.
 use native.Mathlib.Omega.{arith}
-use borrow.Author.Rules.{rules}
 use Rattle.value.proofs.Integers.{back}
 use Rattle.rows.specs.Read.{count_at}
 use Rattle.rows.proofs.Reading.{count_none}

@@ -1,6 +1,5 @@
 -- `rows::counted` meets its contract.
 use Rattle.rows.proofs.Slotting.{counted-equal, counted-less}
-use borrow.Author.Rules.{rules}
 use Rattle.rows.proofs.counted.Goals as goal
 
 pub returns-then-equal : goal.returns-then-equal

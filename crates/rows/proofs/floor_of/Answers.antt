@@ -1,5 +1,4 @@
 -- `rows::floor_of` meets its contract.
-use borrow.Author.Rules.{rules}
 use Rattle.rows.proofs.Reading.{no-floor, floor-read}
 use Rattle.rows.proofs.floor_of.Goals as goal
 

@@ -1,5 +1,4 @@
 -- `rows::floor_slot` meets its contract.
-use borrow.Author.Rules.{rules}
 use native.Mathlib.Omega.{arith}
 use Rattle.rows.proofs.Slotting.{floor-row, floor-past}
 use Rattle.rows.proofs.floor_slot.Goals as goal

@@ -1,6 +1,5 @@
 -- `rows::gives_way` meets its contract.
 use Rattle.rows.proofs.Bounding.{way-larger, way-smaller}
-use borrow.Author.Rules.{rules}
 use Rattle.rows.proofs.gives_way.Goals as goal
 
 pub returns-then-larger : goal.returns-then-larger

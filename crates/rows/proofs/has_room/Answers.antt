@@ -1,6 +1,5 @@
 -- `rows::has_room_lem` meets its contract.
 use Rattle.rows.proofs.Slotting.{room-none, room-left}
-use borrow.Author.Rules.{rules}
 use Rattle.rows.proofs.has_room.Goals as goal
 
 pub returns-then-less-ge-ROW_LIMIT : goal.returns-then-less-ge-ROW_LIMIT

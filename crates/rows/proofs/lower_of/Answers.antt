@@ -1,5 +1,4 @@
 -- `rows::lower_of` meets its contract.
-use borrow.Author.Rules.{rules}
 use Rattle.rows.proofs.Reading.{lower-past, lower-zero, lower-read}
 use Rattle.rows.proofs.lower_of.Goals as goal
 

@@ -1,11 +1,7 @@
 -- `rows::negate` meets its contract.
 use mathlib.Core.Path.{◌∙◌}
-use Prim.Native.Nat.{◌-◌}
-use lib.ListN.{length}
-use Rattle.rows.specs.Counts.{opposed}
 use Rattle.value.proofs.Integers.{back}
-use Rattle.rows.proofs.Counting.{Turned, turned_none, turned_more, turned-end}
-use borrow.Author.Rules.{rules}
+use Rattle.rows.proofs.Counting.{turned_none, turned_more, turned-end}
 use native.Mathlib.Omega.{arith}
 use Rattle.rows.proofs.negate.Goals as goal
 

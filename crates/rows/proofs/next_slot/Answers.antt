@@ -1,7 +1,6 @@
 -- `rows::next_slot` meets its contract.
 use borrow.Author.Tests.{not-true, not-false}
 use Rattle.rows.proofs.Slotting.{has-slot, slot-spare, slot-equal, slot-less}
-use borrow.Author.Rules.{rules}
 use native.Mathlib.Omega.{arith}
 use Rattle.rows.proofs.next_slot.Goals as goal
 

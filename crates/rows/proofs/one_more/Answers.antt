@@ -1,6 +1,5 @@
 -- `rows::one_more_lem` meets its contract.
 use Rattle.rows.proofs.Slotting.{more-counted, none-counted}
-use borrow.Author.Rules.{rules}
 use Rattle.rows.proofs.one_more.Goals as goal
 
 pub returns-then-n-lt-ROW_LIMIT : goal.returns-then-n-lt-ROW_LIMIT

@@ -1,5 +1,4 @@
 -- `rows::slot` meets its contract.
-use borrow.Author.Rules.{rules}
 use Rattle.rows.proofs.Reading.{slot-less, slot-equal, slot-past}
 use Rattle.rows.proofs.slot.Goals as goal
 

@@ -1,6 +1,5 @@
 -- `rows::state` meets its contract.
 use Rattle.rows.proofs.Bounding.{bound-out, bound-in}
-use borrow.Author.Rules.{rules}
 use Rattle.rows.proofs.state.Goals as goal
 
 pub returns-then-bounds-j : goal.returns-then-bounds-j

@@ -1,5 +1,4 @@
 -- `rows::state_floor` meets its contract.
-use borrow.Author.Rules.{rules}
 use Rattle.rows.proofs.Bounding.{floor-out, floor-in}
 use Rattle.rows.proofs.state_floor.Goals as goal
 

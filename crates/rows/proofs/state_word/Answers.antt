@@ -1,7 +1,6 @@
 -- `rows::state_word` meets its contract.
 use borrow.Author.Tests.{not-true, not-false}
 use Rattle.rows.proofs.Bounding.{state-none, state-out, state-set}
-use borrow.Author.Rules.{rules}
 use Rattle.rows.proofs.state_word.Goals as goal
 
 pub returns-then-not-applies : goal.returns-then-not-applies

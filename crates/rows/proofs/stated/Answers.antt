@@ -1,6 +1,5 @@
 -- `rows::stated` meets its contract.
 use Rattle.rows.proofs.Bounding.{stated-new, stated-over, stated-old}
-use borrow.Author.Rules.{rules}
 use Rattle.rows.proofs.stated.Goals as goal
 
 pub returns-then-old-eq0 : goal.returns-then-old-eq0

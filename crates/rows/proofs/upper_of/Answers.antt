@@ -1,5 +1,4 @@
 -- `rows::upper_of` meets its contract.
-use borrow.Author.Rules.{rules}
 use Rattle.rows.proofs.Reading.{upper-past, upper-zero, upper-read}
 use Rattle.rows.proofs.upper_of.Goals as goal
 

@@ -1,5 +1,4 @@
 -- `rows::value_of` meets its contract.
-use borrow.Author.Rules.{rules}
 use Rattle.value.proofs.Integers.{back}
 use Rattle.rows.proofs.Reading.{value-fits, value_none}
 use Rattle.rows.proofs.value_of.Goals as goal

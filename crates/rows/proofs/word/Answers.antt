@@ -1,7 +1,6 @@
 -- `rows::word` meets its contract.
 use mathlib.Core.Path.{sym}
 use native.Mathlib.Omega.{arith}
-use borrow.Author.Rules.{rules}
 use lib.ListN.{get_or-eq_default}
 use Rattle.rows.proofs.word.Goals as goal
 

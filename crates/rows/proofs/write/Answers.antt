@@ -1,6 +1,5 @@
 -- `rows::write` meets its contract.
 use Rattle.rows.proofs.Slotting.{wrote}
-use borrow.Author.Rules.{rules}
 use Rattle.rows.proofs.write.Goals as goal
 
 pub returns : goal.returns

@@ -1,5 +1,4 @@
 -- `spans::is_idle` meets its contract.
-use borrow.Author.Rules.{rules}
 use Rattle.spans.proofs.Telling.{idle-none, idle-at}
 use Rattle.spans.proofs.is_idle.Goals as goal
 

@@ -1,6 +1,5 @@
 -- `spans::last_line_lem` meets its contract.
 use native.Mathlib.Omega.{arith}
-use borrow.Author.Rules.{rules}
 use Rattle.language.specs.Listing.{ending_line}
 use Rattle.listing.proofs.Lengths.{line-most}
 use Rattle.listing.proofs.Writing.{written_from}

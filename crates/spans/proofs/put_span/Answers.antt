@@ -1,6 +1,5 @@
 -- `spans::put_span` meets its contract.
 use native.Mathlib.Omega.{arith}
-use borrow.Author.Rules.{rules}
 use Rattle.rows.specs.End.{end_of}
 use Rattle.listing.proofs.Spanning.{span-most}
 use Rattle.listing.proofs.Writing.{written_from}

@@ -1,5 +1,4 @@
 -- `spans::row_line` meets its contract.
-use borrow.Author.Rules.{rules}
 use Rattle.spans.proofs.Telling.{row_written}
 use Rattle.spans.proofs.row_line.Goals as goal
 

@@ -1,7 +1,6 @@
 -- `spans::row_lines` meets its contract.
-use Prim.Native.Nat.{◌-◌}
 use native.Mathlib.Omega.{arith}
-use Rattle.spans.proofs.Telling.{Spanning, spanning-first, spanning-more, spanning-end}
+use Rattle.spans.proofs.Telling.{spanning-first, spanning-more, spanning-end}
 use Rattle.spans.proofs.row_lines.Goals as goal
 
 pub loop-i-init : goal.loop-i-init

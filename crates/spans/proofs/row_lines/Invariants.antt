@@ -1,7 +1,6 @@
 -- `spans::row_lines` meets its contract.
 use Prim.Native.Nat.{◌-◌}
-use native.Mathlib.Omega.{arith}
-use Rattle.spans.proofs.Telling.{Spanning, spanning-first, spanning-more, spanning-end}
+use Rattle.spans.proofs.Telling.{Spanning}
 use Rattle.spans.proofs.row_lines.Given as goal
 
 abbrev pub invariant-loop-i : goal.invariant-loop-i

@@ -1,6 +1,5 @@
 -- `spans::span_line` meets its contract.
 use native.Mathlib.Omega.{arith}
-use borrow.Author.Rules.{rules}
 use Rattle.spans.proofs.Telling.{span_less, span-equal, span-range}
 use Rattle.spans.proofs.span_line.Goals as goal
 

@@ -1,7 +1,6 @@
 -- `spans::write` meets its contract.
 use mathlib.Core.Path.{sym, ◌∙◌}
 use native.Mathlib.Omega.{arith}
-use borrow.Author.Rules.{rules}
 use borrow.Author.Tests.{not-false}
 use Rattle.rows.proofs.Reading.{Within, within-yes}
 use Rattle.spans.proofs.Telling.{reports-none, reports-all}
@@ -15,6 +14,7 @@ pub overflow_add-size : goal.overflow_add-size
 overflow_add-size c =
     let limits : Within (c).args.sizes = within-yes _ (sym c.is_within.ensures ∙ not-false _ c.if-not-is_within.false-raw) in
     let e = limits in omega (arith, e.rows)
+
 pub row_lines-at-requires : goal.row_lines-at-requires
 row_lines-at-requires c =
     let limits : Within (c).args.sizes = within-yes _ (sym c.is_within.ensures ∙ not-false _ c.if-not-is_within.false-raw) in

@@ -1,7 +1,6 @@
 -- `store::append` meets its contract.
 use mathlib.Core.Path.{◌∙◌}
 use Rattle.store.proofs.Rows.{append-room, append-none}
-use borrow.Author.Rules.{rules}
 use Rattle.store.proofs.append.Goals as goal
 
 pub returns-then-n-table : goal.returns-then-n-table

@@ -1,7 +1,6 @@
 -- `store::digit` meets its contract.
 use mathlib.Core.Path.{◌≡◌, refl}
 use native.Mathlib.Omega.{arith}
-use borrow.Author.Rules.{rules}
 use lib.IntN.{pos, ◌+ℤ◌}
 use mir.Facts.{to_z-of_z}
 use Rattle.store.specs.Key.{digit_of}

@@ -1,6 +1,5 @@
 -- `store::find` meets its contract.
 use Rattle.store.proofs.Halving.{found-taken, found-free}
-use borrow.Author.Rules.{rules}
 use Rattle.store.proofs.find.Goals as goal
 
 pub returns-in-Taken : goal.returns-in-Taken

@@ -1,7 +1,5 @@
 -- `store::find_early` meets its contract. The loop needs no invariant: a row that has the key is the answer, wherever it was tried.
-use Prim.Native.Nat.{◌-◌}
 use Rattle.store.proofs.Halving.{finds-row, finds-early}
-use borrow.Author.Rules.{rules}
 use Rattle.store.proofs.find_early.Goals as goal
 
 pub returns-then-n-i : goal.returns-then-n-i

@@ -2,7 +2,6 @@
 use Prim.Native.Nat.{◌≤◌}
 use native.Mathlib.Omega.{arith}
 use Rattle.store.proofs.Inserting.{insert-present, insert-no-room, free-within, insert-done}
-use borrow.Author.Rules.{rules}
 use Rattle.store.proofs.insert.Goals as goal
 
 -- the place is among the rows, or behind the last
@@ -16,14 +15,17 @@ pub overflow_mul-at : goal.overflow_mul-at
 overflow_mul-at c =
     let within : c.in-Free.at ≤ c.args.n = free-within _ _ _ 0 _ c.locate.ensures _ c.in-Free.is in
     omega (arith, within)
+
 pub move_up-requires : goal.move_up-requires
 move_up-requires c =
     let within : c.in-Free.at ≤ c.args.n = free-within _ _ _ 0 _ c.locate.ensures _ c.in-Free.is in
     omega (arith, within)
+
 pub set_row-requires : goal.set_row-requires
 set_row-requires c =
     let within : c.in-Free.at ≤ c.args.n = free-within _ _ _ 0 _ c.locate.ensures _ c.in-Free.is in
     omega (arith, within, c.move_up.auto.table)
+
 pub returns : goal.returns
 returns c =
     let o = c in

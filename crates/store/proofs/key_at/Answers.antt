@@ -1,6 +1,5 @@
 -- `store::key_at` meets its contract.
 use Rattle.store.proofs.Back.{row_words}
-use borrow.Author.Rules.{rules}
 use Rattle.store.proofs.key_at.Goals as goal
 
 pub returns : goal.returns

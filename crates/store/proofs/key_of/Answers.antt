@@ -1,5 +1,4 @@
 -- `store::key_of` meets its contract.
-use borrow.Author.Rules.{rules}
 use Rattle.store.proofs.Keys.{key-words}
 use Rattle.store.proofs.key_of.Goals as goal
 

@@ -1,6 +1,5 @@
 -- `store::locate` meets its contract.
 use Rattle.store.proofs.Halving.{place-last, place-taken, place-free}
-use borrow.Author.Rules.{rules}
 use Rattle.store.proofs.locate.Goals as goal
 
 pub returns-then-n-at : goal.returns-then-n-at

@@ -1,9 +1,6 @@
 -- `store::move_up` meets its contract.
-use mathlib.Core.Path.{◌≡◌}
 use Prim.Native.Nat.{◌≤◌}
-use native.Mathlib.Omega.{arith}
 use Rattle.store.specs.Table.{Moved}
-use Rattle.store.proofs.Rows.{moved_none, moved_more}
 use Rattle.store.proofs.move_up.Given as goal
 
 abbrev pub invariant-loop-j : goal.invariant-loop-j

@@ -1,6 +1,5 @@
 -- `store::pack` meets its contract.
 use native.Mathlib.Omega.{arith}
-use borrow.Author.Rules.{rules}
 use Rattle.value.proofs.Integers.{back}
 use Rattle.store.proofs.Words.{packed-out, packed-in}
 use Rattle.store.proofs.pack.Goals as goal

@@ -1,6 +1,5 @@
 -- `store::pair` meets its contract.
 use mathlib.Core.Path.{refl}
-use borrow.Author.Rules.{rules}
 use Rattle.store.specs.Key.{paired}
 use Rattle.store.proofs.pair.Goals as goal
 

@@ -1,10 +1,5 @@
 -- `store::rank` meets its contract.
-use mathlib.Core.Path.{◌≡◌}
-use Prim.Native.Nat.{◌-◌, ◌≤◌}
 use native.Mathlib.Omega.{arith}
-use borrow.Author.Rules.{rules}
-use Rattle.store.specs.Key.{key_number}
-use Rattle.store.specs.Table.{rank_in, rank_of}
 use Rattle.store.proofs.Halving.{rank-start, rank_up, rank_down, rank-end}
 use Rattle.store.proofs.rank.Goals as goal
 

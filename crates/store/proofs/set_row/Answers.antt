@@ -3,7 +3,6 @@ use mathlib.Core.Path.{refl}
 use native.Mathlib.Omega.{arith}
 use lib.ListN.{length-set}
 use Rattle.store.specs.Table.{row_set}
-use borrow.Author.Rules.{rules}
 use Rattle.store.proofs.set_row.Goals as goal
 
 pub bounds-table-i-2 : goal.bounds-table-i-2

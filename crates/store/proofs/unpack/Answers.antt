@@ -1,5 +1,4 @@
 -- `store::unpack` meets its contract.
-use borrow.Author.Rules.{rules}
 use Rattle.store.proofs.Words.{unpacked-fits, unpacked-is}
 use Rattle.store.proofs.unpack.Goals as goal
 

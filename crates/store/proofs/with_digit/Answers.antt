@@ -1,7 +1,6 @@
 -- `store::with_digit` meets its contract.
 use Rattle.store.proofs.Back.{digit-none, digit-more}
 use native.Mathlib.Omega.{arith}
-use borrow.Author.Rules.{rules}
 use Rattle.store.proofs.Words.{moved-fits, moved-is}
 use Rattle.store.proofs.with_digit.Goals as goal
 

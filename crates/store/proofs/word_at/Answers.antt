@@ -1,5 +1,4 @@
 -- `store::word_at` meets its contract.
-use borrow.Author.Rules.{rules}
 use Rattle.store.specs.Table.{word_at}
 use Rattle.store.proofs.word_at.Goals as goal
 

@@ -1,6 +1,5 @@
 -- `tokens::bracket` meets its contract.
 use Rattle.tokens.proofs.Moved.{bracket-wrong, bracket-no, bracket-full, bracket-yes}
-use borrow.Author.Rules.{rules}
 use Rattle.tokens.proofs.bracket.Goals as goal
 
 pub returns-then-nest-eq0 : goal.returns-then-nest-eq0

@@ -1,6 +1,5 @@
 -- `tokens::byte_at` meets its contract.
 use Rattle.tokens.proofs.Tables.{byte_past, byte-past-2}
-use borrow.Author.Rules.{rules}
 use Rattle.tokens.proofs.byte_at.Goals as goal
 
 pub returns-then-n-p : goal.returns-then-n-p

@@ -1,6 +1,5 @@
 -- `tokens::expect` meets its contract.
 use Rattle.tokens.proofs.Moved.{expect-wrong, expect-yes, expect-no}
-use borrow.Author.Rules.{rules}
 use Rattle.tokens.proofs.expect.Goals as goal
 
 pub returns-then-m-c : goal.returns-then-m-c

@@ -1,10 +1,6 @@
 -- `tokens::find` meets its contract.
-use Prim.Native.Nat.{◌-◌, ◌≤◌}
-use lib.ListN.{length}
-use Rattle.tokens.proofs.Tables.{Tells, tells-start, tells-name, tells-nothing, tells-on}
-use Rattle.tokens.specs.Stored.{spelling}
+use Rattle.tokens.proofs.Tables.{tells-start, tells-name, tells-nothing, tells-on}
 use native.Mathlib.Omega.{arith}
-use borrow.Author.Rules.{rules}
 use Rattle.tokens.proofs.find.Goals as goal
 
 pub loop-i-init : goal.loop-i-init

@@ -1,10 +1,8 @@
 -- `tokens::find` meets its contract.
 use Prim.Native.Nat.{◌-◌, ◌≤◌}
 use lib.ListN.{length}
-use Rattle.tokens.proofs.Tables.{Tells, tells-start, tells-name, tells-nothing, tells-on}
+use Rattle.tokens.proofs.Tables.{Tells}
 use Rattle.tokens.specs.Stored.{spelling}
-use native.Mathlib.Omega.{arith}
-use borrow.Author.Rules.{rules}
 use Rattle.tokens.proofs.find.Given as goal
 
 abbrev pub invariant-loop-i : goal.invariant-loop-i

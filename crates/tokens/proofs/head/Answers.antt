@@ -1,6 +1,5 @@
 -- `tokens::head` meets its contract.
 use Rattle.tokens.proofs.Moved.{head-open, head-index, head-comma}
-use borrow.Author.Rules.{rules}
 use Rattle.tokens.proofs.head.Goals as goal
 
 pub returns-in_default : goal.returns-in_default

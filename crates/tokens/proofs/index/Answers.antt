@@ -1,6 +1,5 @@
 -- `tokens::index` meets its contract.
 use Rattle.tokens.proofs.Moved.{index-wrong, index-yes, index-other}
-use borrow.Author.Rules.{rules}
 use Rattle.tokens.proofs.index.Goals as goal
 
 pub returns-then-sort-eq-INDEX : goal.returns-then-sort-eq-INDEX

@@ -1,6 +1,5 @@
 -- `tokens::known_name` meets its contract.
 use Rattle.tokens.proofs.Moved.{at-wrong, at-no-name, at-unknown, at_name}
-use borrow.Author.Rules.{rules}
 use Rattle.tokens.proofs.known_name.Goals as goal
 
 pub returns-in-Name : goal.returns-in-Name

@@ -2,7 +2,6 @@
 use lib.ListN.{length-set}
 use Rattle.tokens.proofs.Tables.{put-none, put_five}
 use native.Mathlib.Omega.{arith}
-use borrow.Author.Rules.{rules}
 use Rattle.tokens.proofs.put_row.Goals as goal
 
 pub returns-then-rows-number : goal.returns-then-rows-number

@@ -1,7 +1,5 @@
 -- `tokens::same_name` meets its contract.
-use Prim.Native.Nat.{◌-◌}
-use Rattle.tokens.proofs.Tables.{same-lengths, Alike, alike-start, alike_end, alike-not, alike-on}
-use borrow.Author.Rules.{rules}
+use Rattle.tokens.proofs.Tables.{same-lengths, alike-start, alike_end, alike-not, alike-on}
 use Rattle.tokens.proofs.same_name.Goals as goal
 
 pub returns-then-n-m : goal.returns-then-n-m

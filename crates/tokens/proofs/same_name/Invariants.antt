@@ -1,7 +1,6 @@
 -- `tokens::same_name` meets its contract.
 use Prim.Native.Nat.{◌-◌}
-use Rattle.tokens.proofs.Tables.{same-lengths, Alike, alike-start, alike_end, alike-not, alike-on}
-use borrow.Author.Rules.{rules}
+use Rattle.tokens.proofs.Tables.{Alike}
 use Rattle.tokens.proofs.same_name.Given as goal
 
 abbrev pub invariant-loop-i : goal.invariant-loop-i

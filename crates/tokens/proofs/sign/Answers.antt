@@ -1,6 +1,5 @@
 -- `tokens::sign` meets its contract.
 use Rattle.tokens.proofs.Moved.{sign-wrong, sign-yes, sign-no}
-use borrow.Author.Rules.{rules}
 use Rattle.tokens.proofs.sign.Goals as goal
 
 pub returns-then-k : goal.returns-then-k

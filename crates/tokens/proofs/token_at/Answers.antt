@@ -1,6 +1,5 @@
 -- `tokens::token_at` meets its contract.
 use Rattle.tokens.proofs.Tables.{looks-past, looks-wrong, looks-token}
-use borrow.Author.Rules.{rules}
 use Rattle.tokens.proofs.token_at.Goals as goal
 
 pub returns-then-tokens-at : goal.returns-then-tokens-at

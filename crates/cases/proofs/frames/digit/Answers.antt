@@ -1,6 +1,5 @@
 -- `frames::digit` meets its contract.
 use native.Mathlib.Omega.{arith}
-use borrow.Author.Rules.{rules}
 use Rattle.cases.proofs.frames.Laws.{digit_low, digit-high, digit-is}
 use Rattle.cases.proofs.frames.digit.Goals as goal
 

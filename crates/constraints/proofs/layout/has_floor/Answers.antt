@@ -1,5 +1,4 @@
 -- `layout::has_floor` meets its contract.
-use borrow.Author.Rules.{rules}
 use Rattle.constraints.proofs.layout.Laws.{floor-is}
 use Rattle.constraints.proofs.layout.has_floor.Goals as goal
 

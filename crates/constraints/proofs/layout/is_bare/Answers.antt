@@ -1,5 +1,4 @@
 -- `layout::is_bare` meets its contract.
-use borrow.Author.Rules.{rules}
 use Rattle.constraints.proofs.layout.Laws.{bare-is}
 use Rattle.constraints.proofs.layout.is_bare.Goals as goal
 

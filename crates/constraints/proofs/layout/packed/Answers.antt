@@ -1,5 +1,4 @@
 -- `layout::packed` meets its contract.
-use borrow.Author.Rules.{rules}
 use Rattle.constraints.proofs.layout.Laws.{packs}
 use Rattle.constraints.proofs.layout.packed.Goals as goal
 

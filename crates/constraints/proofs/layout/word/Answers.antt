@@ -1,5 +1,4 @@
 -- `layout::word` meets its contract.
-use borrow.Author.Rules.{rules}
 use Rattle.constraints.proofs.layout.Laws.{word-past, word-beyond, word_wide}
 use Rattle.constraints.proofs.layout.word.Goals as goal
 

@@ -1,7 +1,5 @@
 -- `entries` meets its contract.
-use Prim.Native.Nat.{◌-◌}
-use Rattle.constraints.proofs.DomainLaws.{Counting, counting-first, counting-full, counting-stuck, counting-wrong, counting-end, counting_more}
-use borrow.Author.Rules.{rules}
+use Rattle.constraints.proofs.DomainLaws.{counting-first, counting-full, counting-stuck, counting-wrong, counting-end, counting_more}
 use native.Mathlib.Omega.{arith}
 use Rattle.constraints.proofs.shape.entries.Goals as goal
 

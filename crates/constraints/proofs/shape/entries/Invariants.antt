@@ -1,8 +1,6 @@
 -- `entries` meets its contract.
 use Prim.Native.Nat.{◌-◌}
-use Rattle.constraints.proofs.DomainLaws.{Counting, counting-first, counting-full, counting-stuck, counting-wrong, counting-end, counting_more}
-use borrow.Author.Rules.{rules}
-use native.Mathlib.Omega.{arith}
+use Rattle.constraints.proofs.DomainLaws.{Counting}
 use Rattle.constraints.proofs.shape.entries.Given as goal
 
 abbrev pub invariant-loop-n : goal.invariant-loop-n

@@ -1,5 +1,4 @@
 -- `entries_at` meets its contract.
-use borrow.Author.Rules.{rules}
 use Rattle.constraints.proofs.DomainLaws.{size-some, size_none, size-wrong}
 use Rattle.constraints.proofs.shape.entries_at.Goals as goal
 

@@ -1,5 +1,4 @@
 -- `is_alone` meets its contract.
-use borrow.Author.Rules.{rules}
 use Rattle.constraints.proofs.SideLaws.{alone-sum, alone-other, alone-wrong}
 use Rattle.constraints.proofs.shape.is_alone.Goals as goal
 

@@ -1,5 +1,4 @@
 -- `is_bare` meets its contract.
-use borrow.Author.Rules.{rules}
 use Rattle.constraints.proofs.SideLaws.{bare-alone, bare-refused, bare-other, bare-wrong}
 use Rattle.constraints.proofs.shape.is_bare.Goals as goal
 

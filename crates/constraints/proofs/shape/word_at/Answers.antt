@@ -1,5 +1,4 @@
 -- `word_at` meets its contract.
-use borrow.Author.Rules.{rules}
 use Rattle.constraints.proofs.DomainLaws.{shape_is}
 use Rattle.constraints.proofs.shape.word_at.Goals as goal
 

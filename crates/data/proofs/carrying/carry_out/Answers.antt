@@ -1,6 +1,5 @@
 -- `carrying::carry_out` meets its contract.
 use Rattle.data.proofs.Portions.{carry-runs, carry-refused}
-use borrow.Author.Rules.{rules}
 use Rattle.data.proofs.carrying.carry_out.Goals as goal
 
 pub returns-in-Runs : goal.returns-in-Runs

@@ -1,6 +1,5 @@
 -- `carrying::head_of` meets its contract.
 use Rattle.data.proofs.Portions.{head-none, head-some}
-use borrow.Author.Rules.{rules}
 use Rattle.data.proofs.carrying.head_of.Goals as goal
 
 pub returns-then-count-eq0 : goal.returns-then-count-eq0

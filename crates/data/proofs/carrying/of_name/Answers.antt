@@ -1,6 +1,5 @@
 -- `carrying::of_name` meets its contract.
 use Rattle.data.proofs.Portions.{name-other, name-carries}
-use borrow.Author.Rules.{rules}
 use Rattle.data.proofs.carrying.of_name.Goals as goal
 
 pub returns-then-whole-sort : goal.returns-then-whole-sort

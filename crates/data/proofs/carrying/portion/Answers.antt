@@ -1,6 +1,5 @@
 -- `carrying::portion` meets its contract.
 use Rattle.data.proofs.Portions.{portion-named, portion-unknown}
-use borrow.Author.Rules.{rules}
 use Rattle.data.proofs.carrying.portion.Goals as goal
 
 pub returns-in-Name : goal.returns-in-Name

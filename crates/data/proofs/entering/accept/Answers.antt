@@ -1,7 +1,6 @@
 -- `entering::accept` meets its contract.
 use Rattle.data.proofs.Accepting.{accept-unsuited, accept-outside, accept-enters}
 use borrow.Author.Tests.{not-true, not-false}
-use borrow.Author.Rules.{rules}
 use Rattle.data.proofs.entering.accept.Goals as goal
 
 pub returns-then-not-suits : goal.returns-then-not-suits

@@ -1,6 +1,5 @@
 -- `entering::one_more_lem` meets its contract.
 use Rattle.data.proofs.Rows.{more-below, more-full}
-use borrow.Author.Rules.{rules}
 use Rattle.data.proofs.entering.one_more.Goals as goal
 
 pub returns-then-n-lt-DATA_LIMIT : goal.returns-then-n-lt-DATA_LIMIT

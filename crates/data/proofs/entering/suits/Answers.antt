@@ -1,7 +1,6 @@
 -- `entering::suits` meets its contract.
 use Rattle.data.proofs.Accepting.{suits-real, suits-whole, suits-not}
 use borrow.Author.Tests.{not-true, not-false}
-use borrow.Author.Rules.{rules}
 use Rattle.data.proofs.entering.suits.Goals as goal
 
 pub returns-then-not-whole : goal.returns-then-not-whole

@@ -1,6 +1,5 @@
 -- `entering::take` meets its contract.
 use Rattle.data.proofs.Accepting.{take-wrong, take-refused, take_done}
-use borrow.Author.Rules.{rules}
 use Rattle.data.proofs.entering.take.Goals as goal
 
 pub returns-in-Count : goal.returns-in-Count

@@ -1,6 +1,5 @@
 -- `layouts::lay_out` meets its contract.
-use Rattle.data.proofs.Laying.{LaidOn, laid-start, laid-stuck, laid_on, laid_end}
-use borrow.Author.Rules.{rules}
+use Rattle.data.proofs.Laying.{laid-start, laid-stuck, laid_on, laid_end}
 use Rattle.data.proofs.layouts.lay_out.Goals as goal
 
 pub loop-left-init : goal.loop-left-init

@@ -1,6 +1,5 @@
 -- `layouts::lay_out` meets its contract.
-use Rattle.data.proofs.Laying.{LaidOn, laid-start, laid-stuck, laid_on, laid_end}
-use borrow.Author.Rules.{rules}
+use Rattle.data.proofs.Laying.{LaidOn}
 use Rattle.data.proofs.layouts.lay_out.Given as goal
 
 abbrev pub invariant-loop-left : goal.invariant-loop-left

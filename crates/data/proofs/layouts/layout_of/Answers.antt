@@ -2,7 +2,6 @@
 use Prim.Native.Nat.{◌*◌}
 use lib.ListN.{length-take}
 use Rattle.data.proofs.Laying.{lays-not, lays-visible}
-use borrow.Author.Rules.{rules}
 use native.Mathlib.Omega.{arith}
 use Rattle.data.proofs.layouts.layout_of.Goals as goal
 

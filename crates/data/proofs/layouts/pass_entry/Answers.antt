@@ -1,6 +1,5 @@
 -- `layouts::pass_entry` meets its contract.
 use Rattle.data.proofs.Laying.{pass-lower, pass-token, pass-upper, pass_all}
-use borrow.Author.Rules.{rules}
 use Rattle.data.proofs.layouts.pass_entry.Goals as goal
 
 pub returns-in_default : goal.returns-in_default

@@ -1,8 +1,7 @@
 -- `running::each` and `running::runs` meet their contracts: with each call one position less is left to run.
-use Prim.Native.Nat.{ℕ, ◌<◌, ◌+◌, ◌-◌, ◌*◌}
+use Prim.Native.Nat.{◌<◌}
 use native.Mathlib.Omega.{arith}
-use borrow.Author.Rules.{rules}
-use Rattle.data.proofs.Carried.{EachOn, each_start, each-end, each-wrong, each_on, runs_number, runs-wrong, runs-refused, runs-each, few-positions}
+use Rattle.data.proofs.Carried.{each_start, each-end, each-wrong, each_on, runs_number, runs-wrong, runs-refused, runs-each, few-positions}
 use Rattle.data.proofs.running.+each_runs.Goals as goal
 
 pub each-loop-i-init : goal.each-loop-i-init

@@ -1,9 +1,7 @@
 -- `running::element` meets its contract.
 use Prim.Native.Nat.{◌-◌}
 use Rattle.data.specs.Reading.Entries.{entries_of}
-use Rattle.data.proofs.reading.Marks.{entries-few}
-use Rattle.data.proofs.Positions.{Making, making-start, making-fixed, making-marked, making-end}
-use borrow.Author.Rules.{rules}
+use Rattle.data.proofs.Positions.{Making}
 use Rattle.data.proofs.running.element.Given as goal
 
 abbrev pub invariant-loop-k : goal.invariant-loop-k

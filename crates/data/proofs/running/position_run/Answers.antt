@@ -1,6 +1,5 @@
 -- `running::position_run` meets its contract.
 use Rattle.data.proofs.PositionRuns.{position_past, position-wrong, position_runs}
-use borrow.Author.Rules.{rules}
 use Rattle.data.proofs.running.position_run.Goals as goal
 
 pub returns-then-length-j : goal.returns-then-length-j

@@ -1,6 +1,5 @@
 -- `running::run_of` meets its contract.
 use Rattle.data.proofs.PositionRuns.{run-wrong, run-counted}
-use borrow.Author.Rules.{rules}
 use Rattle.data.proofs.running.run_of.Goals as goal
 
 pub returns-in-Count : goal.returns-in-Count

@@ -1,7 +1,5 @@
 -- `running::scope_before` meets its contract.
-use Prim.Native.Nat.{◌-◌}
-use Rattle.data.proofs.Positions.{Scoping, scoping-start, scoping-marked, scoping-fixed, scoping-end}
-use borrow.Author.Rules.{rules}
+use Rattle.data.proofs.Positions.{scoping-start, scoping-marked, scoping-fixed, scoping-end}
 use Rattle.data.proofs.running.scope_before.Goals as goal
 
 pub loop-k-init : goal.loop-k-init

@@ -1,7 +1,6 @@
 -- `running::scope_before` meets its contract.
 use Prim.Native.Nat.{◌-◌}
-use Rattle.data.proofs.Positions.{Scoping, scoping-start, scoping-marked, scoping-fixed, scoping-end}
-use borrow.Author.Rules.{rules}
+use Rattle.data.proofs.Positions.{Scoping}
 use Rattle.data.proofs.running.scope_before.Given as goal
 
 abbrev pub invariant-loop-k : goal.invariant-loop-k

@@ -1,6 +1,5 @@
 -- `sections::closed` meets its contract.
 use Rattle.data.proofs.Filling.{closed-done, closed-not, closed-refused}
-use borrow.Author.Rules.{rules}
 use Rattle.data.proofs.sections.closed.Goals as goal
 
 pub returns-in-At-close : goal.returns-in-At-close

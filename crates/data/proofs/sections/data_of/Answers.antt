@@ -1,6 +1,5 @@
 -- `sections::data_of` meets its contract.
 use Rattle.data.proofs.Filling.{data-rest, data-title}
-use borrow.Author.Rules.{rules}
 use Rattle.data.proofs.sections.data_of.Goals as goal
 
 pub returns-in-Of : goal.returns-in-Of

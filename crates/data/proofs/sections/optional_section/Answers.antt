@@ -1,6 +1,5 @@
 -- `sections::optional_section` meets its contract.
 use Rattle.data.proofs.Filling.{section-data, section-none, section-other, section-wrong}
-use borrow.Author.Rules.{rules}
 use Rattle.data.proofs.sections.optional_section.Goals as goal
 
 pub returns-then-k : goal.returns-then-k

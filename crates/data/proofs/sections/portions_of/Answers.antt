@@ -1,7 +1,6 @@
 -- `sections::portions_of` meets its contract.
 use native.Mathlib.Omega.{arith}
-use Rattle.data.proofs.Filling.{PortionsOn, portions-start, portions-none, portions-refused, portions-wrong, portions-end, portions-on}
-use borrow.Author.Rules.{rules}
+use Rattle.data.proofs.Filling.{portions-start, portions-none, portions-refused, portions-wrong, portions-end, portions-on}
 use Rattle.data.proofs.sections.portions_of.Goals as goal
 
 pub loop-left-init : goal.loop-left-init

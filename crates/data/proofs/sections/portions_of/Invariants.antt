@@ -1,7 +1,5 @@
 -- `sections::portions_of` meets its contract.
-use native.Mathlib.Omega.{arith}
-use Rattle.data.proofs.Filling.{PortionsOn, portions-start, portions-none, portions-refused, portions-wrong, portions-end, portions-on}
-use borrow.Author.Rules.{rules}
+use Rattle.data.proofs.Filling.{PortionsOn}
 use Rattle.data.proofs.sections.portions_of.Given as goal
 
 abbrev pub invariant-loop-left : goal.invariant-loop-left

@@ -1,6 +1,5 @@
 -- `Cursor::next` meets its contract.
 use native.Mathlib.Omega.{arith}
-use borrow.Author.Rules.{rules}
 use Rattle.lexer.proofs.Stream.{next-end, next-token, size-most}
 use Rattle.lexer.proofs.Cursor.next.Goals as goal
 

@@ -1,5 +1,4 @@
 -- `Source::next` meets its contract.
-use borrow.Author.Rules.{rules}
 use Rattle.lexer.proofs.Calls.{turn-free, turn-full, turn_on}
 use Rattle.lexer.proofs.Source.next.Goals as goal
 

@@ -1,6 +1,5 @@
 -- `bare::row` meets its contract.
 use native.Mathlib.Omega.{arith}
-use borrow.Author.Rules.{rules}
 use Rattle.listing.proofs.Writing.{row-then, field-then, line-end}
 use Rattle.listing.proofs.bare.row.Goals as goal
 

@@ -1,6 +1,5 @@
 -- `bare::variable` meets its contract.
 use native.Mathlib.Omega.{arith}
-use borrow.Author.Rules.{rules}
 use Rattle.listing.proofs.Writing.{variable-then, field-then, line-end}
 use Rattle.listing.proofs.bare.variable.Goals as goal
 

@@ -1,12 +1,9 @@
 -- `sheet::column` meets its contract.
-use Prim.Native.Nat.{◌+◌, ◌-◌, ◌*◌, ◌≤◌}
 use native.Mathlib.Omega.{arith}
-use borrow.Author.Rules.{rules}
 use Rattle.value.specs.Printed.{Written}
 use Rattle.value.proofs.Integers.{back}
 use Rattle.value.proofs.Writing.{written-length}
 use Rattle.listing.specs.Shown.{shown_lines}
-use Rattle.listing.proofs.Writing.{Left}
 use Rattle.listing.specs.Sheet.Columns.{column_from}
 use Rattle.listing.proofs.sheet.Coefficients.{column-start, column-more, column-end}
 use Rattle.listing.proofs.sheet.column.Goals as goal
@@ -64,6 +61,7 @@ shape_of-out c =
     let e = rw (back z.count_at-2.type_inv) at v.value_of-v.ensures in
     column-end _ _ _ _ _ _ _ t.loop-i.invariant.2 t.loop-i.invariant.0 t.loop-i-test.false z.count_at-2.ensures e w.column_line.ensures.0 in
     written-length _ _ _ _ _ whole
+
 pub returns : goal.returns
 returns c =
     let whole : Written (c).args.out.now (c).args.at (shown_lines (column_from (c).args.matrix.now (c).args.less (c).args.j (c).args.rows 0)) c.column_line.result c.column_line.new.out = let w = c in

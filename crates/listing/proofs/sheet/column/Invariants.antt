@@ -1,14 +1,8 @@
 -- `sheet::column` meets its contract.
 use Prim.Native.Nat.{◌+◌, ◌-◌, ◌*◌, ◌≤◌}
-use native.Mathlib.Omega.{arith}
-use borrow.Author.Rules.{rules}
-use Rattle.value.specs.Printed.{Written}
-use Rattle.value.proofs.Integers.{back}
-use Rattle.value.proofs.Writing.{written-length}
 use Rattle.listing.specs.Shown.{shown_lines}
 use Rattle.listing.proofs.Writing.{Left}
 use Rattle.listing.specs.Sheet.Columns.{column_from}
-use Rattle.listing.proofs.sheet.Coefficients.{column-start, column-more, column-end}
 use Rattle.listing.proofs.sheet.column.Given as goal
 
 abbrev pub invariant-loop-i : goal.invariant-loop-i

@@ -1,12 +1,10 @@
 -- `sheet::columns` meets its contract.
-use mathlib.Core.Path.{◌≡◌, refl, ◌∙◌}
+use mathlib.Core.Path.{◌≡◌}
 use Prim.Native.Nat.{◌+◌, ◌-◌, ◌*◌, ◌≤◌}
-use native.Mathlib.Omega.{arith}
 use lib.ListN.{length}
 use Rattle.listing.specs.Shown.{shown_lines}
 use Rattle.listing.proofs.Writing.{Left}
 use Rattle.listing.specs.Sheet.Columns.{columns_from}
-use Rattle.listing.proofs.sheet.Coefficients.{columns-start, columns-more, columns-end}
 use Rattle.listing.proofs.sheet.columns.Given as goal
 
 abbrev pub invariant-loop-j : goal.invariant-loop-j

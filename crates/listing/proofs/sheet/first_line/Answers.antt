@@ -1,5 +1,4 @@
 -- `sheet::first_line` meets its contract.
-use borrow.Author.Rules.{rules}
 use Rattle.listing.proofs.sheet.Words.{string-most, part-most}
 use Rattle.listing.proofs.sheet.Writing.{first-written}
 use Rattle.listing.proofs.sheet.first_line.Goals as goal

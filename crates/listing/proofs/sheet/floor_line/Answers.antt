@@ -1,6 +1,5 @@
 -- `sheet::floor_line` meets its contract.
 use native.Mathlib.Omega.{arith}
-use borrow.Author.Rules.{rules}
 use Rattle.language.specs.Listing.{low_line}
 use Rattle.listing.proofs.Lengths.{line-most}
 use Rattle.listing.proofs.sheet.Writing.{low-none, low-written}

@@ -1,5 +1,4 @@
 -- `sheet::is_within` meets its contract.
-use borrow.Author.Rules.{rules}
 use Rattle.listing.proofs.sheet.Words.{within-test}
 use Rattle.listing.proofs.sheet.is_within.Goals as goal
 

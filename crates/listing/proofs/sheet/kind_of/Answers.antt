@@ -1,5 +1,4 @@
 -- `sheet::kind_of` meets its contract.
-use borrow.Author.Rules.{rules}
 use Rattle.listing.proofs.Showing.{kind-equal, kind-less, kind-range}
 use Rattle.listing.proofs.sheet.kind_of.Goals as goal
 

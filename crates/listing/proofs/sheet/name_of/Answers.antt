@@ -1,5 +1,4 @@
 -- `sheet::name_of` meets its contract.
-use borrow.Author.Rules.{rules}
 use Rattle.listing.proofs.sheet.Words.{name-is}
 use Rattle.listing.proofs.sheet.name_of.Goals as goal
 

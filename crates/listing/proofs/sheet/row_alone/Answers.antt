@@ -1,6 +1,5 @@
 -- `sheet::row_alone` meets its contract.
 use native.Mathlib.Omega.{arith}
-use borrow.Author.Rules.{rules}
 use Rattle.listing.proofs.sheet.Words.{title-most}
 use Rattle.listing.proofs.sheet.Writing.{row-short, row_written}
 use Rattle.listing.proofs.sheet.row_alone.Goals as goal

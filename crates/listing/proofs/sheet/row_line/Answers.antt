@@ -1,5 +1,4 @@
 -- `sheet::row_line` meets its contract.
-use borrow.Author.Rules.{rules}
 use Rattle.listing.proofs.sheet.Writing.{row-both}
 use Rattle.listing.proofs.sheet.row_line.Goals as goal
 

@@ -1,8 +1,7 @@
 -- `sheet::row_lines` meets its contract.
 use Prim.Native.Nat.{◌-◌}
-use native.Mathlib.Omega.{arith}
 use Rattle.listing.specs.Sheet.Told.{RowTold}
-use Rattle.listing.proofs.sheet.Writing.{Writing, writing_start, writing_more, writing-end}
+use Rattle.listing.proofs.sheet.Writing.{Writing}
 use Rattle.listing.proofs.sheet.row_lines.Given as goal
 
 abbrev pub invariant-loop-i : goal.invariant-loop-i

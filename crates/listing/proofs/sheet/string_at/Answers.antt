@@ -1,5 +1,4 @@
 -- `sheet::string_at` meets its contract.
-use borrow.Author.Rules.{rules}
 use Rattle.listing.proofs.sheet.Words.{string-is}
 use Rattle.listing.proofs.sheet.string_at.Goals as goal
 

@@ -1,5 +1,4 @@
 -- `sheet::title_of` meets its contract.
-use borrow.Author.Rules.{rules}
 use Rattle.listing.proofs.sheet.Words.{title-is}
 use Rattle.listing.proofs.sheet.title_of.Goals as goal
 

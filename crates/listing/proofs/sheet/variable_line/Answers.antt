@@ -1,6 +1,5 @@
 -- `sheet::variable_line` meets its contract.
 use native.Mathlib.Omega.{arith}
-use borrow.Author.Rules.{rules}
 use Rattle.listing.proofs.sheet.Words.{name-most}
 use Rattle.listing.proofs.sheet.Writing.{variable-short, variable-written}
 use Rattle.listing.proofs.sheet.variable_line.Goals as goal

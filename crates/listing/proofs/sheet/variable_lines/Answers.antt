@@ -1,8 +1,6 @@
 -- `sheet::variable_lines` meets its contract.
-use Prim.Native.Nat.{◌-◌}
 use native.Mathlib.Omega.{arith}
-use Rattle.listing.specs.Sheet.Told.{VariableTold}
-use Rattle.listing.proofs.sheet.Writing.{Writing, writing_start, writing_more, writing-end}
+use Rattle.listing.proofs.sheet.Writing.{writing_start, writing_more, writing-end}
 use Rattle.listing.proofs.sheet.variable_lines.Goals as goal
 
 pub loop-j-init : goal.loop-j-init

@@ -1,7 +1,6 @@
 -- `sheet::write` meets its contract.
 use mathlib.Core.Path.{sym, ◌∙◌}
 use native.Mathlib.Omega.{arith}
-use borrow.Author.Rules.{rules}
 use borrow.Author.Tests.{not-false}
 use lib.ListN.{length}
 use Rattle.listing.proofs.sheet.Listed.{lists-none, lists-all}
@@ -16,6 +15,7 @@ pub overflow_add-all : goal.overflow_add-all
 overflow_add-all c =
     let limits : Within (length (c).args.text.now) (c).args.sizes = within-yes _ _ (sym c.is_within.ensures ∙ not-false _ c.if-not-is_within.false-raw) in
     let e = limits in omega (arith, e.bytes, e.sizes.variables, e.sizes.rows)
+
 pub first_line-at-requires : goal.first_line-at-requires
 first_line-at-requires c =
     let limits : Within (length (c).args.text.now) (c).args.sizes = within-yes _ _ (sym c.is_within.ensures ∙ not-false _ c.if-not-is_within.false-raw) in

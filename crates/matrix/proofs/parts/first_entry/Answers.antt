@@ -1,5 +1,4 @@
 -- `parts::first_entry` meets its contract.
-use borrow.Author.Rules.{rules}
 use Rattle.matrix.proofs.parts.Laws.{first_some, first-none, first-wrong}
 use Rattle.matrix.proofs.parts.first_entry.Goals as goal
 

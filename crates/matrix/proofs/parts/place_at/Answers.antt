@@ -1,6 +1,5 @@
 -- `parts::place_at` meets its contract.
 use Rattle.matrix.proofs.parts.Laws.{place_is, place-wrong}
-use borrow.Author.Rules.{rules}
 use Rattle.matrix.proofs.parts.place_at.Goals as goal
 
 pub returns-in-Token : goal.returns-in-Token

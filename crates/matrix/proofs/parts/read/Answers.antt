@@ -1,5 +1,4 @@
 -- `parts::read` meets its contract.
-use borrow.Author.Rules.{rules}
 use Rattle.matrix.proofs.parts.Laws.{parts_are}
 use Rattle.matrix.proofs.parts.read.Goals as goal
 

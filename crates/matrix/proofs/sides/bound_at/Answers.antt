@@ -1,5 +1,4 @@
 -- `bound_at` meets its contract.
-use borrow.Author.Rules.{rules}
 use Rattle.matrix.proofs.sides.Bounds.{bound-value, bound-side, bound-number}
 use Rattle.matrix.proofs.sides.bound_at.Goals as goal
 

@@ -1,5 +1,4 @@
 -- `ends_at` meets its contract.
-use borrow.Author.Rules.{rules}
 use Rattle.matrix.proofs.sides.EndLaws.{ends-refused, ends-alone, ends_low, ends-both}
 use Rattle.matrix.proofs.sides.ends_at.Goals as goal
 

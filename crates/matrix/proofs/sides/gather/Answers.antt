@@ -1,5 +1,4 @@
 -- `gather` meets its contract.
-use borrow.Author.Rules.{rules}
 use Rattle.matrix.proofs.sides.RowLaws.{gather-done, gather-refused}
 use Rattle.matrix.proofs.sides.gather.Goals as goal
 

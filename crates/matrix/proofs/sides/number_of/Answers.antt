@@ -1,5 +1,4 @@
 -- `number_of` meets its contract.
-use borrow.Author.Rules.{rules}
 use Rattle.matrix.proofs.sides.Bounds.{of_number, of-nothing, of-wrong}
 use Rattle.matrix.proofs.sides.number_of.Goals as goal
 

@@ -1,5 +1,4 @@
 -- `objective_at` meets its contract.
-use borrow.Author.Rules.{rules}
 use Rattle.matrix.proofs.sides.RowLaws.{objective-row}
 use Rattle.matrix.proofs.sides.objective_at.Goals as goal
 

@@ -1,5 +1,4 @@
 -- `row_at` meets its contract.
-use borrow.Author.Rules.{rules}
 use Rattle.matrix.proofs.sides.RowLaws.{row-value, row-side, row-form}
 use Rattle.matrix.proofs.sides.row_at.Goals as goal
 

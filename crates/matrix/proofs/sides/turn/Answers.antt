@@ -1,5 +1,4 @@
 -- `turn` meets its contract.
-use borrow.Author.Rules.{rules}
 use Rattle.matrix.proofs.sides.RowLaws.{turn-negated, turn-kept}
 use Rattle.matrix.proofs.sides.turn.Goals as goal
 

@@ -1,9 +1,5 @@
 -- `missing::all_given` meets its contract: the names before i have their data.
-use Prim.Native.Nat.{◌-◌, ◌/◌}
 use native.Mathlib.Omega.{arith}
-use borrow.Author.Rules.{rules}
-use lib.ListN.{length}
-use Rattle.problem.specs.Missing.Given.{GivenTo}
 use Rattle.problem.proofs.missing.Names.{given-none, given-more, given-all, given-refused}
 use Rattle.problem.proofs.missing.all_given.Goals as goal
 

@@ -1,8 +1,5 @@
 -- `missing::domain_given` meets its contract: the elements from the step on are still to be asked.
-use borrow.Author.Rules.{rules}
-use Rattle.elements.specs.Steps.{turns_left}
 use Rattle.elements.proofs.Loops.{next-less}
-use Rattle.problem.specs.Missing.Given.{Asking}
 use Rattle.problem.proofs.missing.Elements.{asking-first, asking-next, asked-all, asked-stopped, asked-missing}
 use Rattle.problem.proofs.missing.domain_given.Goals as goal
 

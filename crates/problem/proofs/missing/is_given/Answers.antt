@@ -1,5 +1,4 @@
 -- `missing::is_given` meets its contract.
-use borrow.Author.Rules.{rules}
 use Rattle.problem.proofs.missing.Elements.{given-found, given_nothing}
 use Rattle.problem.proofs.missing.is_given.Goals as goal
 

@@ -1,5 +1,4 @@
 -- `missing::name_given` meets its contract.
-use borrow.Author.Rules.{rules}
 use Rattle.problem.proofs.missing.Names.{name-data, name-other}
 use Rattle.problem.proofs.missing.name_given.Goals as goal
 

@@ -1,9 +1,7 @@
 -- `add_name` meets its contract.
 use native.Mathlib.Omega.{arith}
-use borrow.Author.Rules.{rules}
-use Rattle.elements.specs.Steps.{turns_left}
 use Rattle.elements.proofs.Loops.{next-less}
-use Rattle.problem.proofs.variables.Names.{NameOn, name-start, name-full, name-more, name_done, name-stopped}
+use Rattle.problem.proofs.variables.Names.{name-start, name-full, name-more, name_done, name-stopped}
 use Rattle.problem.proofs.variables.add_name.Goals as goal
 
 pub loop-step-init : goal.loop-step-init

@@ -1,8 +1,5 @@
 -- `add_sort` meets its contract.
-use Prim.Native.Nat.{◌-◌, ◌/◌}
-use lib.ListN.{length}
-use borrow.Author.Rules.{rules}
-use Rattle.problem.proofs.variables.Sorts.{SortOn, sort-start, sort-skip, sort-more, sort-refused, sort-end}
+use Rattle.problem.proofs.variables.Sorts.{sort-start, sort-skip, sort-more, sort-refused, sort-end}
 use Rattle.problem.proofs.variables.add_sort.Goals as goal
 
 pub loop-i-init : goal.loop-i-init

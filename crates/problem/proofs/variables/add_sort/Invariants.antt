@@ -1,8 +1,7 @@
 -- `add_sort` meets its contract.
 use Prim.Native.Nat.{◌-◌, ◌/◌}
 use lib.ListN.{length}
-use borrow.Author.Rules.{rules}
-use Rattle.problem.proofs.variables.Sorts.{SortOn, sort-start, sort-skip, sort-more, sort-refused, sort-end}
+use Rattle.problem.proofs.variables.Sorts.{SortOn}
 use Rattle.problem.proofs.variables.add_sort.Given as goal
 
 abbrev pub invariant-loop-i : goal.invariant-loop-i

@@ -1,5 +1,4 @@
 -- `number` meets its contract.
-use borrow.Author.Rules.{rules}
 use Rattle.problem.proofs.variables.Both.{number-refused, number-later, number_of}
 use Rattle.problem.proofs.variables.number.Goals as goal
 

@@ -1,9 +1,7 @@
 -- `scanner::fill` meets its contract.
 use native.Mathlib.Omega.{arith}
-use Prim.Native.Nat.{◌-◌}
-use lib.ListN.{length, length-set}
-use borrow.Author.Rules.{rules}
-use Rattle.tokens.proofs.scanner.Filling.{Filling, filling-start, turn-packs, turn-place, filling-more, filling-last, filling-out}
+use lib.ListN.{length-set}
+use Rattle.tokens.proofs.scanner.Filling.{filling-start, turn-packs, turn-place, filling-more, filling-last, filling-out}
 use Rattle.tokens.proofs.scanner.fill.Goals as goal
 
 pub loop-i-init : goal.loop-i-init

@@ -1,9 +1,7 @@
 -- `scanner::fill` meets its contract.
-use native.Mathlib.Omega.{arith}
 use Prim.Native.Nat.{◌-◌}
-use lib.ListN.{length, length-set}
-use borrow.Author.Rules.{rules}
-use Rattle.tokens.proofs.scanner.Filling.{Filling, filling-start, turn-packs, turn-place, filling-more, filling-last, filling-out}
+use lib.ListN.{length}
+use Rattle.tokens.proofs.scanner.Filling.{Filling}
 use Rattle.tokens.proofs.scanner.fill.Given as goal
 
 abbrev pub invariant-loop-i : goal.invariant-loop-i

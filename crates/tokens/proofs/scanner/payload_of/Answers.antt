@@ -1,6 +1,5 @@
 -- `scanner::payload_of` meets its contract.
 use Rattle.tokens.proofs.scanner.Words.{packs-literal, payload-literal}
-use borrow.Author.Rules.{rules}
 use Rattle.tokens.proofs.scanner.payload_of.Goals as goal
 
 pub value_payload-requires : goal.value_payload-requires

@@ -1,7 +1,6 @@
 -- `scanner::value_payload` meets its contract.
 use native.Mathlib.Omega.{arith}
 use Rattle.tokens.proofs.scanner.Words.{value-small, plain_back}
-use borrow.Author.Rules.{rules}
 use Rattle.tokens.proofs.scanner.value_payload.Goals as goal
 
 pub overflow_cast-result : goal.overflow_cast-result

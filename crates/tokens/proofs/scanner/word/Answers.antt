@@ -2,7 +2,6 @@
 use native.Mathlib.Omega.{arith}
 use Rattle.rules.specs.Limits.{byte_limit}
 use Rattle.tokens.proofs.scanner.Words.{payload-small}
-use borrow.Author.Rules.{rules}
 use Rattle.tokens.proofs.scanner.word.Goals as goal
 
 pub overflow_mul-result-2 : goal.overflow_mul-result-2

@@ -1,6 +1,5 @@
 -- `ends::close` meets its contract.
 use Rattle.data.proofs.reading.Steps.{close-wrong, close-sign, close-yes, close-no}
-use borrow.Author.Rules.{rules}
 use Rattle.data.proofs.reading.ends.close.Goals as goal
 
 pub returns-then-k : goal.returns-then-k

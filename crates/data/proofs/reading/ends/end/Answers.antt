@@ -1,6 +1,5 @@
 -- `ends::end` meets its contract.
 use Rattle.data.proofs.reading.Steps.{end-wrong, end-yes, end-no}
-use borrow.Author.Rules.{rules}
 use Rattle.data.proofs.reading.ends.end.Goals as goal
 
 pub returns-then-k-eq-END : goal.returns-then-k-eq-END

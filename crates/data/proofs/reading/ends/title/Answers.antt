@@ -1,6 +1,5 @@
 -- `ends::title` meets its contract.
 use Rattle.data.proofs.reading.Steps.{title-wrong, title-yes, title-no}
-use borrow.Author.Rules.{rules}
 use Rattle.data.proofs.reading.ends.title.Goals as goal
 
 pub returns-then-k-eq-STRING : goal.returns-then-k-eq-STRING

@@ -1,6 +1,5 @@
 -- `heads::behind_index` meets its contract.
 use Rattle.data.proofs.reading.Listings.{behind-wrong, behind-more-item, behind-last-item, behind-no}
-use borrow.Author.Rules.{rules}
 use Rattle.data.proofs.reading.heads.behind_index.Goals as goal
 
 pub returns-then-k : goal.returns-then-k

@@ -1,6 +1,5 @@
 -- `heads::bracketed_order` meets its contract.
 use Rattle.data.proofs.reading.Listings.{bracketed-wrong, bracketed-yes, bracketed-no}
-use borrow.Author.Rules.{rules}
 use Rattle.data.proofs.reading.heads.bracketed_order.Goals as goal
 
 pub returns-in_default : goal.returns-in_default

@@ -1,6 +1,5 @@
 -- `heads::entries_head` meets its contract.
 use Rattle.data.proofs.reading.Listings.{rest-wrong, rest-on}
-use borrow.Author.Rules.{rules}
 use Rattle.data.proofs.reading.heads.entries_head.Goals as goal
 
 pub returns-in-Of : goal.returns-in-Of

@@ -1,6 +1,5 @@
 -- `heads::entry` meets its contract.
 use Rattle.data.proofs.reading.Steps.{entry-wrong, entry-mark, entry_whole, entry-plus, entry-minus, entry_other}
-use borrow.Author.Rules.{rules}
 use Rattle.data.proofs.reading.heads.entry.Goals as goal
 
 pub returns-then-k-eq-NAME : goal.returns-then-k-eq-NAME

@@ -1,6 +1,5 @@
 -- `heads::head` meets its contract.
 use Rattle.data.proofs.reading.Listings.{head-wrong, head-on}
-use borrow.Author.Rules.{rules}
 use Rattle.data.proofs.reading.heads.head.Goals as goal
 
 pub returns-in-At : goal.returns-in-At

@@ -1,6 +1,5 @@
 -- `heads::index` meets its contract.
 use Rattle.data.proofs.reading.Steps.{index-wrong, index-yes, index-other}
-use borrow.Author.Rules.{rules}
 use Rattle.data.proofs.reading.heads.index.Goals as goal
 
 pub returns-then-sort-eq-INDEX : goal.returns-then-sort-eq-INDEX

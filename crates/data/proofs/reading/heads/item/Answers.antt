@@ -1,6 +1,5 @@
 -- `heads::item` meets its contract.
 use Rattle.data.proofs.reading.Listings.{item-wrong, item-yes, item-no}
-use borrow.Author.Rules.{rules}
 use Rattle.data.proofs.reading.heads.item.Goals as goal
 
 pub returns-in_default : goal.returns-in_default

@@ -1,6 +1,5 @@
 -- `heads::list` meets its contract.
-use Rattle.data.proofs.reading.Listings.{Listing, listing_start, listing-wrong, listing-on, listing-end}
-use borrow.Author.Rules.{rules}
+use Rattle.data.proofs.reading.Listings.{Listing}
 use Rattle.data.proofs.reading.heads.list.Given as goal
 
 abbrev pub invariant-loop-left : goal.invariant-loop-left

@@ -1,6 +1,5 @@
 -- `heads::mark` meets its contract.
 use Rattle.data.proofs.reading.Steps.{mark-wrong, mark-yes}
-use borrow.Author.Rules.{rules}
 use Rattle.data.proofs.reading.heads.mark.Goals as goal
 
 pub returns-in-Number : goal.returns-in-Number

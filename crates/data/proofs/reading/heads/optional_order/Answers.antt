@@ -1,6 +1,5 @@
 -- `heads::optional_order` meets its contract.
 use Rattle.data.proofs.reading.Listings.{optional-wrong, optional-some, optional-none}
-use borrow.Author.Rules.{rules}
 use Rattle.data.proofs.reading.heads.optional_order.Goals as goal
 
 pub returns-then-k : goal.returns-then-k

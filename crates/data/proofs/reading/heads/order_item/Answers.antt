@@ -1,6 +1,5 @@
 -- `heads::order_item` meets its contract.
 use Rattle.data.proofs.reading.Listings.{turn-wrong, turn_on}
-use borrow.Author.Rules.{rules}
 use Rattle.data.proofs.reading.heads.order_item.Goals as goal
 
 pub returns-in-Number : goal.returns-in-Number

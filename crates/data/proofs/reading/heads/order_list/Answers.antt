@@ -1,6 +1,5 @@
 -- `heads::order_list` meets its contract.
-use Rattle.data.proofs.reading.Listings.{OrderOn, order-start, order-more, order-last, order-wrong, order-out}
-use borrow.Author.Rules.{rules}
+use Rattle.data.proofs.reading.Listings.{order-start, order-more, order-last, order-wrong, order-out}
 use Rattle.data.proofs.reading.heads.order_list.Goals as goal
 
 pub loop-left-init : goal.loop-left-init

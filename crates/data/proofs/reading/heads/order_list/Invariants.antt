@@ -1,6 +1,5 @@
 -- `heads::order_list` meets its contract.
-use Rattle.data.proofs.reading.Listings.{OrderOn, order-start, order-more, order-last, order-wrong, order-out}
-use borrow.Author.Rules.{rules}
+use Rattle.data.proofs.reading.Listings.{OrderOn}
 use Rattle.data.proofs.reading.heads.order_list.Given as goal
 
 abbrev pub invariant-loop-left : goal.invariant-loop-left

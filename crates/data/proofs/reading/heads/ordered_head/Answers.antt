@@ -1,7 +1,6 @@
 -- `heads::ordered_head` meets its contract.
 use Rattle.data.proofs.reading.Listings.{head-repeats, head-order, head-runs}
 use borrow.Author.Tests.{not-true, not-false}
-use borrow.Author.Rules.{rules}
 use Rattle.data.proofs.reading.heads.ordered_head.Goals as goal
 
 pub returns-then-not-no_repeats : goal.returns-then-not-no_repeats

@@ -1,6 +1,5 @@
 -- `heads::signed_entry` meets its contract.
 use Rattle.data.proofs.reading.Steps.{fixed-wrong, fixed-yes, fixed_no}
-use borrow.Author.Rules.{rules}
 use Rattle.data.proofs.reading.heads.signed_entry.Goals as goal
 
 pub returns-then-k-eq-WHOLE : goal.returns-then-k-eq-WHOLE

@@ -1,6 +1,5 @@
 -- `numbers::literal` meets its contract.
 use Rattle.data.proofs.reading.Steps.{literal-wrong, literal-yes, literal-no}
-use borrow.Author.Rules.{rules}
 use Rattle.data.proofs.reading.numbers.literal.Goals as goal
 
 pub returns-then-k : goal.returns-then-k

@@ -1,6 +1,5 @@
 -- `numbers::number` meets its contract.
 use Rattle.data.proofs.reading.Steps.{number-wrong, number-yes, number-no}
-use borrow.Author.Rules.{rules}
 use Rattle.data.proofs.reading.numbers.number.Goals as goal
 
 pub returns-then-k-minus : goal.returns-then-k-minus

@@ -1,6 +1,5 @@
 -- `numbers::signed` meets its contract.
 use Rattle.data.proofs.reading.Steps.{opposite-fits, signed-minus, signed-plus}
-use borrow.Author.Rules.{rules}
 use Rattle.data.proofs.reading.numbers.signed.Goals as goal
 
 pub overflow_sub-result : goal.overflow_sub-result

@@ -1,5 +1,4 @@
 -- `Here::at` meets its contract.
-use borrow.Author.Rules.{rules}
 use Rattle.elements.proofs.Held.{at-past, at_none, at_first, at_second, at-third, at-fourth}
 use Rattle.elements.proofs.here.Here.at.Goals as goal
 

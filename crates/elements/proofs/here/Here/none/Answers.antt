@@ -1,5 +1,4 @@
 -- `Here::none` meets its contract.
-use borrow.Author.Rules.{rules}
 use Rattle.elements.proofs.Held.{held_none}
 use Rattle.elements.proofs.here.Here.none.Goals as goal
 

@@ -1,5 +1,4 @@
 -- `Level::up` meets its contract.
-use borrow.Author.Rules.{rules}
 use Rattle.elements.proofs.Numbers.{up_same, up_fits, up-number}
 use Rattle.elements.proofs.here.Level.up.Goals as goal
 

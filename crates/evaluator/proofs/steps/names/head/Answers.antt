@@ -1,6 +1,5 @@
 -- `names::head` meets its contract.
 use Rattle.evaluator.proofs.steps.Numbers.{heads-wrong, heads-index}
-use borrow.Author.Rules.{rules}
 use Rattle.evaluator.proofs.steps.names.head.Goals as goal
 
 pub returns-in-Token : goal.returns-in-Token

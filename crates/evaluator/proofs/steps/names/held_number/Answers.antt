@@ -1,6 +1,5 @@
 -- `names::held_number` meets its contract.
 use Rattle.evaluator.proofs.steps.Numbers.{kept-name, kept-beyond, kept-nothing}
-use borrow.Author.Rules.{rules}
 use Rattle.evaluator.proofs.steps.names.held_number.Goals as goal
 
 pub returns-then-i-lt-NAME_LIMIT : goal.returns-then-i-lt-NAME_LIMIT

@@ -1,6 +1,5 @@
 -- `names::index_number` meets its contract.
 use Rattle.evaluator.proofs.steps.Numbers.{index-past, index-other, index-none, index-late, index-name}
-use borrow.Author.Rules.{rules}
 use Rattle.evaluator.proofs.steps.names.index_number.Goals as goal
 
 pub returns-then-tokens-at : goal.returns-then-tokens-at

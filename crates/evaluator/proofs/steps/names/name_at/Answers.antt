@@ -1,6 +1,5 @@
 -- `names::name_at` meets its contract.
 use Rattle.evaluator.proofs.steps.Numbers.{listed-none, listed-name}
-use borrow.Author.Rules.{rules}
 use Rattle.evaluator.proofs.steps.names.name_at.Goals as goal
 
 pub returns-then-n-eq0 : goal.returns-then-n-eq0

@@ -1,8 +1,5 @@
 -- `names::resolve` meets its contract.
-use Prim.Native.Nat.{◌-◌}
-use lib.ListN.{length}
-use Rattle.evaluator.proofs.steps.Numbers.{Resolving, resolving-start, resolving-more, resolving-end}
-use borrow.Author.Rules.{rules}
+use Rattle.evaluator.proofs.steps.Numbers.{resolving-start, resolving-more, resolving-end}
 use Rattle.evaluator.proofs.steps.names.resolve.Goals as goal
 
 pub loop-i-init : goal.loop-i-init

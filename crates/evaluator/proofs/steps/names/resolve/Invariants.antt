@@ -1,8 +1,7 @@
 -- `names::resolve` meets its contract.
 use Prim.Native.Nat.{◌-◌}
 use lib.ListN.{length}
-use Rattle.evaluator.proofs.steps.Numbers.{Resolving, resolving-start, resolving-more, resolving-end}
-use borrow.Author.Rules.{rules}
+use Rattle.evaluator.proofs.steps.Numbers.{Resolving}
 use Rattle.evaluator.proofs.steps.names.resolve.Given as goal
 
 abbrev pub invariant-loop-i : goal.invariant-loop-i

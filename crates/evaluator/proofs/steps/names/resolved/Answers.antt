@@ -1,6 +1,5 @@
 -- `names::resolved` meets its contract.
 use Rattle.evaluator.proofs.steps.Numbers.{word-other, word-name}
-use borrow.Author.Rules.{rules}
 use Rattle.evaluator.proofs.steps.names.resolved.Goals as goal
 
 pub returns-then-w-ne-NAME : goal.returns-then-w-ne-NAME

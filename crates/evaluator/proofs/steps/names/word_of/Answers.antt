@@ -1,6 +1,5 @@
 -- `names::word_of` meets its contract.
 use Rattle.evaluator.proofs.steps.Numbers.{row_here, row-past, row-beyond, row-wide}
-use borrow.Author.Rules.{rules}
 use Rattle.evaluator.proofs.steps.names.word_of.Goals as goal
 
 pub returns-then-names-i : goal.returns-then-names-i

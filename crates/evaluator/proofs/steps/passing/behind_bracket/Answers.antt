@@ -1,8 +1,5 @@
 -- `passing::behind_bracket` meets its contract.
-use Prim.Native.Nat.{◌-◌}
-use lib.ListN.{length}
-use Rattle.evaluator.proofs.steps.Passed.{Open, open-start, open-end, open_more, open-closed, open-less, open-other}
-use borrow.Author.Rules.{rules}
+use Rattle.evaluator.proofs.steps.Passed.{open-start, open-end, open_more, open-closed, open-less, open-other}
 use Rattle.evaluator.proofs.steps.passing.behind_bracket.Goals as goal
 
 pub loop-a-init : goal.loop-a-init

@@ -1,8 +1,7 @@
 -- `passing::behind_bracket` meets its contract.
 use Prim.Native.Nat.{◌-◌}
 use lib.ListN.{length}
-use Rattle.evaluator.proofs.steps.Passed.{Open, open-start, open-end, open_more, open-closed, open-less, open-other}
-use borrow.Author.Rules.{rules}
+use Rattle.evaluator.proofs.steps.Passed.{Open}
 use Rattle.evaluator.proofs.steps.passing.behind_bracket.Given as goal
 
 abbrev pub invariant-loop-a : goal.invariant-loop-a

@@ -1,6 +1,5 @@
 -- `passing::sign` meets its contract.
 use Rattle.evaluator.proofs.steps.Passed.{leads-wrong, leads-sign, leads-none}
-use borrow.Author.Rules.{rules}
 use Rattle.evaluator.proofs.steps.passing.sign.Goals as goal
 
 pub returns-then-k-minus : goal.returns-then-k-minus

@@ -1,6 +1,5 @@
 -- `passing::skip` meets its contract.
 use Rattle.evaluator.proofs.steps.Passed.{skips-past, skips-one}
-use borrow.Author.Rules.{rules}
 use Rattle.evaluator.proofs.steps.passing.skip.Goals as goal
 
 pub returns-then-tokens-at : goal.returns-then-tokens-at

@@ -1,6 +1,5 @@
 -- `values::bind_nth` meets its contract.
 use Rattle.evaluator.proofs.steps.Runs.{nth-bound}
-use borrow.Author.Rules.{rules}
 use Rattle.evaluator.proofs.steps.values.bind_nth.Goals as goal
 
 pub returns : goal.returns

@@ -1,6 +1,5 @@
 -- `values::bounds_of` meets its contract.
 use Rattle.evaluator.proofs.steps.Answers.{bounds-are}
-use borrow.Author.Rules.{rules}
 use Rattle.evaluator.proofs.steps.values.bounds_of.Goals as goal
 
 pub returns : goal.returns

@@ -1,6 +1,5 @@
 -- `values::datum` meets its contract.
 use Rattle.evaluator.proofs.steps.Answers.{datum-no, datum-yes}
-use borrow.Author.Rules.{rules}
 use Rattle.evaluator.proofs.steps.values.datum.Goals as goal
 
 pub returns-in-At : goal.returns-in-At

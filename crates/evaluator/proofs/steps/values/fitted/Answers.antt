@@ -1,6 +1,5 @@
 -- `values::fitted` meets its contract.
 use Rattle.evaluator.proofs.steps.Answers.{fitted-value, fitted-not}
-use borrow.Author.Rules.{rules}
 use Rattle.evaluator.proofs.steps.values.fitted.Goals as goal
 
 pub returns-in-Fits : goal.returns-in-Fits

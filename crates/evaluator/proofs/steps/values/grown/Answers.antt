@@ -1,6 +1,5 @@
 -- `values::grown` meets its contract.
 use Rattle.evaluator.proofs.steps.Answers.{grown-is}
-use borrow.Author.Rules.{rules}
 use Rattle.evaluator.proofs.steps.values.grown.Goals as goal
 
 pub returns : goal.returns

@@ -1,6 +1,5 @@
 -- `values::index_value` meets its contract.
 use Rattle.evaluator.proofs.steps.Answers.{bound-yes, bound-no}
-use borrow.Author.Rules.{rules}
 use Rattle.evaluator.proofs.steps.values.index_value.Goals as goal
 
 pub returns-in-To : goal.returns-in-To

@@ -1,6 +1,5 @@
 -- `values::is_small` meets its contract.
 use Rattle.evaluator.proofs.steps.Runs.{small_low, small-high}
-use borrow.Author.Rules.{rules}
 use Rattle.evaluator.proofs.steps.values.is_small.Goals as goal
 
 pub returns-then-k-limit : goal.returns-then-k-limit

@@ -1,6 +1,5 @@
 -- `values::known_early` meets its contract.
 use Rattle.evaluator.proofs.steps.Answers.{early-is}
-use borrow.Author.Rules.{rules}
 use Rattle.evaluator.proofs.steps.values.known_early.Goals as goal
 
 pub returns : goal.returns

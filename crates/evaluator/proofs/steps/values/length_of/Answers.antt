@@ -1,6 +1,5 @@
 -- `values::length_of` meets its contract.
 use Rattle.evaluator.proofs.steps.Runs.{span_small, length_none, length-low, length_high, length-span}
-use borrow.Author.Rules.{rules}
 use Rattle.evaluator.proofs.steps.values.length_of.Goals as goal
 
 pub returns-then-b-a : goal.returns-then-b-a

@@ -1,6 +1,5 @@
 -- `values::limits_of` meets its contract.
 use Rattle.evaluator.proofs.steps.Answers.{limits-are}
-use borrow.Author.Rules.{rules}
 use Rattle.evaluator.proofs.steps.values.limits_of.Goals as goal
 
 pub returns : goal.returns

@@ -1,6 +1,5 @@
 -- `values::literal` meets its contract.
 use Rattle.evaluator.proofs.steps.Answers.{literal-is}
-use borrow.Author.Rules.{rules}
 use Rattle.evaluator.proofs.steps.values.literal.Goals as goal
 
 pub returns : goal.returns

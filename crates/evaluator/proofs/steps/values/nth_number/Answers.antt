@@ -1,6 +1,5 @@
 -- `values::nth_number` meets its contract.
 use Rattle.evaluator.proofs.steps.Runs.{seen, nth-wide, nth_beyond, nth-may, nth_number}
-use borrow.Author.Rules.{rules}
 use Rattle.evaluator.proofs.steps.values.nth_number.Goals as goal
 
 pub returns-then-not-is_small : goal.returns-then-not-is_small

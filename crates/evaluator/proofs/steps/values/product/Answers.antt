@@ -1,6 +1,5 @@
 -- `values::product` meets its contract.
 use Rattle.evaluator.proofs.steps.Answers.{fitted-same}
-use borrow.Author.Rules.{rules}
 use Rattle.evaluator.proofs.steps.values.product.Goals as goal
 
 pub returns : goal.returns

@@ -1,6 +1,5 @@
 -- `values::run` meets its contract.
 use Rattle.evaluator.proofs.steps.Runs.{run_long, run-bound, run-count}
-use borrow.Author.Rules.{rules}
 use Rattle.evaluator.proofs.steps.values.run.Goals as goal
 
 pub returns-then-n-gt-RUN_LIMIT : goal.returns-then-n-gt-RUN_LIMIT

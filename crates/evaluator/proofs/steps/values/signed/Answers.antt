@@ -1,6 +1,5 @@
 -- `values::signed` meets its contract.
 use Rattle.evaluator.proofs.steps.Answers.{signed-minus, signed-plus}
-use borrow.Author.Rules.{rules}
 use Rattle.evaluator.proofs.steps.values.signed.Goals as goal
 
 pub returns-then-minus : goal.returns-then-minus

@@ -1,6 +1,5 @@
 -- `values::sum` meets its contract.
 use Rattle.evaluator.proofs.steps.Answers.{sum_same}
-use borrow.Author.Rules.{rules}
 use Rattle.evaluator.proofs.steps.values.sum.Goals as goal
 
 pub returns : goal.returns

@@ -1,6 +1,5 @@
 -- `values::test` meets its contract.
 use Rattle.evaluator.proofs.steps.Runs.{test_low, test-high, test-inside}
-use borrow.Author.Rules.{rules}
 use Rattle.evaluator.proofs.steps.values.test.Goals as goal
 
 pub returns-then-k-l : goal.returns-then-k-l

@@ -1,6 +1,5 @@
 -- `values::whole` meets its contract.
 use Rattle.evaluator.proofs.steps.Answers.{whole-yes, whole-no}
-use borrow.Author.Rules.{rules}
 use Rattle.evaluator.proofs.steps.values.whole.Goals as goal
 
 pub returns-in-Number : goal.returns-in-Number

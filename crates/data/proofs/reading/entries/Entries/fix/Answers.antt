@@ -1,6 +1,5 @@
 -- `entries::Entries::fix` meets its contract.
 use Rattle.data.proofs.reading.Marks.{fix-bound}
-use borrow.Author.Rules.{rules}
 use Rattle.data.proofs.reading.entries.Entries.fix.Goals as goal
 
 pub returns : goal.returns

@@ -1,8 +1,5 @@
 -- `entries::Entries::marks` meets its contract.
-use Prim.Native.Nat.{◌-◌}
-use Rattle.data.specs.Reading.Entries.{entries_of}
-use Rattle.data.proofs.reading.Marks.{Marking, marking-start, marking-fixed, marking-marked, marking-end, entries-few}
-use borrow.Author.Rules.{rules}
+use Rattle.data.proofs.reading.Marks.{marking-start, marking-fixed, marking-marked, marking-end, entries-few}
 use Rattle.data.proofs.reading.entries.Entries.marks.Goals as goal
 
 pub loop-k-init : goal.loop-k-init

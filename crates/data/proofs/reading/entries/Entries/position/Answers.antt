@@ -1,8 +1,5 @@
 -- `entries::Entries::position` meets its contract.
-use Prim.Native.Nat.{◌-◌}
-use Rattle.data.specs.Reading.Entries.{entries_of}
-use Rattle.data.proofs.reading.Marks.{Placing, placing-start, placing-found, placing-on, placing-end}
-use borrow.Author.Rules.{rules}
+use Rattle.data.proofs.reading.Marks.{placing-start, placing-found, placing-on, placing-end}
 use Rattle.data.proofs.reading.entries.Entries.position.Goals as goal
 
 pub loop-k-init : goal.loop-k-init

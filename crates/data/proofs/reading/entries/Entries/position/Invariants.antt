@@ -1,8 +1,7 @@
 -- `entries::Entries::position` meets its contract.
 use Prim.Native.Nat.{◌-◌}
 use Rattle.data.specs.Reading.Entries.{entries_of}
-use Rattle.data.proofs.reading.Marks.{Placing, placing-start, placing-found, placing-on, placing-end}
-use borrow.Author.Rules.{rules}
+use Rattle.data.proofs.reading.Marks.{Placing}
 use Rattle.data.proofs.reading.entries.Entries.position.Given as goal
 
 abbrev pub invariant-loop-k : goal.invariant-loop-k

@@ -1,10 +1,6 @@
 -- `entries::Entries::positions` meets its contract.
-use Prim.Native.Nat.{◌-◌}
-use Rattle.data.specs.Reading.Few.{numbers_of}
-use Rattle.data.specs.Reading.Entries.{entries_of}
-use Rattle.data.proofs.reading.Marks.{Ordering, ordering-start, ordering-on, ordering-end}
+use Rattle.data.proofs.reading.Marks.{ordering-start, ordering-on, ordering-end}
 use Rattle.data.proofs.reading.Lists.{length-few}
-use borrow.Author.Rules.{rules}
 use Rattle.data.proofs.reading.entries.Entries.positions.Goals as goal
 
 pub loop-k-init : goal.loop-k-init

@@ -2,9 +2,7 @@
 use Prim.Native.Nat.{◌-◌}
 use Rattle.data.specs.Reading.Few.{numbers_of}
 use Rattle.data.specs.Reading.Entries.{entries_of}
-use Rattle.data.proofs.reading.Marks.{Ordering, ordering-start, ordering-on, ordering-end}
-use Rattle.data.proofs.reading.Lists.{length-few}
-use borrow.Author.Rules.{rules}
+use Rattle.data.proofs.reading.Marks.{Ordering}
 use Rattle.data.proofs.reading.entries.Entries.positions.Given as goal
 
 abbrev pub invariant-loop-k : goal.invariant-loop-k

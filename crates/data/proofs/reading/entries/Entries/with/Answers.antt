@@ -1,6 +1,5 @@
 -- `entries::Entries::with` meets its contract.
 use Rattle.data.proofs.reading.Marks.{grows_none, grows-put}
-use borrow.Author.Rules.{rules}
 use Rattle.data.proofs.reading.entries.Entries.with.Goals as goal
 
 pub returns-then-n-ge4 : goal.returns-then-n-ge4

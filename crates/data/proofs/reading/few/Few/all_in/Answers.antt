@@ -1,9 +1,6 @@
 -- `few::Few::all_in_lem` meets its contract.
-use Prim.Native.Nat.{◌-◌}
-use Rattle.data.specs.Reading.Few.{numbers_of}
-use Rattle.data.proofs.reading.Lists.{Among, among-start, among-not, among-on, among-end}
+use Rattle.data.proofs.reading.Lists.{among-start, among-not, among-on, among-end}
 use borrow.Author.Tests.{not-true, not-false}
-use borrow.Author.Rules.{rules}
 use Rattle.data.proofs.reading.few.Few.all_in.Goals as goal
 
 pub loop-k-init : goal.loop-k-init

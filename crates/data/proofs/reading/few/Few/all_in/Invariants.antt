@@ -1,9 +1,7 @@
 -- `few::Few::all_in_lem` meets its contract.
 use Prim.Native.Nat.{◌-◌}
 use Rattle.data.specs.Reading.Few.{numbers_of}
-use Rattle.data.proofs.reading.Lists.{Among, among-start, among-not, among-on, among-end}
-use borrow.Author.Tests.{not-true, not-false}
-use borrow.Author.Rules.{rules}
+use Rattle.data.proofs.reading.Lists.{Among}
 use Rattle.data.proofs.reading.few.Few.all_in.Given as goal
 
 abbrev pub invariant-loop-k : goal.invariant-loop-k

@@ -1,8 +1,5 @@
 -- `few::Few::has` meets its contract.
-use Prim.Native.Nat.{◌-◌}
-use Rattle.data.specs.Reading.Few.{numbers_of}
-use Rattle.data.proofs.reading.Lists.{Seeks, seeks-start, seeks-found, seeks-on, seeks-none}
-use borrow.Author.Rules.{rules}
+use Rattle.data.proofs.reading.Lists.{seeks-start, seeks-found, seeks-on, seeks-none}
 use Rattle.data.proofs.reading.few.Few.has.Goals as goal
 
 pub loop-k-init : goal.loop-k-init

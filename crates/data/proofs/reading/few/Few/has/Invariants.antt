@@ -1,8 +1,7 @@
 -- `few::Few::has` meets its contract.
 use Prim.Native.Nat.{◌-◌}
 use Rattle.data.specs.Reading.Few.{numbers_of}
-use Rattle.data.proofs.reading.Lists.{Seeks, seeks-start, seeks-found, seeks-on, seeks-none}
-use borrow.Author.Rules.{rules}
+use Rattle.data.proofs.reading.Lists.{Seeks}
 use Rattle.data.proofs.reading.few.Few.has.Given as goal
 
 abbrev pub invariant-loop-k : goal.invariant-loop-k

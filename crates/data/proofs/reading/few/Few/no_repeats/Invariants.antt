@@ -1,8 +1,7 @@
 -- `few::Few::no_repeats` meets its contract.
 use Prim.Native.Nat.{◌-◌}
 use Rattle.data.specs.Reading.Few.{numbers_of}
-use Rattle.data.proofs.reading.Lists.{Single, single-start, single-not, single-on, single-end}
-use borrow.Author.Rules.{rules}
+use Rattle.data.proofs.reading.Lists.{Single}
 use Rattle.data.proofs.reading.few.Few.no_repeats.Given as goal
 
 abbrev pub invariant-loop-k : goal.invariant-loop-k

@@ -1,7 +1,6 @@
 -- `few::Few::rearranges` meets its contract.
 use Rattle.data.proofs.reading.Lists.{rearranges-count, rearranges-not, rearranges_last}
 use borrow.Author.Tests.{not-true, not-false}
-use borrow.Author.Rules.{rules}
 use Rattle.data.proofs.reading.few.Few.rearranges.Goals as goal
 
 pub returns-then-self-marks : goal.returns-then-self-marks

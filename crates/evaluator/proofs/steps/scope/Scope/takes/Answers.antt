@@ -1,5 +1,4 @@
 -- `Scope::takes` meets its contract.
-use borrow.Author.Rules.{rules}
 use Rattle.evaluator.proofs.steps.Scopes.{takes-not, takes-room}
 use Rattle.evaluator.proofs.steps.scope.Scope.takes.Goals as goal
 
