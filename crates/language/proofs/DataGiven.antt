@@ -20,7 +20,7 @@ use Rattle.language.specs.Syntax.{Name, Sort, Spans, Structure, point, span}
 use Rattle.language.specs.Syntax
 use Rattle.language.specs.Scope.{Scope}
 use Rattle.language.specs.Store.{Store, stored, scope_of}
-use Rattle.language.specs.Data.{Entry, fixed, marked, positions_of, bound_of}
+use Rattle.language.specs.Data.{Entry, fixed, marked, marks_of, positions_of, bound_of}
 use Rattle.language.specs.Phrases.{Means, indices, Writes, sort, declared_domain, no_subscripts, with_domain, index_sort, integer_sort, real_sort, formula_sort, discrete_sort, continuous_sort, WritesList, last_name, one_name, WritesOptionalList, no_list, a_list, WritesDeclarations, six_lists, WritesStructure, whole_model}
 use Rattle.language.specs.Named.{NamedDomain, NamedSort, NamedEntry}
 use Rattle.language.specs.Defined.{Has}
@@ -220,7 +220,7 @@ module _ {names : List Name} (table : Table names) (alone : All ApartEntry names
       go false h = h
 
   portion-gave : {x : WrittenPortion} {l : List Token} {st new : Store} → WritesPortion names x l → FillsPortion x st new → Gave x st new
-  unfolding positions_of bound_of
+  unfolding positions_of bound_of marks_of
   portion-gave {x} {st = st} {new = new} (unsubscripted whole p m w) f = gave x (fills-ran names x tt tt [] [] x.numbers st new refl none_open f)
   portion-gave {x} {st = st} {new = new} (subscripted {d = d} {es = es} {o = o} whole p q m w once v n) f =
       gave x

@@ -17,7 +17,7 @@ use Rattle.language.specs.Outcome.{Outcome, done}
 use Rattle.language.proofs.Outcome.{fits-of, after-whole, after, after-some, after_check, some_of, done-injective}
 use Rattle.rules.specs.Limits.{run_limit}
 use Rattle.value.specs.declared.Value.{Value}
-use Rattle.value.specs.Decimal.{zero_value, sum_of, product_of, whole_of, floor_of, ceiling_of}
+use Rattle.value.specs.Decimal.{zero_value, sum_of, product_of, whole_of}
 use Rattle.language.specs.Scope.{Scope, bind, unbound, bound_to}
 use Rattle.language.specs.Syntax.{Formula, Formulas, datum, minus, plus, times, sum}
 use Rattle.language.specs.Syntax
@@ -25,34 +25,11 @@ use Rattle.language.specs.Evaluation.{Limits, limits_of, whole_at, length_of, ru
 use Rattle.language.specs.Written.{value, subscripts, sum_over, run_between, whole_or0, value_or0}
 use Rattle.language.specs.Demand3.{Rising, Run}
 use Rattle.language.proofs.Ordered.{rising-range}
+use Rattle.language.proofs.LimitsRead.{limits-read}
 use Rattle.value.proofs.Rounding.{floor-exactly, ceiling-exactly}
 use Rattle.value.proofs.Numbers.{exactly-whole, exactly-zero, exactly-negate, exactly-whole_of, exactly-add, exactly-mul}
 
 -- ---- limits and runs
-
--- two limits that are read are the rounded values of their formulas
-pub record Read (o q : Outcome Value) (l : Limits) : Type 0 where
-  pub low : Value
-  pub high : Value
-  pub low-done : o ≡ done low
-  pub low-is : ceiling_of low ≡ l.lower
-  pub high-done : q ≡ done high
-  pub high_is : floor_of high ≡ l.upper
-
-pub limits-read : (o q : Outcome Value) (l : Limits) → limits_of o q ≡ done l → Read o q l
-unfolding limits_of
-limits-read o q l e =
-    after o _ l e λ v ov e.
-    after q _ l e λ w qw e.
-    let same : record { lower = ceiling_of v; upper = floor_of w } ≡ l = done-injective e in
-    record {
-      low = v;
-      high = w;
-      low-done = ov;
-      low-is = ap (λ (x : Limits). x.lower) same;
-      high-done = qw;
-      high_is = ap (λ (x : Limits). x.upper) same;
-    }
 
 pub run-done : (l : Limits) (i : ℕ) (s : Scope) (p : ℕ) (ks : List ℤ) → run_of l i s p ≡ done ks → ks ≡ range l.lower l.upper
 unfolding run_of length_of

@@ -23,6 +23,7 @@ pub mod CompleteLinear
 pub mod CompleteDomains
 pub mod CompletePhrases
 pub mod CompleteModel
+pub mod LimitsRead
 pub mod Evaluated
 pub mod Gathered
 pub mod Listwise
@@ -34,6 +35,7 @@ pub mod Entries
 pub mod Numbered
 pub mod Stated
 pub mod Summed
+pub mod RowLines
 pub mod Lines
 pub mod Kept
 pub mod Valid

@@ -20,9 +20,10 @@ use Rattle.language.specs.Syntax.{Name}
 use Rattle.language.specs.Syntax
 use Rattle.language.specs.Model.{Model}
 use Rattle.language.specs.Numbering.{Variable, Row, Entry, Lp, less_rows, rows, lower_of, upper_of}
-use Rattle.language.specs.Listing.{Line, lp_line, row_line, low_line, var_line, col_line, ending_line, right_of, coefficients_of, kind_of, low_lines, row_lines, var_lines, column_lines, col_lines, lines_of}
+use Rattle.language.specs.Listing.{Line, lp_line, low_line, var_line, col_line, ending_line, coefficients_of, low_lines, row_lines, var_lines, column_lines, col_lines, lines_of}
 use Rattle.language.specs.Demand3.{Rising, Below, rank, EarlierLine, Says}
 use Rattle.language.proofs.Ordered.{rising-nil, rising-cons, rising-one, rising-append}
+use Rattle.language.proofs.RowLines.{row_line_of, row_lines_of}
 
 -- ---- lines for each thing of a list, with numbers from n on
 
@@ -84,13 +85,7 @@ module _ {A : Type 0} (lines : ℕ → A → List Line) where
       let v = all_in_lem (RankedAt kind (suc (suc n + r.0))) (lines (suc n + r.0) r.1) y r.3 (ranked (suc n + r.0) r.1) in
       subst₂ Below (sym u.1) (sym v.1) (inr (refl, inl (omega arith))))
 
--- the lines of a row and of a variable, counted from 0
-abbrev row_line_of : ℕ → Entry → Line
-row_line_of i e = row_line (suc i) (kind_of e.source.constraint.relation) (right_of e.fact) e.source.constraint.title e.source.element
-
-abbrev row_lines_of : ℕ → Entry → List Line
-row_lines_of i e = row_line_of i e ∷ low_lines (suc i) e.floor
-
+-- the line of a variable, counted from 0
 abbrev pub variable_line : List Name → Lp → ℕ → Variable → Line
 variable_line names p j v =
     var_line (suc j) (ltb j p.discrete) (lower_of p.entries j) (upper_of p.entries j)

@@ -28,7 +28,8 @@ use Rattle.language.specs.Syntax.{Formula, Formulas, Spans, datum, minus, plus, 
 use Rattle.language.specs.Syntax
 use Rattle.language.specs.Evaluation.{Limits, limits_of, whole_at, run_of, each, add_to, eval, eval_all, within, over}
 use Rattle.language.specs.Literals.{AllFormula, AllFormulas, AllSpans}
-use Rattle.language.proofs.Evaluated.{limits-read, run-done}
+use Rattle.language.proofs.LimitsRead.{limits-read}
+use Rattle.language.proofs.Evaluated.{run-done}
 use Rattle.language.specs.Valid.{Small, SmallElement, SmallBinding, ValidScope}
 
 -- ---- whole values
