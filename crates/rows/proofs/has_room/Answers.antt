@@ -1,4 +1,4 @@
--- `rows::has_room_lem` meets its contract.
+-- `rows::has_room` meets its contract.
 use Rattle.rows.proofs.Slotting.{room-none, room-left}
 use Rattle.rows.proofs.has_room.Goals as goal
 

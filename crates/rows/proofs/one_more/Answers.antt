@@ -1,4 +1,4 @@
--- `rows::one_more_lem` meets its contract.
+-- `rows::one_more` meets its contract.
 use Rattle.rows.proofs.Slotting.{more-counted, none-counted}
 use Rattle.rows.proofs.one_more.Goals as goal
 

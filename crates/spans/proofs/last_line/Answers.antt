@@ -1,4 +1,4 @@
--- `spans::last_line_lem` meets its contract.
+-- `spans::last_line` meets its contract.
 use native.Mathlib.Omega.{arith}
 use Rattle.language.specs.Listing.{ending_line}
 use Rattle.listing.proofs.Lengths.{line-most}

@@ -1,4 +1,4 @@
--- `store::digit_at_lem` meets its contract.
+-- `store::digit_at` meets its contract.
 use mathlib.Core.Path.{◌∙◌}
 use native.Mathlib.Omega.{arith}
 use Rattle.store.proofs.Keys.{digit_at_lem, digit-past}

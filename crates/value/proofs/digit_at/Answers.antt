@@ -1,4 +1,4 @@
--- `value::digit_at_lem` meets its contract.
+-- `value::digit_at` meets its contract.
 use lib.Dec.{lit<}
 use native.Mathlib.Nat.{one-le-pow}
 use native.Mathlib.Omega.{arith}

@@ -1,4 +1,4 @@
--- `entering::one_more_lem` meets its contract.
+-- `entering::one_more` meets its contract.
 use Rattle.data.proofs.Rows.{more-below, more-full}
 use Rattle.data.proofs.entering.one_more.Goals as goal
 

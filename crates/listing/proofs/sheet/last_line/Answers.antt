@@ -1,4 +1,4 @@
--- `sheet::last_line_lem` meets its contract.
+-- `sheet::last_line` meets its contract.
 use native.Mathlib.Omega.{arith}
 use Rattle.language.specs.Listing.{ending_line}
 use Rattle.listing.proofs.Lengths.{line-most}

@@ -1,2 +1,0 @@
-pub mod Integer
-pub mod Fraction
