@@ -1,10 +1,9 @@
 // How a test program is given its cases: each case is a frame of its standard input, which is a line feed, a letter for the entry point,
 // five digits with the text's length, a space, five digits with the length of the output buffer, a line feed, and the text.
-ghost use Rattle.std.specs.Prelude.{◌≡◌, ◌≤◌, length, IfOk};
+ghost use Rattle.std.specs.Prelude.{◌≡◌, ◌≤◌, length};
 ghost use Rattle.cases.specs.Frames.Frames.{digit_of, five_of, entry_of, Within};
 
 use generator::Entry;
-use std::io;
 use std::io::Read;
 
 // The entry point of a case, and the lengths of its text and of its output buffer.
@@ -45,23 +44,23 @@ fn entry(b: u8) -> Entry
     Entry::List
 }
 
-// Takes the next text into the start of a buffer. No contract can say what is read; a read that fails is an error.
-pub fn take<R: Read>(reader: &mut R, buffer: &mut [u8]) -> io::Result<Given>
-    ensures { IfOk result (λ given. Within given (length buffer.new)) }
+// Takes the next text into the start of a buffer. No contract can say what is read: a read that fails counts as the end.
+pub fn take<R: Read>(reader: &mut R, buffer: &mut [u8]) -> Given
+    ensures { Within result (length buffer.new) }
 {
     let mut head = [0u8; 14];
-    let got = input::read_full(reader, &mut head)?;
+    let got = input::read_full(reader, &mut head).unwrap_or(0);
     if got < 14 {
-        return Ok(Given::Nothing);
+        return Given::Nothing;
     }
     let n = five(head[2], head[3], head[4], head[5], head[6]);
     let k = five(head[8], head[9], head[10], head[11], head[12]);
     if buffer.len() < n {
-        return Ok(Given::Nothing);
+        return Given::Nothing;
     }
-    let taken = input::read_full(reader, &mut buffer[..n])?;
+    let taken = input::read_full(reader, &mut buffer[..n]).unwrap_or(0);
     if taken < n {
-        return Ok(Given::Nothing);
+        return Given::Nothing;
     }
-    Ok(Given::Text(entry(head[1]), n, k))
+    Given::Text(entry(head[1]), n, k)
 }

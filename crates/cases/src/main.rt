@@ -104,7 +104,7 @@ fn run(rt: &impl Print, entry: Entry, text: &[u8], out: &mut [u8]) -> io::Result
 // One case; whether there was one. Its buffer has no zero byte before the call.
 fn turn<P: Print, R: Read>(rt: &P, reader: &mut R) -> io::Result<bool> {
     let mut buffer = [0u8; 65536];
-    let given = frames::take(reader, &mut buffer)?;
+    let given = frames::take(reader, &mut buffer);
     let Given::Text(entry, n, k) = given else {
         return Ok(false);
     };
