@@ -1,7 +1,7 @@
 -- Laws of strings, relations and objectives, over plain variables.
+use Rattle.std.specs.Prelude.{Option, Some, None}
 use mathlib.Core.Path.{◌≡◌, refl, sym, ◌∙◌, ap, subst}
 use mathlib.Core.Bool.{Bool, true, false, cond, ◌||◌}
-use mathlib.Core.Option.{Option, none, some}
 use mathlib.Core.List.{List}
 use Prim.Native.Nat.{ℕ, zero, suc}
 use native.Mathlib.Omega.{arith}
@@ -33,7 +33,7 @@ is-string s (suc (suc (suc (suc (suc (suc k)))))) p x = sym (ne_eqb (suc (suc (s
 
 -- the relation of a mark, by the three tests
 chosen : Bool → Bool → Bool → Option Relation
-chosen a b c = cond a (some at_most) (cond b (some at_least) (cond c (some equal) none))
+chosen a b c = cond a (Some at_most) (cond b (Some at_least) (cond c (Some equal) None))
 
 relation-of : (s : List ℕ) (k p x : ℕ) → relation_of (token s k p x) ≡ chosen (eqb k 60) (eqb k 62) (eqb k 61)
 unfolding relation_of token chosen
@@ -42,7 +42,7 @@ relation-of s k p x = rw (mark-of s k p x, mark-same k 60 (omega arith), mark-sa
 -- one of them holds
 record Chosen (k : ℕ) (o : Option Relation) : Type 0 where
   what : Relation
-  is : o ≡ some what
+  is : o ≡ Some what
   mark : relation_mark what ≡ k
   plain : what ≡ plain_by k
 
@@ -53,7 +53,7 @@ chosen-some k false true c e f g h = record { what = at_least; is = refl; mark =
 chosen-some k false false true e f g h = record { what = equal; is = refl; mark = sym (eqb-true k 61 g); plain = rw (e, f) refl }
 chosen-some k false false false e f g h = absurd (false-true h)
 
-chosen_none : (a b c : Bool) → (a || b || c) ≡ false → chosen a b c ≡ none
+chosen_none : (a b c : Bool) → (a || b || c) ≡ false → chosen a b c ≡ None
 unfolding chosen
 chosen_none true b c h = absurd (false-true (sym h))
 chosen_none false true c h = absurd (false-true (sym h))

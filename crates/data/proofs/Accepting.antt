@@ -1,4 +1,5 @@
 -- Laws of one number over plain variables: its tests, and its row in the store.
+use Rattle.std.specs.Prelude.{Option, Some, None}
 use mathlib.Core.Path.{◌≡◌, refl, sym, ◌∙◌, ap, subst}
 use mathlib.Core.Bool.{Bool, true, false}
 use mathlib.Core.List.{List}
@@ -10,8 +11,6 @@ use Rattle.rules.specs.declared.Refusal.{Refusal}
 use Rattle.rules.specs.declared.Refusal.TheVariants.{NotWhole}
 use Rattle.rules.specs.Limits.{name_limit}
 use Rattle.value.specs.declared.Value.{Value}
-use Rattle.value.specs.declared.Whole.{Whole}
-use Rattle.value.specs.declared.Whole.TheVariants.{Number, NotWhole as no_number}
 use Rattle.value.specs.Decimal.{Valid, whole_of}
 use Rattle.language.specs.Outcome.{Outcome, done, refused}
 use Rattle.language.specs.Reader.{follow, as_read, lift}
@@ -49,12 +48,12 @@ pub suits-real : (whole : Bool) (v : Value) → whole ≡ false → Suits whole 
 unfolding whole_if
 suits-real whole v e = record { is = λ p. rw e refl }
 
-module _ (whole : Bool) (v : Value) (r : Whole) (e : whole ≡ true) (h : r ≡ whole_of v) where
-  pub suits-whole : (k : ℤ) → r ≡ Number k → Suits whole v true
+module _ (whole : Bool) (v : Value) (r : Option ℤ) (e : whole ≡ true) (h : r ≡ whole_of v) where
+  pub suits-whole : (k : ℤ) → r ≡ Some k → Suits whole v true
   unfolding whole_if whole_at
   suits-whole k d = record { is = λ p. rw (e, ← h, d) refl }
 
-  pub suits-not : r ≡ no_number → Suits whole v false
+  pub suits-not : r ≡ None → Suits whole v false
   unfolding whole_if whole_at
   suits-not d = record { is = λ p. rw (e, ← h, d) refl }
 

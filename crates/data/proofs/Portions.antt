@@ -1,12 +1,12 @@
 -- Laws of a portion from its name on over plain variables.
+use Rattle.std.specs.Prelude.{Some, slice_get}
 use mathlib.Core.Path.{◌≡◌, refl, sym, ◌∙◌, ap, subst}
 use mathlib.Core.Bool.{Bool, true, false, ◌||◌}
-use mathlib.Core.Option.{some}
 use mathlib.Core.List.{List, []}
 use Prim.Native.Nat.{ℕ, zero, suc}
 use native.Mathlib.Omega.{arith}
 use lib.Dec.{eqb}
-use lib.ListN.{length, take, get_elem?}
+use lib.ListN.{length, take}
 use Rattle.rules.specs.declared.Refusal.{Refusal}
 use Rattle.rules.specs.declared.Refusal.TheVariants.{Misplaced, BadIndex}
 use Rattle.rules.specs.Limits.{nesting_limit, index_limit}
@@ -177,7 +177,7 @@ module _ (s ns ts ds : List ℕ) (given at i k c p : ℕ) where
       stands u d = d.ground.declared i d.name d.stands
 
       by : (u : Used) (d : Names s ns ts i k c p u) (st : Store) → Stores ds given st → (b : Spans) (whole : Bool)
-          → portion_by u.number u.place u.sort ≡ some (record { name = u.number; place = u.place; whole = whole; domain = b })
+          → portion_by u.number u.place u.sort ≡ Some (record { name = u.number; place = u.place; whole = whole; domain = b })
           → whole ≡ eqb k 1 → size b ≡ c → DomainAt s ts (take i d.ground.names) b (row_word ns i 4) → TakenIs (used_in d.ground.names st u (from s ts at)) s ts ds' r
       by u d st g b whole o a n m =
           let x : Portion = record { name = u.number; place = u.place; whole = whole; domain = b } in
@@ -208,7 +208,7 @@ named-is s ns ts g l x i k c p e n w q =
       place = q;
       shaped = w;
       name = y.name;
-      stands = subst (λ i. get_elem? g.names i ≡ some y.name) here y.stands;
+      stands = subst (λ i. slice_get g.names i ≡ Some y.name) here y.stands;
       sorted = y.sorted;
     }
 

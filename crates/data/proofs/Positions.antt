@@ -1,7 +1,7 @@
 -- Laws of the positions of a portion over plain variables: its element, and the scope of a position.
+use Rattle.std.specs.Prelude.{Option, Some, None}
 use mathlib.Core.Path.{◌≡◌, refl, sym, ◌∙◌, ap, subst}
 use mathlib.Core.Bool.{Bool, true, false}
-use mathlib.Core.Option.{Option, none, some}
 use mathlib.Core.List.{List, [], ◌∷◌, ◌++◌, append_assoc, append-nil}
 use Prim.Native.Nat.{ℕ, zero, suc, ◌+◌, ◌-◌, ◌<◌, ◌≤◌, ◌^◌}
 use native.Mathlib.Omega.{arith}
@@ -39,8 +39,8 @@ use Rattle.data.specs.Running.{before, SmallIf, SmallPositions, Before}
 
 -- what a position is bound to
 abbrev slot : Entry → Option ℤ
-slot (fixed k) = some k
-slot (marked i) = none
+slot (fixed k) = Some k
+slot (marked i) = None
 
 bound-cons : (x : Entry) (l : List Entry) → bound_of (x ∷ l) ≡ slot x ∷ bound_of l
 unfolding bound_of
@@ -56,19 +56,19 @@ bound-length (marked i ∷ l) = ap suc (bound-length l)
 -- ---- an element
 
 number_at : Option ℤ → ℤ
-number_at none = pos 0
-number_at (some k) = k
+number_at None = pos 0
+number_at (Some k) = k
 
 element-cons : (x : Option ℤ) (b : Bound) → element_of (x ∷ b) ≡ number_at x ∷ element_of b
 unfolding element_of number_at
-element-cons none b = refl
-element-cons (some k) b = refl
+element-cons None b = refl
+element-cons (Some k) b = refl
 
 pub element-length : (b : Bound) → length (element_of b) ≡ length b
 unfolding element_of
 element-length [] = refl
-element-length (none ∷ b) = ap suc (element-length b)
-element-length (some k ∷ b) = ap suc (element-length b)
+element-length (None ∷ b) = ap suc (element-length b)
+element-length (Some k ∷ b) = ap suc (element-length b)
 
 -- the numbers of the positions before k
 pub record Making (l : List Entry) (k : ℕ) (e : Element) : Type 0 where
@@ -111,10 +111,10 @@ before-none b zero s = refl
 before-none b (suc n) s = refl
 
 -- a number that a position is bound to
-small_at : (l : List Entry) (k : ℕ) (z : ℤ) → All SmallIf (bound_of l) → get_or l k (marked 0) ≡ fixed z → SmallIf (some z)
+small_at : (l : List Entry) (k : ℕ) (z : ℤ) → All SmallIf (bound_of l) → get_or l k (marked 0) ≡ fixed z → SmallIf (Some z)
 unfolding bound_of
 small_at [] k z h e = absurd (let w : ◌≡◌ {A = ℕ} 0 1 = cc in omega arith)
-small_at (fixed x ∷ l) zero z h e = let d : x ≡ z = cc in subst (λ x. SmallIf (some x)) d h.0
+small_at (fixed x ∷ l) zero z h e = let d : x ≡ z = cc in subst (λ x. SmallIf (Some x)) d h.0
 small_at (marked i ∷ l) zero z h e = absurd (let w : ◌≡◌ {A = ℕ} 0 1 = cc in omega arith)
 small_at (fixed x ∷ l) (suc k) z h e = small_at l k z h.1 e
 small_at (marked i ∷ l) (suc k) z h e = small_at l k z h.1 e

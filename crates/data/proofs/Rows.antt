@@ -1,7 +1,7 @@
 -- Laws of the store's table: what it holds by name and element, and one datum more.
+use Rattle.std.specs.Prelude.{Option, Some, None}
 use mathlib.Core.Path.{◌≡◌, refl, sym, ◌∙◌, ap, subst}
 use mathlib.Core.Bool.{Bool, true, false, cond, ◌&&◌}
-use mathlib.Core.Option.{Option, none, some}
 use mathlib.Core.List.{List, [], ◌∷◌, map}
 use Prim.Native.Nat.{ℕ, zero, suc, ◌+◌, ◌<◌, ◌≤◌}
 use native.Mathlib.Omega.{arith}
@@ -51,9 +51,9 @@ stored-word [] h i l = refl
 stored-word (x ∷ st) h i l = go (eqb x.name i && same_element x.element l) (stored-word st h.1 i l)
   where
     go : (b : Bool) → stored st i l ≡ value_in (word_of (map row_of st) i l)
-        → ◌≡◌ {A = Option Value} (elim b as (λ _. Option Value) [ true ↦ some x.value | false ↦ stored st i l ])
-        (value_in (elim b as (λ _. Option ℕ) [ true ↦ some (packed x.value) | false ↦ word_of (map row_of st) i l ]))
-    go true f = ap some (sym (unpacked-packed x.value h.0.value.small h.0.value.places))
+        → ◌≡◌ {A = Option Value} (elim b as (λ _. Option Value) [ true ↦ Some x.value | false ↦ stored st i l ])
+        (value_in (elim b as (λ _. Option ℕ) [ true ↦ Some (packed x.value) | false ↦ word_of (map row_of st) i l ]))
+    go true f = ap Some (sym (unpacked-packed x.value h.0.value.small h.0.value.places))
     go false f = f
 
 pub stores-none : (ds : List ℕ) → Stores ds 0 []
@@ -85,7 +85,7 @@ module _ (ds : List ℕ) (given i : ℕ) (e : List ℤ) (p : ℕ) (v : Value) (k
   says : (st : Store) → Stores ds given st → Keyed i e → Says r (word_of (map row_of st) i e) (has_room ds given)
   says st h a = holds-answer ds given (map row_of st) i e key h.holds a k word r ds' f
 
-  unset : (st : Store) → Stores ds given st → word_of (map row_of st) i e ≡ none → is_none (stored st i e) ≡ true
+  unset : (st : Store) → Stores ds given st → word_of (map row_of st) i e ≡ None → is_none (stored st i e) ≡ true
   unset st h o = ap is_none (stored-word st h.valid i e ∙ ap value_in o)
 
   pub enter-present : r ≡ Present → Enters ds given i e p v (accepted.Refused Missing p) ds'

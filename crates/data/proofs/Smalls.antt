@@ -1,7 +1,7 @@
 -- Where the literals of the tokens are values, a portion's fixed entries are small and its numbers are values.
+use Rattle.std.specs.Prelude.{Some}
 use mathlib.Core.Path.{◌≡◌, refl, sym, ◌∙◌, ap, subst}
 use mathlib.Core.Bool.{Bool, true, false, cond}
-use mathlib.Core.Option.{some}
 use mathlib.Core.List.{List, [], ◌∷◌}
 use Prim.Native.Nat.{ℕ, suc, ◌+◌}
 use lib.Dec.{eqb}
@@ -72,7 +72,7 @@ abbrev pub SmallEntry : Entry → Type 0
 SmallEntry (fixed k) = Small k
 SmallEntry (marked i) = Unit {0}
 
-digits-small : (k : Kind) (z : ℤ) → FittingKind k → digits_of k ≡ some z → Small z
+digits-small : (k : Kind) (z : ℤ) → FittingKind k → digits_of k ≡ Some z → Small z
 unfolding digits_of
 digits-small (Text.mark c) z h e = absurd (none-some e)
 digits-small (Text.name l) z h e = absurd (none-some e)
@@ -131,7 +131,7 @@ positions-small (marked i ∷ es) h = (tt, positions-small es h.1)
 
 -- ---- a number
 
-value-valid : (k : Kind) (v : Value) → FittingKind k → value_of k ≡ some v → Valid v
+value-valid : (k : Kind) (v : Value) → FittingKind k → value_of k ≡ Some v → Valid v
 unfolding value_of
 value-valid (Text.mark c) v h e = absurd (none-some e)
 value-valid (Text.name l) v h e = absurd (none-some e)

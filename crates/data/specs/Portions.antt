@@ -1,7 +1,5 @@
 -- A portion from its name on: its head, and its numbers taken into the store.
-use Rattle.std.specs.Prelude.{◌≡◌, Bool, true, false, List, [], ℕ, zero, suc, ◌<◌, length, take}
-use Rattle.std.proofs.Math.Option.{some}
-use Rattle.std.proofs.Math.ListN.{get_elem?}
+use Rattle.std.specs.Prelude.{◌≡◌, Bool, true, false, List, [], ℕ, zero, suc, ◌<◌, length, take, Some, slice_get}
 use Rattle.language.specs.Syntax.{Name}
 use Rattle.language.specs.Reader.{Reader, ◌>>=◌, give, demand, Used}
 use Rattle.language.specs.Store.{Store, Portion, portion_by}
@@ -52,7 +50,7 @@ pub record Names (s ns ts : List ℕ) (i k c p : ℕ) (u : Used) : Type 0 where
   pub place : u.place ≡ p
   pub shaped : Shaped u.sort k c
   pub name : Name
-  pub stands : get_elem? ground.names i ≡ some name
+  pub stands : slice_get ground.names i ≡ Some name
   pub sorted : u.sort ≡ name.sort
 
 pub record Uses (s ns ts ds : List ℕ) (given at i k c p : ℕ) (r : Taken) (ds' : List ℕ) : Type 0 where

@@ -1,6 +1,5 @@
 -- The positions of a portion that run.
-use Rattle.std.specs.Prelude.{◌≡◌, List, [], ◌∷◌, ℕ, zero, suc, ◌<◌, ◌≤◌, length, take, ℤ}
-use Rattle.std.proofs.Math.Option.{Option, none, some}
+use Rattle.std.specs.Prelude.{◌≡◌, List, [], ◌∷◌, ℕ, zero, suc, ◌<◌, ◌≤◌, length, take, ℤ, Option, Some, None}
 use Rattle.rules.specs.Limits.{run_limit}
 use Rattle.value.specs.declared.Value.{Value}
 use Rattle.language.specs.Outcome.{Outcome, done, refused}
@@ -39,8 +38,8 @@ before (i ∷ l) (x ∷ b) (suc j) s = before l b j (bind_if i x s)
 
 -- each number that a position is bound to is a value's
 abbrev pub SmallIf : Option ℤ → Type 0
-SmallIf none = Unit
-SmallIf (some k) = SmallNumber k
+SmallIf None = Unit
+SmallIf (Some k) = SmallNumber k
 
 abbrev pub SmallPositions : Entries → Type 0
 SmallPositions e = All SmallIf (bound_of (entries_of e))

@@ -9,7 +9,7 @@ use super::reading::numbers::Numbered;
 use super::running::Portion;
 use evaluator::Passed;
 use store::{Element, Insertion};
-use value::{Value, Whole};
+use value::Value;
 
 // How many data elements there are now, or a refusal.
 #[derive(Clone, Copy)]
@@ -63,8 +63,8 @@ fn suits(whole: bool, v: Value) -> bool
         return true;
     }
     match value::whole_of(v) {
-        Whole::Number(_) => true,
-        Whole::NotWhole => false,
+        Some(_) => true,
+        None => false,
     }
 }
 

@@ -1,4 +1,5 @@
 -- Laws over plain variables for the functions without loops.
+use Rattle.std.specs.Prelude.{Option, Some, None}
 use mathlib.Core.Path.{◌≡◌, refl, sym, ◌∙◌, ap, subst}
 use mathlib.Core.Bool.{Bool, true, false}
 use mathlib.Core.List.{List}
@@ -9,10 +10,6 @@ use Rattle.rules.specs.declared.Refusal.{Refusal}
 use Rattle.rules.specs.declared.Refusal.TheVariants.{Full}
 use Rattle.rules.specs.Limits.{token_limit, nesting_limit, mantissa_limit}
 use Rattle.value.specs.declared.Value.{Value}
-use Rattle.value.specs.declared.Fit.{Fit}
-use Rattle.value.specs.declared.Fit.TheVariants.{Fits, TooBig}
-use Rattle.value.specs.declared.Whole.{Whole}
-use Rattle.value.specs.declared.Whole.TheVariants.{Number, NotWhole as no_number}
 use Rattle.value.specs.Decimal.{Valid, whole_of, of_whole, floor_of, ceiling_of}
 use Rattle.value.proofs.Rounding.{floor-size, ceiling-size}
 use Rattle.value.proofs.Operations.{negate-valid, valid-negated, of_whole-whole_of}
@@ -55,31 +52,31 @@ module _ {A B C : Type 0} where
 
 -- a fit of values, as the code has it and as the definition has it
 module _ (s ts : List ℕ) (p a : ℕ) where
-  pub fitted-outcome : (f : Fit) → as_read (fitting p f) (from s ts a) ≡ value_outcome s ts (fitted_at p a f)
+  pub fitted-outcome : (f : Option Value) → as_read (fitting p f) (from s ts a) ≡ value_outcome s ts (fitted_at p a f)
   unfolding fitted_at
-  fitted-outcome (Fits v) = refl
-  fitted-outcome TooBig = refl
+  fitted-outcome (Some v) = refl
+  fitted-outcome None = refl
 
   pub whole-outcome : (v : Value) → as_read (whole_at p v) (from s ts a) ≡ whole_outcome s ts (whole_answer p a v)
   unfolding whole_at whole_answer whole_by of_whole
   whole-outcome v = go (whole_of v) refl
     where
-      go : (w : Whole) → whole_of v ≡ w → as_read (whole_at p v) (from s ts a) ≡ whole_outcome s ts (whole_answer p a v)
-      go (Number k) e = rw e (ap (λ m. read m (from s ts a)) (ap (λ (v : Value). v.m) (of_whole-whole_of v k e)))
-      go no_number e = rw e refl
+      go : (w : Option ℤ) → whole_of v ≡ w → as_read (whole_at p v) (from s ts a) ≡ whole_outcome s ts (whole_answer p a v)
+      go (Some k) e = rw e (ap (λ m. read m (from s ts a)) (ap (λ (v : Value). v.m) (of_whole-whole_of v k e)))
+      go None e = rw e refl
 
-pub fitted-valid : (p a : ℕ) (f : Fit) → ((v : Value) → f ≡ Fits v → Valid v) → ValidAnswer (fitted_at p a f)
+pub fitted-valid : (p a : ℕ) (f : Option Value) → ((v : Value) → f ≡ Some v → Valid v) → ValidAnswer (fitted_at p a f)
 unfolding fitted_at
-fitted-valid p a (Fits v) h = h v refl
-fitted-valid p a TooBig h = tt
+fitted-valid p a (Some v) h = h v refl
+fitted-valid p a None h = tt
 
 pub whole-valid : (p a : ℕ) (v : Value) → Valid v → ValidAnswer (whole_answer p a v)
 unfolding whole_answer whole_by
 whole-valid p a v h = go (whole_of v)
   where
-    go : (w : Whole) → ValidAnswer (whole_by p a v w)
-    go (Number k) = h
-    go no_number = tt
+    go : (w : Option ℤ) → ValidAnswer (whole_by p a v w)
+    go (Some k) = h
+    go None = tt
 
 module _ (b : Bool) (v : Value) (h : Valid v) where
   pub signed_is : signed_value b v ≡ signed b v

@@ -1,4 +1,5 @@
 -- Laws over plain variables for the loops of terms and formulas: what is walked from here on is what is walked from the start.
+use Rattle.std.specs.Prelude.{Option}
 use mathlib.Core.Path.{◌≡◌, refl, sym, ◌∙◌, ap, subst}
 use mathlib.Core.Bool.{Bool, true, false, ◌||◌}
 use mathlib.Core.List.{List}
@@ -9,7 +10,6 @@ use borrow.Author.Tests.{eq-eqb, ne_eqb}
 use Rattle.rules.specs.declared.Refusal.{Refusal}
 use Rattle.rules.specs.Limits.{token_limit}
 use Rattle.value.specs.declared.Value.{Value}
-use Rattle.value.specs.declared.Fit.{Fit}
 use Rattle.value.specs.Decimal.{Valid, sum_of, product_of, if_in_range}
 use Rattle.value.proofs.Ranges.{valid-both}
 use Rattle.value.proofs.Operations.{sum-valid, product-valid}
@@ -64,13 +64,13 @@ module _ (ns ts ds : List ℕ) (given level : ℕ) (sc : Held) (at : ℕ) (v : V
     loop-on j b x f y = record { same = λ w g z. sym (f w g (o.valid w g z)) ∙ o.same w g z; valid = λ w g z. y w g (o.valid w g z) }
 
   -- an operand behind a sign at p, joined to u by f, and what follows
-  joined : (List Name → Walk) → (Value → Fit) → (Value → List Name → Walk) → ℕ → List Name → Scope → Reader Value
+  joined : (List Name → Walk) → (Value → Option Value) → (Value → List Name → Walk) → ℕ → List Name → Scope → Reader Value
   joined T f L p names s = skip >>= (λ _. T names s >>= (λ w. lift (fitting p (f w)) >>= (λ x. L x names s)))
 
-  turn : (List Name → Walk) → (Value → Fit) → (Value → List Name → Walk) → ℕ → Value → List Name → Scope → Bool → Reader Value
+  turn : (List Name → Walk) → (Value → Option Value) → (Value → List Name → Walk) → ℕ → Value → List Name → Scope → Bool → Reader Value
   turn T f L p u names s b = elim b as (λ _. Reader Value) [ true ↦ joined T f L p names s | false ↦ give u ]
 
-  module _ (T : List Name → Walk) (a : ℕ) (t : Seen) (h : Looks ts a t) (x p y b : ℕ) (e : t ≡ seen.Token x p y b) (r : Answer) (k : Values T ns ts ds given level sc b r) (f : Value → Fit) (L : Value → List Name → Walk) where
+  module _ (T : List Name → Walk) (a : ℕ) (t : Seen) (h : Looks ts a t) (x p y b : ℕ) (e : t ≡ seen.Token x p y b) (r : Answer) (k : Values T ns ts ds given level sc b r) (f : Value → Option Value) (L : Value → List Name → Walk) where
     joined-refused : (m : Refusal) (q : ℕ) → r ≡ answer.Refused m q → (w : World ns ts ds given) → Small sc → joined T f L p (seen_by w level) (under w sc) (tokens_at w a) ≡ refused m q
     unfolding joined
     joined-refused m q i w g = on _ _ tt (tokens_at w b) _ ((skips-seen ts a x p y b t h e).is w.text) (stop _ _ m q (refused-is ns ts ds given level sc k i w g))
@@ -183,7 +183,7 @@ module _ (ns ts ds : List ℕ) (given level : ℕ) (sc : Held) (at : ℕ) (v : V
 
         module _ (x p y b : ℕ) (e : t ≡ seen.Token x p y b) where
           -- the sum or the difference
-          plus : Value → Fit
+          plus : Value → Option Value
           plus z = sum_of u (signed (eqb x 45) z)
 
           summands-turn : (c : Bool) → (eqb x 43 || eqb x 45) ≡ c → (w : World ns ts ds given)

@@ -1,12 +1,12 @@
 -- Laws over plain variables for a primary that is a name, and for a datum.
+use Rattle.std.specs.Prelude.{Option, Some, None, slice_get}
 use mathlib.Core.Path.{◌≡◌, refl, sym, ◌∙◌, ap, subst}
 use mathlib.Core.Bool.{true, false, ◌||◌}
-use mathlib.Core.Option.{Option, none, some}
 use mathlib.Core.List.{List, [], ◌∷◌}
 use Prim.Native.Nat.{ℕ, zero, suc, ◌<◌, ◌≤◌}
 use native.Mathlib.Omega.{arith}
 use lib.Dec.{eqb}
-use lib.ListN.{length, get_elem?, drop}
+use lib.ListN.{length, drop}
 use lib.IntN.{ℤ}
 use Rattle.rules.specs.declared.Refusal.{Refusal}
 use Rattle.rules.specs.declared.Refusal.TheVariants.{Misplaced, BadName, Missing}
@@ -53,7 +53,7 @@ use Rattle.evaluator.proofs.Laws.{stop}
 
 -- ---- lists of names
 
-pub below_length : {A : Type 0} (l : List A) (i : ℕ) (x : A) → get_elem? l i ≡ some x → i < length l
+pub below_length : {A : Type 0} (l : List A) (i : ℕ) (x : A) → slice_get l i ≡ Some x → i < length l
 below_length [] i x e = absurd (let z : ◌≡◌ {A = ℕ} 0 1 = cc in omega arith)
 below_length (y ∷ l) zero x e = omega arith
 below_length (y ∷ l) (suc i) x e = omega (arith, below_length l i x e)
@@ -61,7 +61,7 @@ below_length (y ∷ l) (suc i) x e = omega (arith, below_length l i x e)
 -- name i, and the names behind it
 pub record Split (l : List Name) (i : ℕ) : Type 0 where
   pub name : Name
-  pub here : get_elem? l i ≡ some name
+  pub here : slice_get l i ≡ Some name
   pub behind : drop i l ≡ name ∷ drop (suc i) l
 
 pub split : (l : List Name) (i : ℕ) → i < length l → Split l i
@@ -124,8 +124,8 @@ module _ (ns ts ds : List ℕ) (given level : ℕ) (sc : Held) (n p at : ℕ) (x
           go w g b Syntax.index s a = rw f (pick (bound_to i (bindings_of sc)) refl)
             where
               pick : (o : Option ℤ) → bound_to i (bindings_of sc) ≡ o → (as_read (eval (Syntax.index i p) (under w sc)) (tokens_at w at) ≡ value_outcome w.text ts (bound_by p at (bound_to i (bindings_of sc)))) × ValidAnswer (bound_by p at (bound_to i (bindings_of sc)))
-              pick none o = rw o (refl, tt)
-              pick (some j) o = rw o (refl, of_whole-valid j (small-to (bindings_of sc) i j g.small o))
+              pick None o = rw o (refl, tt)
+              pick (Some j) o = rw o (refl, of_whole-valid j (small-to (bindings_of sc) i j g.small o))
           go w g b (Syntax.integer d) s a = absurd (omega (arith, s.0, z))
           go w g b (Syntax.real d) s a = absurd (omega (arith, s.0, z))
           go w g b (Syntax.formula d) s a = absurd (omega (arith, s, z))
@@ -239,8 +239,8 @@ module _ (ns ts ds : List ℕ) (given level : ℕ) (sc : Held) (n i c q p at : �
         where
           go : (u : Option ℕ) → w.known i (list_of e) ≡ value_in u → r ≡ word_answer p a u
               → (as_read (or_refuse Missing p (w.known i (list_of e))) (tokens_at w a) ≡ value_outcome w.text ts r) × ValidAnswer r
-          go none u v = rw (u, v) (refl, tt)
-          go (some z) u v = let y = w.tables.stored.valid i (list_of e) (unpacked z) u in rw (u, v) (refl, y)
+          go None u v = rw (u, v) (refl, tt)
+          go (Some z) u v = let y = w.tables.stored.valid i (list_of e) (unpacked z) u in rw (u, v) (refl, y)
 
       pub datum-known : DatumIs n i c q p ns ts ds given level sc at r
       unfolding walk_datum scope_of

@@ -1,4 +1,5 @@
 -- Laws over plain variables for the turns of a sum's run.
+use Rattle.std.specs.Prelude.{Option, Some, None}
 use mathlib.Core.Path.{◌≡◌, refl, sym, ◌∙◌, ap, subst}
 use mathlib.Core.Bool.{false}
 use mathlib.Core.List.{List}
@@ -8,8 +9,6 @@ use lib.IntN.{ℤ, pos, negsuc, nat_abs, ◌+ℤ◌, ◌-ℤ◌, neg_ℤ, +ℤ_a
 use Rattle.rules.specs.declared.Refusal.{Refusal}
 use Rattle.rules.specs.Limits.{mantissa_limit, run_limit}
 use Rattle.value.specs.declared.Value.{Value}
-use Rattle.value.specs.declared.Fit.{Fit}
-use Rattle.value.specs.declared.Fit.TheVariants.{Fits, TooBig}
 use Rattle.value.specs.Decimal.{Valid, zero_value, sum_of, if_in_range}
 use Rattle.rational.specs.Integer.{up, down}
 use Rattle.rational.proofs.Integer.{add_parts, neg-up, neg-down}
@@ -139,9 +138,9 @@ module _ (n i p : ℕ) (ns ts ds : List ℕ) (given level : ℕ) (sc : Held) (at
         unfolding fitted_at
         body-unfit c s d = body-stops c s q d (λ w g y. sym (o.same w g y) ∙ turn w (refused c s) (sum-at w g y ∙ go (sum_of v z) (sym (exact w g y) ∙ d)))
           where
-            go : (x : Fit) → fitted_at p end x ≡ answer.Refused c s → fitting p x ≡ refused c s
-            go (Fits u) e = absurd (let z : ◌≡◌ {A = ℕ} 0 1 = cc in omega arith)
-            go TooBig e = cc
+            go : (x : Option Value) → fitted_at p end x ≡ answer.Refused c s → fitting p x ≡ refused c s
+            go (Some u) e = absurd (let z : ◌≡◌ {A = ℕ} 0 1 = cc in omega arith)
+            go None e = cc
 
         pub turns-on : (u : Value) (s : ℕ) → q ≡ answer.Value u s → TurnsOn u (j + 1)
         unfolding fitted_at
@@ -152,6 +151,6 @@ module _ (n i p : ℕ) (ns ts ds : List ℕ) (given level : ℕ) (sc : Held) (at
               valid = λ w g y. subst ValidAnswer (sym (exact w g y) ∙ d) (fitted-valid p end (sum_of v z) (sum-valid v z));
             }
           where
-            go : (x : Fit) → fitted_at p end x ≡ answer.Value u s → fitting p x ≡ done u
-            go (Fits y) e = cc
-            go TooBig e = absurd (let z : ◌≡◌ {A = ℕ} 0 1 = cc in omega arith)
+            go : (x : Option Value) → fitted_at p end x ≡ answer.Value u s → fitting p x ≡ done u
+            go (Some y) e = cc
+            go None e = absurd (let z : ◌≡◌ {A = ℕ} 0 1 = cc in omega arith)

@@ -1,8 +1,6 @@
 -- What each function of the cycle answers: for every text, names and data that the tables hold, what the walk of the tokens from
 -- a position on gives under the bound indices. `level`: how many names are visible. `n`: how many brackets may still open.
-use Rattle.std.specs.Prelude.{◌≡◌, true, List, [], ℕ, ◌<◌, ◌≤◌, ltb, length, take, ℤ}
-use Rattle.std.proofs.Math.Option.{none, some}
-use Rattle.std.proofs.Math.ListN.{get_elem?}
+use Rattle.std.specs.Prelude.{◌≡◌, true, List, [], ℕ, ◌<◌, ◌≤◌, ltb, length, take, ℤ, None, Some, slice_get}
 use Rattle.rules.specs.Limits.{run_limit, index_limit}
 use Rattle.value.specs.declared.Value.{Value}
 use Rattle.value.specs.Decimal.{Valid, floor_of, ceiling_of}
@@ -198,14 +196,14 @@ pub record WithinIs (ns ts ds : List ℕ) (given level at : ℕ) (e : Element) (
 -- what the table tells of a name l that is read at p: its number i, sort k, number of indices c, and where it was declared
 pub record KnownAs {ns ts ds : List ℕ} {given : ℕ} (w : World ns ts ds given) (l : List ℕ) (p i k c q : ℕ) : Type 0 where
   pub name : Name
-  pub stands : get_elem? w.names i ≡ some name
-  pub found : (level : ℕ) → i < level → find l (seen_by w level) 0 p ≡ some (record { number = i; sort = name.sort; place = p })
-  pub late : (level : ℕ) → level ≤ i → find l (seen_by w level) 0 p ≡ none
+  pub stands : slice_get w.names i ≡ Some name
+  pub found : (level : ℕ) → i < level → find l (seen_by w level) 0 p ≡ Some (record { number = i; sort = name.sort; place = p })
+  pub late : (level : ℕ) → level ≤ i → find l (seen_by w level) 0 p ≡ None
   pub shaped : Shaped name.sort k c
   pub row : q ≡ row_word ns i 4
 
 abbrev pub Told : {ns ts ds : List ℕ} {given : ℕ} → World ns ts ds given → List ℕ → ℕ → Listed → Type 0
-Told w l p listed.Nothing = (level : ℕ) → find l (seen_by w level) 0 p ≡ none
+Told w l p listed.Nothing = (level : ℕ) → find l (seen_by w level) 0 p ≡ None
 Told w l p (listed.Name i k c q) = KnownAs w l p i k c q
 
 -- a primary that is a name

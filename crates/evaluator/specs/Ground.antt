@@ -1,7 +1,5 @@
 -- What stays while data are read: a text, its names, and tokens that hold their numbers.
-use Rattle.std.specs.Prelude.{◌≡◌, Bool, List, ◌∷◌, ℕ, ◌≤◌, length, take, ℤ}
-use Rattle.std.proofs.Math.Option.{Option, some}
-use Rattle.std.proofs.Math.ListN.{get_elem?}
+use Rattle.std.specs.Prelude.{◌≡◌, Bool, List, ◌∷◌, ℕ, ◌≤◌, length, take, ℤ, Option, Some, slice_get}
 use Rattle.rules.specs.Limits.{name_limit}
 use Rattle.value.specs.declared.Value.{Value}
 use Rattle.value.specs.Decimal.{Valid}
@@ -18,7 +16,7 @@ pub record Ground (s ns ts : List ℕ) : Type 0 where
   pub named : Named s ns names
   pub resolved : Resolved s ns ts
   pub literals : (at : ℕ) (w : Bool) (v : Value) (p : ℕ) (l : List Token) → from s ts at ≡ record { kind = Text.literal w v; place = p } ∷ l → Valid v
-  pub declared : (i : ℕ) (x : Name) → get_elem? names i ≡ some x → Stands s ts (take i names) x.sort (row_word ns i 4)
+  pub declared : (i : ℕ) (x : Name) → slice_get names i ≡ Some x → Stands s ts (take i names) x.sort (row_word ns i 4)
 
 -- with n rows that hold what is known, a world
 abbrev pub world_on : {s ns ts ds : List ℕ} {n : ℕ} {known : ℕ → List ℤ → Option Value} → Ground s ns ts → Given ds n known → World ns ts ds n

@@ -1,7 +1,5 @@
 -- The tables that evaluation reads, and what they hold: names, their declared formulas and domains, tokens and data.
-use Rattle.std.specs.Prelude.{◌≡◌, Bool, List, ◌∷◌, ℕ, ◌≤◌, length, take, ℤ}
-use Rattle.std.proofs.Math.Option.{Option, none, some}
-use Rattle.std.proofs.Math.ListN.{get_elem?}
+use Rattle.std.specs.Prelude.{◌≡◌, Bool, List, ◌∷◌, ℕ, ◌≤◌, length, take, ℤ, Option, Some, None, slice_get}
 use Rattle.rules.specs.Limits.{nesting_limit, name_limit, index_limit}
 use Rattle.value.specs.declared.Value.{Value}
 use Rattle.value.specs.Decimal.{Valid}
@@ -42,14 +40,14 @@ Stands s ts before (Syntax.continuous d) at = DomainAt s ts before d at
 -- ---- data
 
 abbrev pub value_in : Option ℕ → Option Value
-value_in none = none
-value_in (some w) = some (unpacked w)
+value_in None = None
+value_in (Some w) = Some (unpacked w)
 
 -- n rows that hold what is known, each a value
 pub record Given (ds : List ℕ) (n : ℕ) (known : ℕ → List ℤ → Option Value) : Type 0 where
   pub sorted : Sorted ds n
   pub agrees : (i : ℕ) (ks : List ℤ) → Keyed i ks → known i ks ≡ value_in (lookup ds n (key_of i ks))
-  pub valid : (i : ℕ) (ks : List ℤ) (v : Value) → known i ks ≡ some v → Valid v
+  pub valid : (i : ℕ) (ks : List ℤ) (v : Value) → known i ks ≡ Some v → Valid v
 
 -- ---- all of them, with the text that the tokens were read from
 
@@ -58,7 +56,7 @@ pub record Tables (s ns ts ds : List ℕ) (given : ℕ) (names : List Name) (kno
   pub named : Named s ns names
   pub resolved : Resolved s ns ts
   pub literals : (at : ℕ) (w : Bool) (v : Value) (p : ℕ) (l : List Token) → from s ts at ≡ record { kind = Text.literal w v; place = p } ∷ l → Valid v
-  pub declared : (i : ℕ) (x : Name) → get_elem? names i ≡ some x → Stands s ts (take i names) x.sort (row_word ns i 4)
+  pub declared : (i : ℕ) (x : Name) → slice_get names i ≡ Some x → Stands s ts (take i names) x.sort (row_word ns i 4)
   pub stored : Given ds given known
 
 -- a text, names and data that the tables hold

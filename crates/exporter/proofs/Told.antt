@@ -1,7 +1,7 @@
 -- What the tables of a problem tell is the definition's export of the problem.
+use Rattle.std.specs.Prelude.{Option, Some, None}
 use mathlib.Core.Path.{◌≡◌, refl, sym, ◌∙◌, ap}
 use mathlib.Core.Bool.{Bool, true, false, not, cond}
-use mathlib.Core.Option.{Option, none, some}
 use mathlib.Core.List.{List, [], ◌∷◌, ◌++◌, map, append_assoc}
 use Prim.Native.Nat.{ℕ, zero, suc, ◌+◌, ◌-◌, ◌<◌, ◌≤◌}
 use native.Mathlib.Omega.{arith}
@@ -43,18 +43,18 @@ line-shown h v k = rw (shown-valid v k)
 
 upper-shown : (j : ℕ) (u : Option Value) → ValidIfAny u → shown_upper j u ≡ upper_line j u
 unfolding shown_upper upper_line
-upper-shown j none k = refl
-upper-shown j (some v) k = line-shown (upper_head j) v k
+upper-shown j None k = refl
+upper-shown j (Some v) k = line-shown (upper_head j) v k
 
 floor-shown : (n : ℕ) (w : Option Value) → ValidIfAny w → shown_floor n w ≡ if_floor w (λ v. value_line (floor_head n) v)
 unfolding shown_floor
-floor-shown n none k = refl
-floor-shown n (some v) k = line-shown (floor_head n) v k
+floor-shown n None k = refl
+floor-shown n (Some v) k = line-shown (floor_head n) v k
 
 twice-shown : (j i : ℕ) (v : Value) (w : Option Value) → Valid v → shown_twice j i v w ≡ value_line (cell_head j i) v ++ if_floor w (λ _. value_line (floor_cell_head j i) v)
 unfolding shown_twice
-twice-shown j i v none k = rw (line-shown (cell_head j i) v k)
-twice-shown j i v (some x) k = rw (line-shown (cell_head j i) v k, line-shown (floor_cell_head j i) v k)
+twice-shown j i v None k = rw (line-shown (cell_head j i) v k)
+twice-shown j i v (Some x) k = rw (line-shown (cell_head j i) v k, line-shown (floor_cell_head j i) v k)
 
 cell-shown : (j i : ℕ) (v : Value) (w : Option Value) → Valid v
     → shown_cell j i v w ≡ cond (is_zero v) [] (value_line (cell_head j i) v ++ if_floor w (λ _. value_line (floor_cell_head j i) v))
@@ -70,7 +70,7 @@ module _ (t : List ℕ) (less : ℕ) where
 
   -- those of the rows from row i on; none behind the last of the list
   abbrev FloorsTold : ℕ → List (Option Value) → Type 0
-  FloorsTold i ws = (n : ℕ) → FloorTold (i + n) (get_or ws n none)
+  FloorsTold i ws = (n : ℕ) → FloorTold (i + n) (get_or ws n None)
 
   first-told : (i : ℕ) (ws : List (Option Value)) → FloorsTold i ws → FloorTold i (first_floor ws)
   first-told i [] h = let x : i + 0 ≡ i = omega arith in rw x at (h 0)
@@ -150,8 +150,8 @@ joined : (a l e c d k r q b u n : List ℕ) → (a ++ (l ++ e)) ++ ((c ++ (d ++ 
 joined a l e c d k r q b u n = simp append_assoc
 
 -- each floor of a list of rows, and none behind it
-each-floor : (P : ℕ → Option Value → Type 0) (es : List Entry) → ((i : ℕ) (e : Entry) → At es i e → P i (entry_floor e)) → ((i : ℕ) → length es ≤ i → P i none)
-    → (i : ℕ) → P i (get_or (map entry_floor es) i none)
+each-floor : (P : ℕ → Option Value → Type 0) (es : List Entry) → ((i : ℕ) (e : Entry) → At es i e → P i (entry_floor e)) → ((i : ℕ) → length es ≤ i → P i None)
+    → (i : ℕ) → P i (get_or (map entry_floor es) i None)
 each-floor P [] h k i = k i (omega arith)
 each-floor P (e ∷ es) h k zero = h 0 e refl
 each-floor P (e ∷ es) h k (suc i) = each-floor (λ n w. P (suc n) w) es (λ n f a. h (suc n) f a) (λ n g. k (suc n) (omega arith)) i

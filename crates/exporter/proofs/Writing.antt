@@ -1,7 +1,7 @@
 -- Laws of writing: a text for each number, one number more; the lines piece by piece.
+use Rattle.std.specs.Prelude.{Option, Some, None}
 use mathlib.Core.Path.{◌≡◌, refl, sym, ◌∙◌, ap}
 use mathlib.Core.Bool.{Bool, true, false, cond, ◌&&◌}
-use mathlib.Core.Option.{Option}
 use mathlib.Core.List.{List, ◌++◌, append_assoc, append-nil}
 use Prim.Native.Nat.{ℕ, zero, suc, ◌+◌, ◌-◌, ◌<◌, ◌≤◌}
 use native.Mathlib.Omega.{arith}
@@ -19,9 +19,6 @@ use Rattle.value.proofs.Writing.{written_none, written_then}
 use Rattle.listing.proofs.Showing.{whole_is, natural-shown, natural-read}
 use Rattle.listing.proofs.Writing.{Left, left-all, left-more}
 use Rattle.rows.specs.declared.Sizes.{Sizes}
-use Rattle.rows.specs.declared.End.{End}
-use Rattle.rows.specs.declared.End.TheVariants.{None, At}
-use Rattle.rows.specs.End.{end_of}
 use Rattle.rows.specs.Slots.{objective_row, floor_slot}
 use Rattle.rows.specs.Bounds.{lower_word, upper_word}
 use Rattle.rows.specs.Read.{within, slot_at, count_at, value_of, lower_in, end_in}
@@ -80,13 +77,13 @@ module _ {l : List ℕ} {at r : ℕ} {l' : List ℕ} {r' : ℕ} {l'' : List ℕ}
   unfolding shown_line cell_start named
   cell-then j w i v a b = simp append_assoc (simp append_assoc at (written_then _ _ _ _ _ _ _ _ a b))
 
-  pub twice-at : (j i : ℕ) (v : Value) (u : End) (x : Value) → u ≡ At x → Written l at (shown_line (cell_start j (bytes " R") i) v) r l' → Written l' r (shown_line (cell_start j (bytes " F") i) v) r' l''
-      → Written l at (shown_twice j i v (end_of u)) r' l''
-  unfolding shown_twice cell_head floor_cell_head cell_start end_of
+  pub twice-at : (j i : ℕ) (v : Value) (u : Option Value) (x : Value) → u ≡ Some x → Written l at (shown_line (cell_start j (bytes " R") i) v) r l' → Written l' r (shown_line (cell_start j (bytes " F") i) v) r' l''
+      → Written l at (shown_twice j i v u) r' l''
+  unfolding shown_twice cell_head floor_cell_head cell_start
   twice-at j i v u x e a b = rw e (written_then _ _ _ _ _ _ _ _ a b)
 
-pub twice-none : (j i : ℕ) (v : Value) (u : End) {l : List ℕ} {at r : ℕ} {l' : List ℕ} → u ≡ None → Written l at (shown_line (cell_start j (bytes " R") i) v) r l' → Written l at (shown_twice j i v (end_of u)) r l'
-unfolding shown_twice cell_head cell_start end_of
+pub twice-none : (j i : ℕ) (v : Value) (u : Option Value) {l : List ℕ} {at r : ℕ} {l' : List ℕ} → u ≡ None → Written l at (shown_line (cell_start j (bytes " R") i) v) r l' → Written l at (shown_twice j i v u) r l'
+unfolding shown_twice cell_head cell_start
 twice-none j i v u e w = rw (e, append-nil (shown_line (cell_head j i) v)) w
 
 -- no line for zero
@@ -110,32 +107,32 @@ module _ (l : List ℕ) (at j i : ℕ) (z : ℤ) (w : Option Value) where
 -- ---- floors
 
 module _ (t : List ℕ) (less i : ℕ) where
-  pub floor-here : (u : End) → i < less → end_of u ≡ end_in (word_at t (floor_slot i)) → end_of u ≡ floor_at t less i
+  pub floor-here : (u : Option Value) → i < less → u ≡ end_in (word_at t (floor_slot i)) → u ≡ floor_at t less i
   unfolding floor_at
   floor-here u h e = rw (lt-ltb i less h) e
 
-  pub floor-behind : less ≤ i → end_of None ≡ floor_at t less i
-  unfolding floor_at end_of
+  pub floor-behind : less ≤ i → None ≡ floor_at t less i
+  unfolding floor_at
   floor-behind h = rw (le-ltb i less h)
 
-module _ (n : ℕ) (u : End) (l : List ℕ) (at : ℕ) (e : u ≡ None) where
-  pub no-floor-row : Written l at (floor_row n (end_of u)) at l
-  unfolding floor_row end_of
+module _ (n : ℕ) (u : Option Value) (l : List ℕ) (at : ℕ) (e : u ≡ None) where
+  pub no-floor-row : Written l at (floor_row n u) at l
+  unfolding floor_row
   no-floor-row = rw e (written_none l at)
 
-  pub no-floor-line : Written l at (shown_floor n (end_of u)) at l
-  unfolding shown_floor end_of
+  pub no-floor-line : Written l at (shown_floor n u) at l
+  unfolding shown_floor
   no-floor-line = rw e (written_none l at)
 
 -- ---- the lines that the tables tell
 
 module _ {l : List ℕ} {at r : ℕ} {l' : List ℕ} where
-  pub floor-row : (n : ℕ) (u : End) (v : Value) → u ≡ At v → Written l at (named (bytes " G F") n (bytes "\n")) r l' → Written l at (floor_row n (end_of u)) r l'
-  unfolding floor_row floor_line end_of
+  pub floor-row : (n : ℕ) (u : Option Value) (v : Value) → u ≡ Some v → Written l at (named (bytes " G F") n (bytes "\n")) r l' → Written l at (floor_row n u) r l'
+  unfolding floor_row floor_line
   floor-row n u v e w = rw e w
 
-  pub less-line : (t : List ℕ) (less i : ℕ) (u : End) {s : ℕ} {k : List ℕ} → i < less → end_of u ≡ floor_at t less i
-      → Written l at (named (bytes " L R") (i + 1) (bytes "\n")) s k → Written k s (floor_row (i + 1) (end_of u)) r l' → Written l at (row_text t less i) r l'
+  pub less-line : (t : List ℕ) (less i : ℕ) (u : Option Value) {s : ℕ} {k : List ℕ} → i < less → u ≡ floor_at t less i
+      → Written l at (named (bytes " L R") (i + 1) (bytes "\n")) s k → Written k s (floor_row (i + 1) u) r l' → Written l at (row_text t less i) r l'
   unfolding row_text less_line
   less-line t less i u h e w x = rw (lt-ltb i less h, ← e) (written_then _ _ _ _ _ _ _ _ w x)
 
@@ -143,8 +140,8 @@ module _ {l : List ℕ} {at r : ℕ} {l' : List ℕ} where
   unfolding row_text equal_line
   equal-line t less i h w = rw (le-ltb i less h) w
 
-  pub cell-told : (t : List ℕ) (m : List ℤ) (less j i k : ℕ) (z : ℤ) (u : End) → k ≡ slot_at less i → z ≡ count_at m k j → end_of u ≡ floor_at t less i
-      → Written l at (shown_cell (j + 1) (i + 1) (value_of z) (end_of u)) r l' → Written l at (cell_text t m less j i) r l'
+  pub cell-told : (t : List ℕ) (m : List ℤ) (less j i k : ℕ) (z : ℤ) (u : Option Value) → k ≡ slot_at less i → z ≡ count_at m k j → u ≡ floor_at t less i
+      → Written l at (shown_cell (j + 1) (i + 1) (value_of z) u) r l' → Written l at (cell_text t m less j i) r l'
   unfolding cell_text
   cell-told t m less j i k z u e g h w = rw (← e, ← g, ← h) w
 
@@ -153,25 +150,25 @@ module _ {l : List ℕ} {at r : ℕ} {l' : List ℕ} where
   unfolding objective_text objective_head opposite objective_row row_limit
   objective-line m j z v u e g h w = rw (← e, ← g, ← h) w
 
-  pub floor-line : (n : ℕ) (u : End) (v : Value) → u ≡ At v → Written l at (shown_line (named (bytes " MODEL F") n (bytes " ")) v) r l' → Written l at (shown_floor n (end_of u)) r l'
-  unfolding shown_floor floor_head end_of
+  pub floor-line : (n : ℕ) (u : Option Value) (v : Value) → u ≡ Some v → Written l at (shown_line (named (bytes " MODEL F") n (bytes " ")) v) r l' → Written l at (shown_floor n u) r l'
+  unfolding shown_floor floor_head
   floor-line n u v e w = rw e w
 
-  pub right-line : (t : List ℕ) (less i k w : ℕ) (v : Value) (u : End) {s : ℕ} {q : List ℕ} → k ≡ slot_at less i → w ≡ word_at t k → v ≡ unpacked w → end_of u ≡ floor_at t less i
-      → Written l at (shown_line (named (bytes " MODEL R") (i + 1) (bytes " ")) v) s q → Written q s (shown_floor (i + 1) (end_of u)) r l' → Written l at (right_text t less i) r l'
+  pub right-line : (t : List ℕ) (less i k w : ℕ) (v : Value) (u : Option Value) {s : ℕ} {q : List ℕ} → k ≡ slot_at less i → w ≡ word_at t k → v ≡ unpacked w → u ≡ floor_at t less i
+      → Written l at (shown_line (named (bytes " MODEL R") (i + 1) (bytes " ")) v) s q → Written q s (shown_floor (i + 1) u) r l' → Written l at (right_text t less i) r l'
   unfolding right_text right_head
   right-line t less i k w v u e g h f x y = rw (← e, ← g, ← h, ← f) (written_then _ _ _ _ _ _ _ _ x y)
 
-  pub upper-none : (j : ℕ) (u : End) → u ≡ None → Written l at (named (bytes " PL MODEL C") j (bytes "\n")) r l' → Written l at (shown_upper j (end_of u)) r l'
-  unfolding shown_upper no_upper_line end_of
+  pub upper-none : (j : ℕ) (u : Option Value) → u ≡ None → Written l at (named (bytes " PL MODEL C") j (bytes "\n")) r l' → Written l at (shown_upper j u) r l'
+  unfolding shown_upper no_upper_line
   upper-none j u e w = rw e w
 
-  pub upper-at : (j : ℕ) (u : End) (v : Value) → u ≡ At v → Written l at (shown_line (named (bytes " UP MODEL C") j (bytes " ")) v) r l' → Written l at (shown_upper j (end_of u)) r l'
-  unfolding shown_upper upper_head end_of
+  pub upper-at : (j : ℕ) (u : Option Value) (v : Value) → u ≡ Some v → Written l at (shown_line (named (bytes " UP MODEL C") j (bytes " ")) v) r l' → Written l at (shown_upper j u) r l'
+  unfolding shown_upper upper_head
   upper-at j u v e w = rw e w
 
-  pub bound-lines : (b : List ℕ) (j : ℕ) (v : Value) (u : End) {s : ℕ} {k : List ℕ} → v ≡ lower_in (lower_word b j) → end_of u ≡ end_in (upper_word b j)
-      → Written l at (shown_line (named (bytes " LO MODEL C") (j + 1) (bytes " ")) v) s k → Written k s (shown_upper (j + 1) (end_of u)) r l' → Written l at (bound_text b j) r l'
+  pub bound-lines : (b : List ℕ) (j : ℕ) (v : Value) (u : Option Value) {s : ℕ} {k : List ℕ} → v ≡ lower_in (lower_word b j) → u ≡ end_in (upper_word b j)
+      → Written l at (shown_line (named (bytes " LO MODEL C") (j + 1) (bytes " ")) v) s k → Written k s (shown_upper (j + 1) u) r l' → Written l at (bound_text b j) r l'
   unfolding bound_text lower_head
   bound-lines b j v u e g w x = rw (← e, ← g) (written_then _ _ _ _ _ _ _ _ w x)
 

@@ -1,7 +1,6 @@
 -- The export, as the tables of a problem tell it: what is written whatever they hold, with nothing for a value that is out of
 -- range. Of the tables of a problem it is the definition's (`proofs/Told.antt`).
-use Rattle.std.specs.Prelude.{cond, List, [], ◌∷◌, ◌++◌, ℕ, zero, suc, ◌+◌, ◌-◌, ltb, ℤ}
-use Rattle.std.proofs.Math.Option.{Option, none, some}
+use Rattle.std.specs.Prelude.{cond, List, [], ◌∷◌, ◌++◌, ℕ, zero, suc, ◌+◌, ◌-◌, ltb, ℤ, Option, Some, None}
 use Rattle.rules.specs.Characters.{bytes, line_feed}
 use Rattle.value.specs.declared.Value.{Value}
 use Rattle.value.specs.Decimal.{negate, is_zero, in_range}
@@ -26,7 +25,7 @@ shown_line h v = h ++ (shown v ++ (line_feed ∷ []))
 
 -- the floor of row i, if it is one of the first `less` and has one
 unfoldable pub floor_at : List ℕ → ℕ → ℕ → Option Value
-floor_at t less i = cond (ltb i less) (end_in (word_at t (floor_slot i))) none
+floor_at t less i = cond (ltb i less) (end_in (word_at t (floor_slot i))) None
 
 -- the row that a floor adds, by its number
 unfoldable pub floor_row : ℕ → Option Value → List ℕ
@@ -77,8 +76,8 @@ unfoldable pub right_text : List ℕ → ℕ → ℕ → List ℕ
 right_text t less i = shown_line (right_head (i + 1)) (unpacked (word_at t (slot_at less i))) ++ shown_floor (i + 1) (floor_at t less i)
 
 unfoldable pub shown_upper : ℕ → Option Value → List ℕ
-shown_upper j none = no_upper_line j
-shown_upper j (some v) = shown_line (upper_head j) v
+shown_upper j None = no_upper_line j
+shown_upper j (Some v) = shown_line (upper_head j) v
 
 -- the bounds of variable j
 unfoldable pub bound_text : List ℕ → ℕ → List ℕ

@@ -5,7 +5,6 @@
 ghost use Rattle.std.specs.Prelude.{◌≡◌, ◌++◌, ◌+◌, ◌-◌, ◌<◌, ◌≤◌, ◌^◌, length};
 ghost use Rattle.value.specs.Printed.{natural, shown, Written};
 ghost use Rattle.rows.specs.Read.{value_of};
-ghost use Rattle.rows.specs.End.{end_of};
 ghost use Rattle.mps.specs.Export.{named};
 ghost use Rattle.exporter.specs.Texts.{text_from, shown_line, floor_at, floor_row, cell_start, shown_twice, shown_cell, shown_floor, shown_upper, row_text, cell_text, objective_text, column_text, discrete_text, right_text, bound_text, rows_text, columns_text, rights_text, bounds_text};
 ghost use Rattle.exporter.specs.Exports.{formed, Exports};
@@ -69,23 +68,23 @@ fn value_line(w: &[u8], n: usize, mid: &[u8], v: value::Value, out: &mut [u8], a
 // ---- rows
 
 // The floor of row i, if it is one of the first `less` and has one.
-fn floor_at(slots: &[u64], less: usize, i: usize) -> rows::End
-    ensures { end_of result ≡ floor_at slots.now less i }
+fn floor_at(slots: &[u64], less: usize, i: usize) -> Option<value::Value>
+    ensures { result ≡ floor_at slots.now less i }
 {
     if i < less {
         return rows::floor_of(slots, i);
     }
-    rows::End::None
+    None
 }
 
 // The row that a floor adds, by its number.
-fn floor_row(n: usize, floor: rows::End, out: &mut [u8], at: usize) -> usize
+fn floor_row(n: usize, floor: Option<value::Value>, out: &mut [u8], at: usize) -> usize
     requires { (n ≤ 512) × (at < 2 ^ 39) }
-    ensures { (Written out.old at (floor_row n (end_of floor)) result out.new) × (result ≤ at + 64) }
+    ensures { (Written out.old at (floor_row n floor) result out.new) × (result ≤ at + 64) }
 {
     match floor {
-        rows::End::None => at,
-        rows::End::At(_) => named_line(b" G F", n, b"\n", out, at),
+        None => at,
+        Some(_) => named_line(b" G F", n, b"\n", out, at),
     }
 }
 
@@ -140,24 +139,24 @@ fn cell_lines(
     j: usize,
     i: usize,
     v: value::Value,
-    floor: rows::End,
+    floor: Option<value::Value>,
     out: &mut [u8],
     at: usize,
 ) -> usize
     requires { (j ≤ 512) × (i ≤ 512) × (at < 2 ^ 37) }
-    ensures { (Written out.old at (shown_twice j i v (end_of floor)) result out.new) × (result ≤ at + 512) }
+    ensures { (Written out.old at (shown_twice j i v floor) result out.new) × (result ≤ at + 512) }
 {
     let at = cell_line(j, b" R", i, v, out, at);
     match floor {
-        rows::End::None => at,
-        rows::End::At(_) => cell_line(j, b" F", i, v, out, at),
+        None => at,
+        Some(_) => cell_line(j, b" F", i, v, out, at),
     }
 }
 
 // A coefficient's lines, by its count of millionths; nothing for zero.
-fn cell(j: usize, i: usize, z: i64, floor: rows::End, out: &mut [u8], at: usize) -> usize
+fn cell(j: usize, i: usize, z: i64, floor: Option<value::Value>, out: &mut [u8], at: usize) -> usize
     requires { (j ≤ 512) × (i ≤ 512) × (at < 2 ^ 37) }
-    ensures { (Written out.old at (shown_cell j i (value_of z) (end_of floor)) result out.new) × (result ≤ at + 512) }
+    ensures { (Written out.old at (shown_cell j i (value_of z) floor) result out.new) × (result ≤ at + 512) }
 {
     if z == 0 {
         return at;
@@ -285,13 +284,13 @@ fn columns_section(
 // ---- right sides
 
 // A floor's line, by its number.
-fn floor_line(n: usize, floor: rows::End, out: &mut [u8], at: usize) -> usize
+fn floor_line(n: usize, floor: Option<value::Value>, out: &mut [u8], at: usize) -> usize
     requires { (n ≤ 512) × (at < 2 ^ 39) }
-    ensures { (Written out.old at (shown_floor n (end_of floor)) result out.new) × (result ≤ at + 128) }
+    ensures { (Written out.old at (shown_floor n floor) result out.new) × (result ≤ at + 128) }
 {
     match floor {
-        rows::End::None => at,
-        rows::End::At(v) => value_line(b" MODEL F", n, b" ", v, out, at),
+        None => at,
+        Some(v) => value_line(b" MODEL F", n, b" ", v, out, at),
     }
 }
 
@@ -329,13 +328,13 @@ fn rights_section(slots: &[u64], less: usize, n: usize, out: &mut [u8], at: usiz
 
 // ---- bounds
 
-fn upper_line(j: usize, upper: rows::End, out: &mut [u8], at: usize) -> usize
+fn upper_line(j: usize, upper: Option<value::Value>, out: &mut [u8], at: usize) -> usize
     requires { (j ≤ 512) × (at < 2 ^ 38) }
-    ensures { (Written out.old at (shown_upper j (end_of upper)) result out.new) × (result ≤ at + 128) }
+    ensures { (Written out.old at (shown_upper j upper) result out.new) × (result ≤ at + 128) }
 {
     match upper {
-        rows::End::None => named_line(b" PL MODEL C", j, b"\n", out, at),
-        rows::End::At(v) => value_line(b" UP MODEL C", j, b" ", v, out, at),
+        None => named_line(b" PL MODEL C", j, b"\n", out, at),
+        Some(v) => value_line(b" UP MODEL C", j, b" ", v, out, at),
     }
 }
 

@@ -1,7 +1,7 @@
 -- A walk never goes back: no more tokens are left than there were. So a sigma's body stands behind its word.
+use Rattle.std.specs.Prelude.{Option, Some, None}
 use mathlib.Core.Path.{◌≡◌, refl, sym, ◌∙◌, ap, subst}
 use mathlib.Core.Bool.{Bool, true, false, cond}
-use mathlib.Core.Option.{Option, none, some}
 use mathlib.Core.List.{List, [], ◌∷◌}
 use Prim.Native.Nat.{ℕ, zero, suc, ◌-◌, ◌<◌, ◌≤◌}
 use native.Mathlib.Omega.{arith}
@@ -195,8 +195,8 @@ module _ (F : Walk) (f : Forwards F) where
 
   found-forward : (p : ℕ) (o : Option Used) → Forwards (walk_found F p o)
   unfolding walk_found
-  found-forward p none s = refuse-forward _ p
-  found-forward p (some u) s = named-forward u.number p u.sort s
+  found-forward p None s = refuse-forward _ p
+  found-forward p (Some u) s = named-forward u.number p u.sort s
 
   cond-forward : (b : Bool) (m n : Reader Value) → Forward m → Forward n → Forward (cond b m n)
   cond-forward true m n x y = x

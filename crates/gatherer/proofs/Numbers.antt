@@ -1,7 +1,7 @@
 -- Laws over plain variables for a variable's number, and for the variable that a token names.
+use Rattle.std.specs.Prelude.{Option, Some, None}
 use mathlib.Core.Path.{◌≡◌, refl, sym, ◌∙◌, ap, subst}
 use mathlib.Core.Bool.{Bool, true, false, cond, ◌||◌, ◌&&◌}
-use mathlib.Core.Option.{Option, none, some}
 use mathlib.Core.List.{List, [], ◌∷◌}
 use Prim.Native.Nat.{ℕ, zero, suc, ◌<◌, ◌≤◌}
 use native.Mathlib.Omega.{arith}
@@ -24,8 +24,6 @@ use Rattle.tokens.specs.declared.Seen.TheVariants as seen
 use Rattle.tokens.specs.Stored.{name_bytes, spelling, kind_of, Looks, Shaped}
 use Rattle.tokens.proofs.Tables.{false-true}
 use Rattle.store.specs.declared.Element.{Element}
-use Rattle.store.specs.declared.Found.{Found}
-use Rattle.store.specs.declared.Found.TheVariants as found
 use Rattle.store.specs.Element.{list_of}
 use Rattle.store.specs.Key.{name_bound, key_of}
 use Rattle.store.specs.Table.{found_row}
@@ -71,7 +69,7 @@ module _ (ns ts ds : List ℕ) (given : ℕ) (xs : List ℕ) (total level : ℕ)
           below = λ w j a z. absurd (let z : ◌≡◌ {A = ℕ} 0 1 = cc in omega arith);
         }
 
-    module _ (j : t ≡ passed.Inside) (key : ℕ) (b : key ≡ key_of i (list_of e)) (r : Found) (z : r ≡ found_row xs total key) where
+    module _ (j : t ≡ passed.Inside) (key : ℕ) (b : key ≡ key_of i (list_of e)) (r : Option ℕ) (z : r ≡ found_row xs total key) where
       keyed : (w : Model ns ts ds given xs total) → Small sc → (d : Spans) → Declared w.world i d k q → Keyed i (list_of e)
       unfolding name_bound name_limit
       keyed w g d x =
@@ -89,17 +87,17 @@ module _ (ns ts ds : List ℕ) (given : ℕ) (xs : List ℕ) (total level : ℕ)
           (on _ _ tt (tokens_at w.world a) _ (ap (λ o. as_read o (tokens_at w.world a)) (within-at ns ts ds given level sc n i k q p at y h e a f t u _ j w.world g d x.stands x.count))
           (ap (λ v. as_read (or_refuse Outside p v) (tokens_at w.world a)) c))
 
-      pub number-nothing : r ≡ found.Nothing → NumberIs n i k q p ns ts ds given xs total level sc at (numbered.Refused Outside p)
+      pub number-nothing : r ≡ None → NumberIs n i k q p ns ts ds given xs total level sc at (numbered.Refused Outside p)
       number-nothing v =
           record {
-            is = λ w g d x. looked w g d x none (numbered-nothing xs total w.variables i (list_of e) key w.held (keyed w g d x) b r z v);
+            is = λ w g d x. looked w g d x None (numbered-nothing xs total w.variables i (list_of e) key w.held (keyed w g d x) b r z v);
             below = λ w j a z. absurd (let z : ◌≡◌ {A = ℕ} 0 1 = cc in omega arith);
           }
 
-      pub number-found : (o : ℕ) → r ≡ found.At o → NumberIs n i k q p ns ts ds given xs total level sc at (numbered.Number o a)
+      pub number-found : (o : ℕ) → r ≡ Some o → NumberIs n i k q p ns ts ds given xs total level sc at (numbered.Number o a)
       number-found o v =
           record {
-            is = λ w g d x. looked w g d x (some o) (numbered-at xs total w.variables i (list_of e) key w.held (keyed w g d x) b r o z v);
+            is = λ w g d x. looked w g d x (Some o) (numbered-at xs total w.variables i (list_of e) key w.held (keyed w g d x) b r o z v);
             below = λ w l a' c. let s : o ≡ l = cc in subst (λ x. x < total) s ((finds-row xs total key r z).within o v);
           }
 
@@ -112,8 +110,8 @@ head-place l [] i p p' = refl
 head-place l (x ∷ names) i p p' = go (same_bytes l x.spelling) (head-place l names (suc i) p p')
   where
     go : (b : Bool) → head_by_name (find l names (suc i) p) ≡ head_by_name (find l names (suc i) p')
-        → head_by_name (elim b as (λ _. Option Used) [ true ↦ some (record { number = i; sort = x.sort; place = p }) | false ↦ find l names (suc i) p ])
-        ≡ head_by_name (elim b as (λ _. Option Used) [ true ↦ some (record { number = i; sort = x.sort; place = p' }) | false ↦ find l names (suc i) p' ])
+        → head_by_name (elim b as (λ _. Option Used) [ true ↦ Some (record { number = i; sort = x.sort; place = p }) | false ↦ find l names (suc i) p ])
+        ≡ head_by_name (elim b as (λ _. Option Used) [ true ↦ Some (record { number = i; sort = x.sort; place = p' }) | false ↦ find l names (suc i) p' ])
     go true e = refl
     go false e = e
 

@@ -1,4 +1,5 @@
 -- Laws of a row of counts: a coefficient added as the definition adds it.
+use Rattle.std.specs.Prelude.{Option, Some, None}
 use mathlib.Core.Path.{◌≡◌, refl, sym, ◌∙◌, ap, subst}
 use mathlib.Core.Bool.{Bool, true, false}
 use mathlib.Core.List.{List}
@@ -12,8 +13,6 @@ use lib.Seq.{get_or-set_same, get_or-set_other}
 use lib.IntN.{ℤ, pos, nat_abs, ◌+ℤ◌}
 use Rattle.rules.specs.declared.Refusal.TheVariants.{Unfit}
 use Rattle.value.specs.declared.Value.{Value}
-use Rattle.value.specs.declared.Fit.{Fit}
-use Rattle.value.specs.declared.Fit.TheVariants.{Fits, TooBig}
 use Rattle.value.specs.Decimal.{Valid, zero_value, sum_of}
 use Rattle.value.specs.Gathering.{millionths, of_millionths, is_fit, count_limit, Gathered, Counts}
 use Rattle.value.proofs.Gathering.{count_small, of_millionths-sum, gathers-fit, gathered-value}
@@ -39,10 +38,10 @@ module _ (l : List ℤ) (r : Row) (h : RowIs l r) where
     sum_is : of_millionths (get_or l j (pos 0) +ℤ millionths v) ≡ sum_of (get_or r j zero_value) v
     sum_is = of_millionths-sum _ _ v (h.same j b) d
 
-    row-set : (z : ℤ) (a : Value) → of_millionths z ≡ Fits a → RowIs (set l j z) (set r j a)
+    row-set : (z : ℤ) (a : Value) → of_millionths z ≡ Some a → RowIs (set l j z) (set r j a)
     row-set z a e = record { size = length-set l j z ∙ h.size ∙ sym (length-set r j a); same = λ i g. go i g (ℕ_discrete i j) }
       where
-        go : (i : ℕ) → i < length (set r j a) → Dec (i ≡ j) → of_millionths (get_or (set l j z) i (pos 0)) ≡ Fits (get_or (set r j a) i zero_value)
+        go : (i : ℕ) → i < length (set r j a) → Dec (i ≡ j) → of_millionths (get_or (set l j z) i (pos 0)) ≡ Some (get_or (set r j a) i zero_value)
         go i g (yes f) = rw (f, get_or-set_same l j z (pos 0) (omega (arith, h.size)), get_or-set_same r j a zero_value b) e
         go i g (no f) = rw (get_or-set_other l j i z (pos 0) f, get_or-set_other r j i a zero_value f) (h.same i (omega (arith, length-set r j a)))
 
@@ -71,6 +70,6 @@ module _ (l : List ℤ) (r : Row) (h : RowIs l r) where
         fits : is_fit (sum_of (get_or r j zero_value) v) ≡ false
         fits = ap is_fit (sym sum_is) ∙ sym (gathers-fit l j v d (omega (arith, h.size)) counts) ∙ sym g.answer
 
-        go : (f : Fit) → sum_of (get_or r j zero_value) v ≡ f → add_at j v p r ≡ refused Unfit p
-        go (Fits a) e = absurd (let f = fits in let z : ◌≡◌ {A = ℕ} 0 1 = cc in omega arith)
-        go TooBig e = rw e refl
+        go : (f : Option Value) → sum_of (get_or r j zero_value) v ≡ f → add_at j v p r ≡ refused Unfit p
+        go (Some a) e = absurd (let f = fits in let z : ◌≡◌ {A = ℕ} 0 1 = cc in omega arith)
+        go None e = rw e refl

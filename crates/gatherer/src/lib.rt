@@ -67,8 +67,8 @@ pub fn number(
                     let key = store::key_of(i, e);
                     let found = store::find(variables, total, key);
                     match found {
-                        store::Found::At(j) => Numbered::Number(j, a),
-                        store::Found::Nothing => Numbered::Refused(rules::Refusal::Outside, p),
+                        Some(j) => Numbered::Number(j, a),
+                        None => Numbered::Refused(rules::Refusal::Outside, p),
                     }
                 }
                 Passed::Refused(n, q) => Numbered::Refused(n, q),

@@ -1,7 +1,7 @@
 -- The export: from the tables of a text to its bytes, and from an answer to what a reader finds in it; and the reader's answer.
+use Rattle.std.specs.Prelude.{Option, Some, None}
 use mathlib.Core.Path.{◌≡◌, refl, sym, ◌∙◌, ap, subst}
 use mathlib.Core.Bool.{Bool, true, false}
-use mathlib.Core.Option.{Option, none, some}
 use mathlib.Core.List.{List, ◌++◌}
 use Prim.Native.Nat.{ℕ, ◌-◌}
 use native.Mathlib.Omega.{arith}
@@ -88,15 +88,15 @@ module _ (text out : List ℕ) (r : Reading) (out' : List ℕ) (h : Reads text o
   reread-read n e = record { prints = go (sheet_in text) (subst (λ r. ReadsAs (sheet_in text) out r out') e h.is) }
     where
       go : (o : Option Sheet) → ReadsAs o out (reading.Read n) out' → Prints (outcome_of o) out (generated.Printed n) out'
-      go (some s) w = w
-      go none w = absurd w
+      go (Some s) w = w
+      go None w = absurd w
 
   pub reread-nothing : r ≡ reading.Nothing → Rewrites text out (generated.Refused Misplaced 0) out'
   reread-nothing e = record { prints = go (sheet_in text) (subst (λ r. ReadsAs (sheet_in text) out r out') e h.is) }
     where
       go : (o : Option Sheet) → ReadsAs o out reading.Nothing out' → Prints (outcome_of o) out (generated.Refused Misplaced 0) out'
-      go (some s) w = absurd w
-      go none w = (refl, refl)
+      go (Some s) w = absurd w
+      go None w = (refl, refl)
 
 pub reads-back : (text out₀ out₁ : List ℕ) → out₁ ≡ replicate (length out₀) 0 → (g : Generated) (out₂ : List ℕ) → Rewrites text out₁ g out₂ → length out₂ ≡ length out₁
     → (a : Answer) (out₃ : List ℕ) → Answers out₂ g a out₃ → ReadsBack text out₀ a out₃

@@ -1,7 +1,7 @@
 -- Coefficients: one, those of a variable, and its line of the objective.
+use Rattle.std.specs.Prelude.{Option, Some, None}
 use mathlib.Core.Path.{◌≡◌, refl, sym, ◌∙◌, ap}
 use mathlib.Core.Bool.{Bool, true, false, not, cond}
-use mathlib.Core.Option.{Option, none, some}
 use mathlib.Core.List.{List, [], ◌∷◌, ◌++◌, append_assoc, append-nil}
 use Prim.Native.Nat.{ℕ, zero, suc, ◌+◌, ◌*◌, ◌^◌, ◌<◌, ◌≤◌}
 use native.Mathlib.Omega.{arith}
@@ -122,12 +122,12 @@ later-have (b ∷ bs) (suc i) = later-have bs i
 same-cells : (again : Value → Reader (Unit {0})) (w : Value → List ℕ) (m m' : Reader (List Value)) → ((v : Value) (l : List ℕ) → again v l ≡ expect (w v) l) → ((l : List ℕ) → m l ≡ m' l)
     → (l : List ℕ) (o : Option (List ℕ)) → cell_by again m l o ≡ follow (cell_or w l o) (λ v. m' >>= λ vs. give (v ∷ vs))
 unfolding cell_by cell_or
-same-cells again w m m' a h l none = rw (h l)
-same-cells again w m m' a h l (some r) = go (read_value r)
+same-cells again w m m' a h l None = rw (h l)
+same-cells again w m m' a h l (Some r) = go (read_value r)
   where
     behind : (v : Value) (q : Option (Read (Unit {0}))) → follow q (λ _. m >>= λ vs. give (v ∷ vs)) ≡ follow (follow q (λ _. give v)) (λ v. m' >>= λ vs. give (v ∷ vs))
-    behind v none = refl
-    behind v (some x) = rw (h x.rest)
+    behind v None = refl
+    behind v (Some x) = rw (h x.rest)
 
     zero_or : (v : Value) (t : List ℕ) (z : Bool) → unless z (again v >>= λ _. m >>= λ vs. give (v ∷ vs)) t ≡ follow (unless z (expect (w v) >>= λ _. give v) t) (λ v. m' >>= λ vs. give (v ∷ vs))
     zero_or v t true = refl
@@ -135,8 +135,8 @@ same-cells again w m m' a h l (some r) = go (read_value r)
 
     go : (q : Option (Read Value)) → follow q (λ v. unless (is_zero v) (again v >>= λ _. m >>= λ vs. give (v ∷ vs)))
         ≡ follow (follow q (λ v. unless (is_zero v) (expect (w v) >>= λ _. give v))) (λ v. m' >>= λ vs. give (v ∷ vs))
-    go none = refl
-    go (some x) = zero_or x.what x.rest (is_zero x.what)
+    go None = refl
+    go (Some x) = zero_or x.what x.rest (is_zero x.what)
 
 module _ (bs : List Bool) (j : ℕ) where
   cells-from : (k i : ℕ) (l : List ℕ) → read_cells j k i (drop i bs) l ≡ read_each (cell_at bs j) k i l

@@ -1,7 +1,7 @@
 -- What the writers write of valid values is what the definition's lines are.
+use Rattle.std.specs.Prelude.{Option, Some, None}
 use mathlib.Core.Path.{◌≡◌, refl}
 use mathlib.Core.Bool.{Bool, true, false, cond}
-use mathlib.Core.Option.{Option, none, some}
 use mathlib.Core.List.{List, [], ◌∷◌, ◌++◌, append-nil}
 use Prim.Native.Nat.{ℕ, suc, ◌+◌, ◌<◌, ◌≤◌}
 use native.Mathlib.Omega.{arith}
@@ -38,13 +38,13 @@ row-bare n q v h k = cc (natural-shown n (small n h), shown-valid v k)
 
 low-bare : (n : ℕ) (w : Option Value) → n < 1024 → ValidIfAny w → shown_lines (low_lines n w) ≡ bare_lines (low_lines n w)
 unfolding low_lines shown_lines bare_lines shown_line bare_line
-low-bare n none h k = refl
-low-bare n (some v) h k = cc (natural-shown n (small n h), shown-valid v k)
+low-bare n None h k = refl
+low-bare n (Some v) h k = cc (natural-shown n (small n h), shown-valid v k)
 
 upper-shown : (u : Option Value) → ValidIfAny u → shown_upper u ≡ upper_field u
 unfolding shown_upper upper_field
-upper-shown none h = refl
-upper-shown (some v) h = shown-valid v h
+upper-shown None h = refl
+upper-shown (Some v) h = shown-valid v h
 
 variable-bare : (n : ℕ) (d : Bool) (l : Value) (u : Option Value) → n < 1024 → Valid l → ValidIfAny u → bare_variable n d l u ≡ bare_line (var_line n d l u [] [])
 unfolding bare_variable bare_line
@@ -62,7 +62,7 @@ cell-written j i v {o} {p} {p'} {o'} h g k w = go (is_zero v) (rw (add-one j, ad
     go false x = rw (column-bare (suc j) (suc i) v (omega arith) (omega arith) k) at x
 
 -- rows of `=` have no floor
-pub side-written : (less i : ℕ) (v : Value) (w : Option Value) {o : List ℕ} {p p' : ℕ} {o' : List ℕ} → i < 512 → Valid v → ValidIfAny w → (less ≤ i → w ≡ none)
+pub side-written : (less i : ℕ) (v : Value) (w : Option Value) {o : List ℕ} {p p' : ℕ} {o' : List ℕ} → i < 512 → Valid v → ValidIfAny w → (less ≤ i → w ≡ None)
     → Written o p (side_shown (i + 1) (leb less i) v w) p' o' → Written o p (side_bytes less i (record { right = v; floor = w })) p' o'
 unfolding side_shown side_bytes low_lines
 side-written less i v w {o} {p} {p'} {o'} h k m f x =
@@ -71,7 +71,7 @@ side-written less i v w {o} {p} {p'} {o'} h k m f x =
   where
     go : (q : Bool) → leb less i ≡ q → Written o p (bare_line (row_line (suc i) (cond q Listing.equal (kind_by w)) v [] []) ++ bare_lines (low_lines (suc i) w)) p' o'
         → Written o p (bare_line (row_line (suc i) (cond q Listing.equal (kind_by w)) v [] []) ++ bare_lines (cond q [] (low_lines (suc i) w))) p' o'
-    go true e y = let z : w ≡ none = f (leb-true less i e) in rw z at y
+    go true e y = let z : w ≡ None = f (leb-true less i e) in rw z at y
     go false e y = y
 
 pub bounds-written : (discrete j : ℕ) (l : Value) (u : Option Value) {o : List ℕ} {p p' : ℕ} {o' : List ℕ} → j < 512 → Valid l → ValidIfAny u

@@ -1,7 +1,7 @@
 -- The text up to its columns: rows, counted, and which of them have a floor.
+use Rattle.std.specs.Prelude.{None, Some}
 use mathlib.Core.Path.{◌≡◌, refl, sym, ◌∙◌}
 use mathlib.Core.Bool.{Bool, true, false}
-use mathlib.Core.Option.{none, some}
 use mathlib.Core.List.{List, [], ◌∷◌, ◌++◌, append_assoc, append-nil}
 use Prim.Native.Nat.{ℕ, suc, ◌+◌, ◌-◌, ◌<◌, ◌≤◌}
 use native.Mathlib.Omega.{arith}
@@ -53,11 +53,11 @@ pub record Listing (text : List ℕ) (at : ℕ) (fs₀ : List Bool) (k next : �
   pub what : (less_rows 512 0 (drop at text)).what ≡ take k fs ++ (less_rows (512 - k) k (drop next text)).what
   pub rest : (less_rows 512 0 (drop at text)).rest ≡ (less_rows (512 - k) k (drop next text)).rest
 
-less_none : (l : List ℕ) (k i : ℕ) → strip (less_line (suc i)) l ≡ none → less_rows (suc k) i l ≡ record { what = []; rest = l }
+less_none : (l : List ℕ) (k i : ℕ) → strip (less_line (suc i)) l ≡ None → less_rows (suc k) i l ≡ record { what = []; rest = l }
 unfolding less_rows
 less_none l k i e = rw (e, less_rows)
 
-less-some : (l r : List ℕ) (k i : ℕ) (b : Bool) (t : List ℕ) → strip (less_line (suc i)) l ≡ some r → floor_here i r ≡ record { what = b; rest = t }
+less-some : (l r : List ℕ) (k i : ℕ) (b : Bool) (t : List ℕ) → strip (less_line (suc i)) l ≡ Some r → floor_here i r ≡ record { what = b; rest = t }
     → less_rows (suc k) i l ≡ record { what = b ∷ (less_rows k (suc i) t).what; rest = (less_rows k (suc i) t).rest }
 unfolding less_rows
 less-some l r k i b t e f = rw (e, less_rows) (rw f)
@@ -115,11 +115,11 @@ pub record Counting (text : List ℕ) (at from limit k next : ℕ) : Type 0 wher
   pub what : (equal_rows limit from (drop at text)).what ≡ k + (equal_rows (limit - k) (from + k) (drop next text)).what
   pub rest : (equal_rows limit from (drop at text)).rest ≡ (equal_rows (limit - k) (from + k) (drop next text)).rest
 
-count_none : (l : List ℕ) (k i : ℕ) → strip (equal_line (suc i)) l ≡ none → equal_rows (suc k) i l ≡ record { what = 0; rest = l }
+count_none : (l : List ℕ) (k i : ℕ) → strip (equal_line (suc i)) l ≡ None → equal_rows (suc k) i l ≡ record { what = 0; rest = l }
 unfolding equal_rows
 count_none l k i e = rw (e, equal_rows)
 
-count-some : (l r : List ℕ) (k i : ℕ) → strip (equal_line (suc i)) l ≡ some r
+count-some : (l r : List ℕ) (k i : ℕ) → strip (equal_line (suc i)) l ≡ Some r
     → equal_rows (suc k) i l ≡ record { what = suc (equal_rows k (suc i) r).what; rest = (equal_rows k (suc i) r).rest }
 unfolding equal_rows
 count-some l r k i e = rw (e, equal_rows)
@@ -171,7 +171,7 @@ module _ (text : List ℕ) (at from limit : ℕ) where
 -- ---- the text up to its columns
 
 kinds-are : (l l' : List ℕ) (bs : List Bool) (a b : ℕ) (l'' : List ℕ) → less_rows 512 0 l ≡ record { what = bs; rest = l' } → length bs ≡ a → equal_rows (512 - a) a l' ≡ record { what = b; rest = l'' }
-    → read_kinds l ≡ some (record { what = record { less = bs; equal = b }; rest = l'' })
+    → read_kinds l ≡ Some (record { what = record { less = bs; equal = b }; rest = l'' })
 unfolding read_kinds row_limit
 kinds-are l l' bs a b l'' h e g = rw (h, e, g)
 
@@ -181,7 +181,7 @@ module _ (text : List ℕ) (m : Move) (s : Strips (bytes "NAME MODEL\nROWS\n N O
   open_none fs e = record { is = rw (s.is, e); inside = tt }
 
   module _ (at : ℕ) (e : m ≡ move.At at) (fs : List Bool) (a b : Count) (h : Lists text at a fs) (g : Counts text a.at a.rows (512 - a.rows) b) (k : Move) (z : Strips (bytes "COLUMNS\n") text b.at k) where
-    kinds : read_kinds (drop at text) ≡ some (record { what = record { less = take a.rows fs; equal = b.rows }; rest = drop b.at text })
+    kinds : read_kinds (drop at text) ≡ Some (record { what = record { less = take a.rows fs; equal = b.rows }; rest = drop b.at text })
     kinds = kinds-are _ _ _ a.rows _ _ h.is (length-take-le a.rows fs (omega (arith, h.few, h.size))) g.is
 
     pub open-other : k ≡ move.Nothing → Opens text opened.Nothing fs

@@ -1,7 +1,7 @@
 -- Right sides, floors and bounds.
+use Rattle.std.specs.Prelude.{Option, Some, None}
 use mathlib.Core.Path.{◌≡◌}
 use mathlib.Core.Bool.{Bool, true, false, not}
-use mathlib.Core.Option.{none, some}
 use mathlib.Core.List.{List}
 use Prim.Native.Nat.{ℕ, suc, ◌+◌, ◌*◌, ◌<◌, ◌≤◌}
 use native.Mathlib.Omega.{arith}
@@ -12,9 +12,6 @@ use lib.ListN.{length, get_or, drop, get_or-eq_default}
 use Rattle.rules.specs.Characters.{bytes}
 use Rattle.value.specs.declared.Value.{Value}
 use Rattle.value.specs.Printed.{Written}
-use Rattle.rows.specs.declared.End.{End}
-use Rattle.rows.specs.declared.End.TheVariants as ends
-use Rattle.rows.specs.End.{end_of}
 use Rattle.listing.specs.Bare.{bare_variable}
 use Rattle.mps.specs.Export.{named, right_head, floor_head, lower_head, upper_head, no_upper_line}
 use Rattle.mps.specs.Reading.{strip, line_value, read_floor, upper_by, read_upper}
@@ -36,13 +33,13 @@ use Rattle.importer.proofs.Lines.{side-written, bounds-written}
 -- ---- a floor
 
 module _ (bs : List Bool) (i : ℕ) where
-  pub floorless : length bs ≤ i → (l : List ℕ) → floor_at bs i l ≡ some (record { what = none; rest = l })
+  pub floorless : length bs ≤ i → (l : List ℕ) → floor_at bs i l ≡ Some (record { what = None; rest = l })
   unfolding floor_at read_floor
   floorless h l = rw (get_or-eq_default bs false {n = i} h)
 
   module _ (text : List ℕ) (at : ℕ) (q : Bool) (g : q ≡ get_or bs i false) where
-    pub floor-absent : not q ≡ true → at ≤ length text → FindsEnd (floor_at bs i) text at (end.At ends.None at)
-    unfolding floor_at read_floor end_of
+    pub floor-absent : not q ≡ true → at ≤ length text → FindsEnd (floor_at bs i) text at (end.At None at)
+    unfolding floor_at read_floor
     floor-absent f h = record { is = rw (← g, not-true q f); inside = (tt, h) }
 
     module _ (f : not q ≡ false) (r : Found) (d : Finds (line_value (named (bytes " MODEL F") (i + 1) (bytes " "))) text at r) where
@@ -54,8 +51,8 @@ module _ (bs : List Bool) (i : ℕ) where
       unfolding floor_at read_floor
       floor-missing e = record { is = rw (← g, not-false q f, floor-here, e); inside = tt }
 
-      pub floor-found : (v : Value) (n : ℕ) → r ≡ found.Value v n → FindsEnd (floor_at bs i) text at (end.At (ends.At v) n)
-      unfolding floor_at read_floor end_of
+      pub floor-found : (v : Value) (n : ℕ) → r ≡ found.Value v n → FindsEnd (floor_at bs i) text at (end.At (Some v) n)
+      unfolding floor_at read_floor
       floor-found v n e = record { is = rw (← g, not-false q f, floor-here, e); inside = rw e at d.inside }
 
 -- ---- right sides and floors
@@ -65,7 +62,7 @@ module _ (bs : List Bool) (n : ℕ) (text : List ℕ) (at : ℕ) (out : List ℕ
   unfolding right_head
   right-here = rw (add-one i) at d.is
 
-  stops : (l : List ℕ) → side_at bs i (drop next text) ≡ none → Walks (read_each (side_at bs) n 0) (bytes_each (side_bytes (length bs)) 0) (256 * n) text at out place Nothing l
+  stops : (l : List ℕ) → side_at bs i (drop next text) ≡ None → Walks (read_each (side_at bs) n 0) (bytes_each (side_bytes (length bs)) 0) (256 * n) text at out place Nothing l
   stops l e = record { is = each-stop (side_at bs) (side_bytes (length bs)) n text at out place i next o p h b e; inside = tt }
 
   pub rights-stop : (l : List ℕ) → r ≡ found.Nothing → Walks (read_each (side_at bs) n 0) (bytes_each (side_bytes (length bs)) 0) (256 * n) text at out place Nothing l
@@ -77,21 +74,21 @@ module _ (bs : List Bool) (n : ℕ) (text : List ℕ) (at : ℕ) (out : List ℕ
     unfolding side_at
     rights-open l g = stops l (rw (right-here, e, f.is, g))
 
-    module _ (w : End) (y : ℕ) (g : u ≡ end.At w y) where
-      floor-is : floor_at bs i (drop x text) ≡ some (record { what = end_of w; rest = drop y text })
+    module _ (w : Option Value) (y : ℕ) (g : u ≡ end.At w y) where
+      floor-is : floor_at bs i (drop x text) ≡ Some (record { what = w; rest = drop y text })
       floor-is = rw g at f.is
 
-      side-is : side_at bs i (drop next text) ≡ some (record { what = record { right = v; floor = end_of w }; rest = drop y text })
+      side-is : side_at bs i (drop next text) ≡ Some (record { what = record { right = v; floor = w }; rest = drop y text })
       unfolding side_at
       side-is = rw (right-here, e, floor-is)
 
-      pub rights-more : (p' : ℕ) (o' : List ℕ) → n ≤ 512 → Written o p (side_shown (i + 1) (leb (length bs) i) v (end_of w)) p' o' → p' ≤ p + 256
+      pub rights-more : (p' : ℕ) (o' : List ℕ) → n ≤ 512 → Written o p (side_shown (i + 1) (leb (length bs) i) v w) p' o' → p' ≤ p + 256
           → Each (side_at bs) (side_bytes (length bs)) n text at out place (i + 1) y o' p'
       rights-more p' o' k z s =
           let a = rw e at d.inside in
           let c = rw g at f.inside in
-          let no : length bs ≤ i → end_of w ≡ none = λ t. same-what _ (end_of w) none _ _ floor-is (floorless bs i t (drop x text)) in
-          each_more (side_at bs) (side_bytes (length bs)) n text at out place i next o p h b (record { right = v; floor = end_of w }) y p' o' side-is c.1 (side-written (length bs) i v (end_of w) (omega arith) a.0 c.0 no z) s
+          let no : length bs ≤ i → w ≡ None = λ t. same-what _ w None _ _ floor-is (floorless bs i t (drop x text)) in
+          each_more (side_at bs) (side_bytes (length bs)) n text at out place i next o p h b (record { right = v; floor = w }) y p' o' side-is c.1 (side-written (length bs) i v w (omega arith) a.0 c.0 no z) s
 
 module _ (bs : List Bool) (rows : ℕ) (text : List ℕ) (at : ℕ) (m : Move) (s : Strips (bytes "RHS\n") text at m) (out : List ℕ) (place : ℕ) where
   pub rights-none : (l : List ℕ) → m ≡ move.Nothing → Walks (rights_part bs rows) (bytes_each (side_bytes (length bs)) 0) 131072 text at out place Nothing l
@@ -115,8 +112,8 @@ module _ (j : ℕ) (text : List ℕ) (at : ℕ) (m : Move) (s : Strips (named (b
   unfolding no_upper_line
   none_here = s.is
 
-  pub upper-absent : (n : ℕ) → m ≡ move.At n → FindsEnd (read_upper j) text at (end.At ends.None n)
-  unfolding read_upper upper_by end_of
+  pub upper-absent : (n : ℕ) → m ≡ move.At n → FindsEnd (read_upper j) text at (end.At None n)
+  unfolding read_upper upper_by
   upper-absent n e = record { is = rw (none_here, e); inside = (tt, rw e at s.inside) }
 
   module _ (e : m ≡ move.Nothing) (r : Found) (d : Finds (line_value (named (bytes " UP MODEL C") j (bytes " "))) text at r) where
@@ -128,8 +125,8 @@ module _ (j : ℕ) (text : List ℕ) (at : ℕ) (m : Move) (s : Strips (named (b
     unfolding read_upper upper_by
     upper-none f = record { is = rw (none_here, e, here, f); inside = tt }
 
-    pub upper-some : (v : Value) (n : ℕ) → r ≡ found.Value v n → FindsEnd (read_upper j) text at (end.At (ends.At v) n)
-    unfolding read_upper upper_by end_of
+    pub upper-some : (v : Value) (n : ℕ) → r ≡ found.Value v n → FindsEnd (read_upper j) text at (end.At (Some v) n)
+    unfolding read_upper upper_by
     upper-some v n f = record { is = rw (none_here, e, here, f); inside = rw f at d.inside }
 
 module _ (j : ℕ) (text : List ℕ) (at : ℕ) (r : Found) (d : Finds (line_value (named (bytes " LO MODEL C") (j + 1) (bytes " "))) text at r) where
@@ -146,7 +143,7 @@ module _ (j : ℕ) (text : List ℕ) (at : ℕ) (r : Found) (d : Finds (line_val
     unfolding bounds_at
     bounds-open g = record { is = rw (lower, e, (rw (add-one j, g) at f.is)); inside = tt }
 
-    pub bounds-found : (b : End) (x : ℕ) → u ≡ end.At b x → FindsBounds (bounds_at j) text at (limits.At v b x)
+    pub bounds-found : (b : Option Value) (x : ℕ) → u ≡ end.At b x → FindsBounds (bounds_at j) text at (limits.At v b x)
     unfolding bounds_at
     bounds-found b x g =
         record {
@@ -157,10 +154,10 @@ module _ (j : ℕ) (text : List ℕ) (at : ℕ) (r : Found) (d : Finds (line_val
 -- ---- the bounds of all variables
 
 module _ (discrete n : ℕ) (text : List ℕ) (at : ℕ) (out : List ℕ) (place j next : ℕ) (o : List ℕ) (p : ℕ) (h : Each bounds_at (bounds_bytes discrete) n text at out place j next o p) (b : j < n) (r : Limits) (d : FindsBounds (bounds_at j) text next r) where
-  pub bounds-more : (v : Value) (u : End) (x p' : ℕ) (o' : List ℕ) → n ≤ 512 → r ≡ limits.At v u x → Written o p (bare_variable (j + 1) (ltb j discrete) v (end_of u)) p' o' → p' ≤ p + 128 → Each bounds_at (bounds_bytes discrete) n text at out place (j + 1) x o' p'
+  pub bounds-more : (v : Value) (u : Option Value) (x p' : ℕ) (o' : List ℕ) → n ≤ 512 → r ≡ limits.At v u x → Written o p (bare_variable (j + 1) (ltb j discrete) v u) p' o' → p' ≤ p + 128 → Each bounds_at (bounds_bytes discrete) n text at out place (j + 1) x o' p'
   bounds-more v u x p' o' k e w s =
       let i = rw e at d.inside in
-      each_more bounds_at (bounds_bytes discrete) n text at out place j next o p h b (record { lower = v; upper = end_of u }) x p' o' (rw e at d.is) i.2 (bounds-written discrete j v (end_of u) (omega arith) i.0 i.1 w) (omega arith)
+      each_more bounds_at (bounds_bytes discrete) n text at out place j next o p h b (record { lower = v; upper = u }) x p' o' (rw e at d.is) i.2 (bounds-written discrete j v u (omega arith) i.0 i.1 w) (omega arith)
 
   pub bounds-stop : (l : List ℕ) → r ≡ limits.Nothing → Walks (read_each bounds_at n 0) (bytes_each (bounds_bytes discrete) 0) (256 * n) text at out place Nothing l
   bounds-stop l e = record { is = each-stop bounds_at (bounds_bytes discrete) n text at out place j next o p h b (rw e at d.is); inside = tt }

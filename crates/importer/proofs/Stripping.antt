@@ -1,7 +1,7 @@
 -- Words and numbers that the text is stripped of.
+use Rattle.std.specs.Prelude.{Option, Some, None}
 use mathlib.Core.Path.{◌≡◌, refl, sym, ◌∙◌, ap}
 use mathlib.Core.Bool.{Bool, true, false}
-use mathlib.Core.Option.{Option, none, some}
 use mathlib.Core.List.{List, [], ◌∷◌, ◌++◌, append_assoc}
 use Prim.Native.Nat.{ℕ, ◌+◌, ◌<◌, ◌≤◌}
 use native.Mathlib.Omega.{arith}
@@ -58,8 +58,8 @@ module _ (w text : List ℕ) (at : ℕ) where
 -- ---- one word after the other
 
 unfoldable after : List ℕ → Option (List ℕ) → Option (List ℕ)
-after b none = none
-after b (some l) = strip b l
+after b None = None
+after b (Some l) = strip b l
 
 strip-append : (a b l : List ℕ) → strip (a ++ b) l ≡ after b (strip a l)
 unfolding strip after
@@ -68,8 +68,8 @@ strip-append (x ∷ a) b [] = refl
 strip-append (x ∷ a) b (y ∷ l) = go (eqb x y) (strip-append a b l)
   where
     go : (t : Bool) → strip (a ++ b) l ≡ after b (strip a l)
-        → elim t as (λ _. Option (List ℕ)) [ true ↦ strip (a ++ b) l | false ↦ none ]
-        ≡ after b (elim t as (λ _. Option (List ℕ)) [ true ↦ strip a l | false ↦ none ])
+        → elim t as (λ _. Option (List ℕ)) [ true ↦ strip (a ++ b) l | false ↦ None ]
+        ≡ after b (elim t as (λ _. Option (List ℕ)) [ true ↦ strip a l | false ↦ None ])
     go true e = e
     go false e = refl
 

@@ -1,7 +1,7 @@
 -- Numbers that are printed to be compared, and values that are read.
+use Rattle.std.specs.Prelude.{Option, Some, None}
 use mathlib.Core.Path.{◌≡◌, refl, sym, ◌∙◌, ap}
 use mathlib.Core.Bool.{Bool, true, false, not, cond}
-use mathlib.Core.Option.{Option, none, some}
 use mathlib.Core.List.{List, [], ◌∷◌, ◌++◌, append_assoc, append-nil}
 use Prim.Native.Nat.{ℕ, suc, ◌+◌, ◌-◌, ◌<◌, ◌≤◌}
 use native.Mathlib.Omega.{arith}
@@ -14,8 +14,6 @@ use lib.Seq.{sets-eq, take_at, take-suc, get_or-drop}
 use Rattle.rules.specs.Limits.{mantissa_limit}
 use Rattle.rules.specs.Characters.{line_feed}
 use Rattle.value.specs.declared.Value.{Value}
-use Rattle.value.specs.declared.Fit.{Fit}
-use Rattle.value.specs.declared.Fit.TheVariants.{Fits, TooBig}
 use Rattle.value.specs.Decimal.{Valid, of_whole, in_range, negate}
 use Rattle.value.specs.Literal.{literal_of}
 use Rattle.value.specs.Printed.{natural, shown, Written}
@@ -135,12 +133,12 @@ module _ (text : List ℕ) (at i : ℕ) (r : Running text at i) where
 
 -- ---- a literal with its sign
 
-pub signed-empty : (t : List ℕ) → length t ≡ 0 → TooBig ≡ read_back t
+pub signed-empty : (t : List ℕ) → length t ≡ 0 → None ≡ read_back t
 unfolding read_back
 signed-empty [] h = literal-empty [] refl
 signed-empty (b ∷ t) h = absurd (omega arith)
 
-pub signed-plain : (t : List ℕ) (r : Fit) → (get_or t 0 0 ≡ 45 → ⊥) → r ≡ literal_of t → r ≡ read_back t
+pub signed-plain : (t : List ℕ) (r : Option Value) → (get_or t 0 0 ≡ 45 → ⊥) → r ≡ literal_of t → r ≡ read_back t
 unfolding read_back
 signed-plain [] r f e = e
 signed-plain (b ∷ t) r f e = rw (ne_eqb b 45 f) e
@@ -150,35 +148,35 @@ unfolding read_back
 read-minus [] f e = absurd (f refl)
 read-minus (b ∷ t) f e = rw (part-rest (b ∷ t) 1, eq-eqb b 45 e)
 
-module _ (t : List ℕ) (f : length t ≡ 0 → ⊥) (e : get_or t 0 0 ≡ 45) (r : Fit) (h : r ≡ literal_of (take (length t - 1) (drop 1 t))) where
-  pub minus-big : r ≡ TooBig → TooBig ≡ read_back t
+module _ (t : List ℕ) (f : length t ≡ 0 → ⊥) (e : get_or t 0 0 ≡ 45) (r : Option Value) (h : r ≡ literal_of (take (length t - 1) (drop 1 t))) where
+  pub minus-big : r ≡ None → None ≡ read_back t
   unfolding opposite
   minus-big g = sym (read-minus t f e ∙ rw (← h, g))
 
-  pub minus-fits : (v w : Value) → r ≡ Fits v → w ≡ cond (in_range v) (negate v) v → Fits w ≡ read_back t
+  pub minus-fits : (v w : Value) → r ≡ Some v → w ≡ cond (in_range v) (negate v) v → Some w ≡ read_back t
   unfolding opposite
-  minus-fits v w g i = ap Fits (i ∙ valid-negated v (literal-valid _ v (sym h ∙ g))) ∙ sym (read-minus t f e ∙ rw (← h, g))
+  minus-fits v w g i = ap Some (i ∙ valid-negated v (literal-valid _ v (sym h ∙ g))) ∙ sym (read-minus t f e ∙ rw (← h, g))
 
-opposite-valid : (f : Fit) → ((u : Value) → f ≡ Fits u → Valid u) → (v : Value) → opposite f ≡ Fits v → Valid v
+opposite-valid : (f : Option Value) → ((u : Value) → f ≡ Some u → Valid u) → (v : Value) → opposite f ≡ Some v → Valid v
 unfolding opposite
-opposite-valid (Fits u) h v e = let k : negate u ≡ v = cc in rw k at (negate-valid u (h u refl))
-opposite-valid TooBig h v e = absurd (let z : ◌≡◌ {A = ℕ} 0 1 = cc in omega arith)
+opposite-valid (Some u) h v e = let k : negate u ≡ v = cc in rw k at (negate-valid u (h u refl))
+opposite-valid None h v e = absurd (let z : ◌≡◌ {A = ℕ} 0 1 = cc in omega arith)
 
-pub read-valid : (t : List ℕ) (v : Value) → read_back t ≡ Fits v → Valid v
+pub read-valid : (t : List ℕ) (v : Value) → read_back t ≡ Some v → Valid v
 unfolding read_back
 read-valid [] v e = literal-valid [] v e
 read-valid (b ∷ t) v e = go (eqb b 45) e
   where
-    go : (u : Bool) → cond u (opposite (literal_of t)) (literal_of (b ∷ t)) ≡ Fits v → Valid v
+    go : (u : Bool) → cond u (opposite (literal_of t)) (literal_of (b ∷ t)) ≡ Some v → Valid v
     go true g = opposite-valid (literal_of t) (literal-valid t) v g
     go false g = literal-valid (b ∷ t) v g
 
 -- ---- a print compared
 
 ended : Option (List ℕ) → Bool
-ended none = false
-ended (some []) = true
-ended (some (b ∷ l)) = false
+ended None = false
+ended (Some []) = true
+ended (Some (b ∷ l)) = false
 
 same-strip : (w l : List ℕ) → same_bytes w l ≡ ended (strip w l)
 unfolding same_bytes strip ended
@@ -188,7 +186,7 @@ same-strip (a ∷ w) [] = refl
 same-strip (a ∷ w) (b ∷ l) = go (eqb a b) (same-strip w l)
   where
     go : (u : Bool) → same_bytes w l ≡ ended (strip w l)
-        → elim u as (λ _. Bool) [ true ↦ same_bytes w l | false ↦ false ] ≡ ended (elim u as (λ _. Option (List ℕ)) [ true ↦ strip w l | false ↦ none ])
+        → elim u as (λ _. Bool) [ true ↦ same_bytes w l | false ↦ false ] ≡ ended (elim u as (λ _. Option (List ℕ)) [ true ↦ strip w l | false ↦ None ])
     go true e = e
     go false e = refl
 
@@ -204,7 +202,7 @@ module _ (w t : List ℕ) (m : Move) (s : Strips w t 0 m) where
       inside : n ≤ length t
       inside = rw e at s.inside
 
-      go : (l : List ℕ) → length l ≡ length t - n → (u : Bool) → leb (length t) n ≡ u → ended (some l) ≡ u
+      go : (l : List ℕ) → length l ≡ length t - n → (u : Bool) → leb (length t) n ≡ u → ended (Some l) ≡ u
       go [] h true g = refl
       go [] h false g = absurd (omega (arith, inside, leb-false (length t) n g))
       go (b ∷ l) h true g = absurd (omega (arith, leb-true (length t) n g))
@@ -212,12 +210,12 @@ module _ (w t : List ℕ) (m : Move) (s : Strips w t 0 m) where
 
 -- ---- a value and its line feed
 
-module _ (text : List ℕ) (at end : ℕ) (h : LineEnds text at end) (f : Fit) (g : f ≡ read_back (take (end - at) (drop at text))) where
-  pub value-big : f ≡ TooBig → Finds read_value text at found.Nothing
+module _ (text : List ℕ) (at end : ℕ) (h : LineEnds text at end) (f : Option Value) (g : f ≡ read_back (take (end - at) (drop at text))) where
+  pub value-big : f ≡ None → Finds read_value text at found.Nothing
   unfolding read_value value_of print_of
   value-big e = record { is = rw (← h.run, ← g, e); inside = tt }
 
-  module _ (v : Value) (e : f ≡ Fits v) (s : Bool) (i : s ≡ same_bytes (shown v) (take (end - at) (drop at text))) where
+  module _ (v : Value) (e : f ≡ Some v) (s : Bool) (i : s ≡ same_bytes (shown v) (take (end - at) (drop at text))) where
     valid : Valid v
     valid = read-valid _ v (sym g ∙ e)
 

@@ -1,7 +1,7 @@
 -- Columns one after the other, and all columns.
+use Rattle.std.specs.Prelude.{None, Some}
 use mathlib.Core.Path.{◌≡◌, refl, sym, ◌∙◌, ap}
 use mathlib.Core.Bool.{Bool, true, false}
-use mathlib.Core.Option.{none, some}
 use mathlib.Core.List.{List, [], ◌∷◌, ◌++◌, append_assoc}
 use Prim.Native.Nat.{ℕ, suc, ◌+◌, ◌-◌, ◌*◌, ◌^◌, ◌<◌, ◌≤◌}
 use native.Mathlib.Omega.{arith}
@@ -28,20 +28,20 @@ use Rattle.importer.proofs.Coefficients.{bare-append}
 -- ---- one column more, or none
 
 module _ (bs : List Bool) (rows k j : ℕ) (l : List ℕ) where
-  columns-out : strip (bytes " C") l ≡ none → read_columns bs rows (suc k) j l ≡ some (record { what = []; rest = l })
+  columns-out : strip (bytes " C") l ≡ None → read_columns bs rows (suc k) j l ≡ Some (record { what = []; rest = l })
   unfolding read_columns columns_by
   columns-out e = rw e
 
-  columns-bad : (r : List ℕ) → strip (bytes " C") l ≡ some r → read_column bs rows j l ≡ none → read_columns bs rows (suc k) j l ≡ none
+  columns-bad : (r : List ℕ) → strip (bytes " C") l ≡ Some r → read_column bs rows j l ≡ None → read_columns bs rows (suc k) j l ≡ None
   unfolding read_columns columns_by
   columns-bad r e f = rw (e, f)
 
-  columns-in : (r : List ℕ) (c : Column) (l' : List ℕ) → strip (bytes " C") l ≡ some r → read_column bs rows j l ≡ some (record { what = c; rest = l' })
+  columns-in : (r : List ℕ) (c : Column) (l' : List ℕ) → strip (bytes " C") l ≡ Some r → read_column bs rows j l ≡ Some (record { what = c; rest = l' })
       → read_columns bs rows (suc k) j l ≡ follow (read_columns bs rows k (suc j) l') (λ cs. give (c ∷ cs))
   unfolding read_columns columns_by
   columns-in r c l' e f = rw (e, f)
 
-columns-over : (bs : List Bool) (rows j : ℕ) (l : List ℕ) → read_columns bs rows 0 j l ≡ some (record { what = []; rest = l })
+columns-over : (bs : List Bool) (rows j : ℕ) (l : List ℕ) → read_columns bs rows 0 j l ≡ Some (record { what = []; rest = l })
 unfolding read_columns
 columns-over bs rows j l = refl
 
@@ -62,15 +62,15 @@ pub record Several (bs : List Bool) (rows limit from : ℕ) (text : List ℕ) (a
   pub short : p ≤ place + 131328 * k
   pub size : length o ≡ length out
   pub whole : (n q c : ℕ) (l : List ℕ) → WalkedColumns (read_columns bs rows (limit - k) (from + k)) (from + k) text next o p n q c l → WalkedColumns (read_columns bs rows limit from) from text at out place n q (k + c) l
-  pub broken : read_columns bs rows (limit - k) (from + k) (drop next text) ≡ none → read_columns bs rows limit from (drop at text) ≡ none
+  pub broken : read_columns bs rows (limit - k) (from + k) (drop next text) ≡ None → read_columns bs rows limit from (drop at text) ≡ None
 
 -- nothing is left
-nothing_left : (m : Reader (List Column)) (j : ℕ) (text : List ℕ) (next : ℕ) (o : List ℕ) (p : ℕ) → m (drop next text) ≡ some (record { what = []; rest = drop next text }) → WalkedColumns m j text next o p next p 0 o
+nothing_left : (m : Reader (List Column)) (j : ℕ) (text : List ℕ) (next : ℕ) (o : List ℕ) (p : ℕ) → m (drop next text) ≡ Some (record { what = []; rest = drop next text }) → WalkedColumns m j text next o p next p 0 o
 nothing_left m j text next o p e = record { walked = record { what = []; is = e; written = rw (none-bytes j) (written_none o p) }; count = refl }
 
 -- a column and what is left
 one_more : (bs : List Bool) (rows k j : ℕ) (text : List ℕ) (next : ℕ) (o : List ℕ) (p next' p' : ℕ) (o' r : List ℕ) (n q c : ℕ) (l : List ℕ)
-    → strip (bytes " C") (drop next text) ≡ some r → Walked (read_column bs rows j) (column_bytes j) text next o p next' p' o' → WalkedColumns (read_columns bs rows k (suc j)) (suc j) text next' o' p' n q c l
+    → strip (bytes " C") (drop next text) ≡ Some r → Walked (read_column bs rows j) (column_bytes j) text next o p next' p' o' → WalkedColumns (read_columns bs rows k (suc j)) (suc j) text next' o' p' n q c l
     → WalkedColumns (read_columns bs rows (suc k) j) j text next o p n q (suc c) l
 one_more bs rows k j text next o p next' p' o' r n q c l e w x =
     record {
@@ -98,7 +98,7 @@ module _ (bs : List Bool) (rows limit from : ℕ) (text : List ℕ) (at : ℕ) (
       }
 
   module _ (k next : ℕ) (o : List ℕ) (p : ℕ) (h : Several bs rows limit from text at out place k next o p) where
-    stopped : read_columns bs rows (limit - k) (from + k) (drop next text) ≡ some (record { what = []; rest = drop next text }) → WalksColumns (read_columns bs rows limit from) from limit text at out place (columns.To next p k) o
+    stopped : read_columns bs rows (limit - k) (from + k) (drop next text) ≡ Some (record { what = []; rest = drop next text }) → WalksColumns (read_columns bs rows limit from) from limit text at out place (columns.To next p k) o
     stopped e =
         let x : k + 0 ≡ k = omega arith in
         record {
@@ -154,25 +154,25 @@ no-columns [] k e f = refl
 no-columns (c ∷ cs) k e f = absurd (omega arith)
 
 module _ (bs : List Bool) (rows : ℕ) (l : List ℕ) where
-  discrete-out : strip (bytes " M 'MARKER' 'INTORG'\n") l ≡ none → read_discrete bs rows l ≡ some (record { what = []; rest = l })
+  discrete-out : strip (bytes " M 'MARKER' 'INTORG'\n") l ≡ None → read_discrete bs rows l ≡ Some (record { what = []; rest = l })
   unfolding read_discrete discrete_by
   discrete-out e = rw e
 
-  module _ (r : List ℕ) (e : strip (bytes " M 'MARKER' 'INTORG'\n") l ≡ some r) where
-    discrete-broken : read_columns bs rows 512 0 r ≡ none → read_discrete bs rows l ≡ none
+  module _ (r : List ℕ) (e : strip (bytes " M 'MARKER' 'INTORG'\n") l ≡ Some r) where
+    discrete-broken : read_columns bs rows 512 0 r ≡ None → read_discrete bs rows l ≡ None
     unfolding read_discrete discrete_by variable_limit
     discrete-broken f = rw (e, f)
 
-    module _ (cs : List Column) (t : List ℕ) (f : read_columns bs rows 512 0 r ≡ some (record { what = cs; rest = t })) where
-      discrete-no : is_none cs ≡ true → read_discrete bs rows l ≡ none
+    module _ (cs : List Column) (t : List ℕ) (f : read_columns bs rows 512 0 r ≡ Some (record { what = cs; rest = t })) where
+      discrete-no : is_none cs ≡ true → read_discrete bs rows l ≡ None
       unfolding read_discrete discrete_by variable_limit
       discrete-no g = rw (e, f, g)
 
-      discrete-unended : is_none cs ≡ false → strip (bytes " M 'MARKER' 'INTEND'\n") t ≡ none → read_discrete bs rows l ≡ none
+      discrete-unended : is_none cs ≡ false → strip (bytes " M 'MARKER' 'INTEND'\n") t ≡ None → read_discrete bs rows l ≡ None
       unfolding read_discrete discrete_by variable_limit
       discrete-unended g h = rw (e, f, g, h)
 
-      discrete-yes : is_none cs ≡ false → (t' : List ℕ) → strip (bytes " M 'MARKER' 'INTEND'\n") t ≡ some t' → read_discrete bs rows l ≡ some (record { what = cs; rest = t' })
+      discrete-yes : is_none cs ≡ false → (t' : List ℕ) → strip (bytes " M 'MARKER' 'INTEND'\n") t ≡ Some t' → read_discrete bs rows l ≡ Some (record { what = cs; rest = t' })
       unfolding read_discrete discrete_by variable_limit
       discrete-yes g t' h = rw (e, f, g, h)
 
@@ -185,7 +185,7 @@ module _ (bs : List Bool) (rows : ℕ) (text : List ℕ) (at : ℕ) (out : List 
       }
 
   module _ (n : ℕ) (e : m ≡ move.At n) (r : ColumnsRead) (o : List ℕ) (w : WalksColumns (read_columns bs rows 512 0) 0 512 text n out place r o) where
-    begins : strip (bytes " M 'MARKER' 'INTORG'\n") (drop at text) ≡ some (drop n text)
+    begins : strip (bytes " M 'MARKER' 'INTORG'\n") (drop at text) ≡ Some (drop n text)
     begins = rw e at s.is
 
     pub discrete-bad : (l : List ℕ) → r ≡ columns.Nothing → WalksColumns (read_discrete bs rows) 0 512 text at out place columns.Nothing l
@@ -238,16 +238,16 @@ unfolding matrix_bytes
 matrix-bytes ds cs d e = let z : 0 + length ds ≡ d = omega arith in columns-append 0 ds cs ∙ rw z
 
 module _ (bs : List Bool) (rows : ℕ) (l : List ℕ) where
-  matrix-out : read_discrete bs rows l ≡ none → read_matrix bs rows l ≡ none
+  matrix-out : read_discrete bs rows l ≡ None → read_matrix bs rows l ≡ None
   unfolding read_matrix
   matrix-out e = rw e
 
-  module _ (ds : List Column) (l' : List ℕ) (d : ℕ) (c : length ds ≡ d) (e : read_discrete bs rows l ≡ some (record { what = ds; rest = l' })) where
-    matrix-stop : read_columns bs rows (512 - d) d l' ≡ none → read_matrix bs rows l ≡ none
+  module _ (ds : List Column) (l' : List ℕ) (d : ℕ) (c : length ds ≡ d) (e : read_discrete bs rows l ≡ Some (record { what = ds; rest = l' })) where
+    matrix-stop : read_columns bs rows (512 - d) d l' ≡ None → read_matrix bs rows l ≡ None
     unfolding read_matrix variable_limit
     matrix-stop f = rw (e, c, f)
 
-    matrix-in : (cs : List Column) (t : List ℕ) → read_columns bs rows (512 - d) d l' ≡ some (record { what = cs; rest = t }) → read_matrix bs rows l ≡ some (record { what = record { discrete = ds; continuous = cs }; rest = t })
+    matrix-in : (cs : List Column) (t : List ℕ) → read_columns bs rows (512 - d) d l' ≡ Some (record { what = cs; rest = t }) → read_matrix bs rows l ≡ Some (record { what = record { discrete = ds; continuous = cs }; rest = t })
     unfolding read_matrix variable_limit
     matrix-in cs t f = rw (e, c, f)
 

@@ -1,7 +1,7 @@
 -- The whole text: the parts of the reader joined, and the report.
+use Rattle.std.specs.Prelude.{Option, Some, None}
 use mathlib.Core.Path.{◌≡◌, refl, sym, ◌∙◌, ap}
 use mathlib.Core.Bool.{Bool, false}
-use mathlib.Core.Option.{Option, none, some}
 use mathlib.Core.List.{List, [], ◌∷◌, ◌++◌, append_assoc, append-nil}
 use Prim.Native.Nat.{ℕ, zero, suc, ◌+◌, ◌-◌, ◌<◌, ◌≤◌, ◌^◌}
 use native.Mathlib.Omega.{arith}
@@ -38,8 +38,8 @@ use Rattle.importer.proofs.Sides.{floorless}
 -- ---- right sides and bounds, as the definition reads and prints them
 
 follow-then : {A B C : Type 0} (o : Option (Read A)) (f : A → Reader B) (g : B → Reader C) → follow (follow o f) g ≡ follow o (λ a. f a >>= g)
-follow-then none f g = refl
-follow-then (some x) f g = refl
+follow-then None f g = refl
+follow-then (Some x) f g = refl
 
 floor-is : (bs : List Bool) (i : ℕ) (c : Bool) (l : List ℕ) → c ≡ get_or bs i false → read_floor c i l ≡ floor_at bs i l
 unfolding floor_at
@@ -54,12 +54,12 @@ module _ {A : Type 0} (bs : List Bool) where
       go : (o : Option (Read Value)) → ((R : List Value → Reader A) (l : List ℕ) → follow (read_equal k (suc i) l) R ≡ follow (read_each (side_at bs) k (suc i) l) (λ ss. R (rights_of ss)))
           → follow (follow o (λ v. read_equal k (suc i) >>= λ vs. give (v ∷ vs))) R
           ≡ follow (follow (follow o (λ v. floor_at bs i >>= λ w. give (record { right = v; floor = w }))) (λ s. read_each (side_at bs) k (suc i) >>= λ ss. give (s ∷ ss))) (λ ss. R (rights_of ss))
-      go none f = refl
-      go (some x) f =
+      go None f = refl
+      go (Some x) f =
           rw (floorless bs i h x.rest)
           (follow-then (read_equal k (suc i) x.rest) (λ vs. give (x.what ∷ vs)) R
           ∙ f (λ vs. R (x.what ∷ vs)) x.rest
-          ∙ sym (follow-then (read_each (side_at bs) k (suc i) x.rest) (λ ss. give (record { right = x.what; floor = none } ∷ ss)) (λ ss. R (rights_of ss))))
+          ∙ sym (follow-then (read_each (side_at bs) k (suc i) x.rest) (λ ss. give (record { right = x.what; floor = None } ∷ ss)) (λ ss. R (rights_of ss))))
 
   -- cs are the rows of `<=` and `>=` from row i on
   less-are : (k i : ℕ) (cs : List Bool) → cs ≡ drop i bs → (R : List (Option Value) → List Value → Reader A) (l : List ℕ)
@@ -82,8 +82,8 @@ module _ {A : Type 0} (bs : List Bool) where
           ≡ follow (read_each (side_at bs) (length cs + k) (suc i) l) (λ ss. R (floors_of (length cs) ss) (rights_of ss)))
           → follow {A = mps.Sides} (follow o (λ w. read_less (suc i) cs >>= λ q. give (record { rights = v ∷ q.rights; floors = w ∷ q.floors }))) (λ q. read_equal k (suc i + length cs) >>= λ vs. R q.floors (q.rights ++ vs))
           ≡ follow (follow (follow o (λ w. give (record { right = v; floor = w }))) (λ s. read_each (side_at bs) (length cs + k) (suc i) >>= λ ss. give (s ∷ ss))) (λ ss. R (floors_of (suc (length cs)) ss) (rights_of ss))
-      later v none f = refl
-      later v (some x) f =
+      later v None f = refl
+      later v (Some x) f =
           follow-then {B = mps.Sides} (read_less (suc i) cs x.rest) (λ q. give (record { rights = v ∷ q.rights; floors = x.what ∷ q.floors })) (λ q. read_equal k (suc i + length cs) >>= λ vs. R q.floors (q.rights ++ vs))
           ∙ f (λ ws vs. R (x.what ∷ ws) (v ∷ vs)) x.rest
           ∙ sym (follow-then (read_each (side_at bs) (length cs + k) (suc i) x.rest) (λ ss. give (record { right = v; floor = x.what } ∷ ss)) (λ ss. R (floors_of (suc (length cs)) ss) (rights_of ss)))
@@ -93,18 +93,18 @@ module _ {A : Type 0} (bs : List Bool) where
           ≡ follow (read_each (side_at bs) (length cs + k) (suc i) l) (λ ss. R (floors_of (length cs) ss) (rights_of ss)))
           → follow {A = mps.Sides} (follow o (λ v. read_floor c i >>= λ w. read_less (suc i) cs >>= λ q. give (record { rights = v ∷ q.rights; floors = w ∷ q.floors }))) (λ q. read_equal k (suc i + length cs) >>= λ vs. R q.floors (q.rights ++ vs))
           ≡ follow (follow (follow o (λ v. floor_at bs i >>= λ w. give (record { right = v; floor = w }))) (λ s. read_each (side_at bs) (length cs + k) (suc i) >>= λ ss. give (s ∷ ss))) (λ ss. R (floors_of (suc (length cs)) ss) (rights_of ss))
-      go none x f = refl
-      go (some y) x f = rw (floor-is bs i c y.rest x) (later y.what (floor_at bs i y.rest) f)
+      go None x f = refl
+      go (Some y) x f = rw (floor-is bs i c y.rest x) (later y.what (floor_at bs i y.rest) f)
 
 bounds-next : (m m' : Reader (List Bounds)) (j : ℕ) (o : Option (Read Value)) → ((l : List ℕ) → m l ≡ m' l)
     → follow o (λ v. read_upper (suc j) >>= λ u. m >>= λ bs. give (record { lower = v; upper = u } ∷ bs))
     ≡ follow (follow o (λ v. read_upper (suc j) >>= λ u. give (record { lower = v; upper = u }))) (λ b. m' >>= λ bs. give (b ∷ bs))
-bounds-next m m' j none h = refl
-bounds-next m m' j (some x) h = go (read_upper (suc j) x.rest)
+bounds-next m m' j None h = refl
+bounds-next m m' j (Some x) h = go (read_upper (suc j) x.rest)
   where
     go : (o : Option (Read (Option Value))) → follow o (λ u. m >>= λ bs. give (record { lower = x.what; upper = u } ∷ bs)) ≡ follow (follow o (λ u. give (record { lower = x.what; upper = u }))) (λ b. m' >>= λ bs. give (b ∷ bs))
-    go none = refl
-    go (some y) = rw (h y.rest)
+    go None = refl
+    go (Some y) = rw (h y.rest)
 
 bounds-are : (k j : ℕ) (l : List ℕ) → read_bounds k j l ≡ read_each bounds_at k j l
 unfolding read_bounds read_each bounds_at
@@ -136,16 +136,16 @@ module _ {A : Type 0} where
   after-opening R l = first (as_read (strip (bytes "NAME MODEL\nROWS\n N OBJ\n") l))
     where
       third : (n : Kinds) (o : Option (Read (Unit {0}))) → follow o (λ _. R n) ≡ follow (follow o (λ _. give n)) R
-      third n none = refl
-      third n (some x) = refl
+      third n None = refl
+      third n (Some x) = refl
 
       second : (o : Option (Read Kinds)) → follow o (λ n. expect (bytes "COLUMNS\n") >>= λ _. R n) ≡ follow (follow o (λ n. expect (bytes "COLUMNS\n") >>= λ _. give n)) R
-      second none = refl
-      second (some x) = third x.what (as_read (strip (bytes "COLUMNS\n") x.rest))
+      second None = refl
+      second (Some x) = third x.what (as_read (strip (bytes "COLUMNS\n") x.rest))
 
       first : (o : Option (Read (Unit {0}))) → follow o (λ _. read_kinds >>= λ n. expect (bytes "COLUMNS\n") >>= λ _. R n) ≡ follow (follow o (λ _. read_kinds >>= λ n. expect (bytes "COLUMNS\n") >>= λ _. give n)) R
-      first none = refl
-      first (some x) = second (read_kinds x.rest)
+      first None = refl
+      first (Some x) = second (read_kinds x.rest)
 
   after-matrix : (fs : List Bool) (rows : ℕ) (R : List Column → List Column → Reader A) (l : List ℕ)
       → (read_discrete fs rows >>= λ ds. read_columns fs rows (variable_limit - length ds) (length ds) >>= λ cs. R ds cs) l ≡ follow (read_matrix fs rows l) (λ m. R m.discrete m.continuous)
@@ -153,13 +153,13 @@ module _ {A : Type 0} where
   after-matrix fs rows R l = first (read_discrete fs rows l)
     where
       second : (ds : List Column) (o : Option (Read (List Column))) → follow o (λ cs. R ds cs) ≡ follow {A = Matrix} (follow o (λ cs. give (record { discrete = ds; continuous = cs }))) (λ m. R m.discrete m.continuous)
-      second ds none = refl
-      second ds (some x) = refl
+      second ds None = refl
+      second ds (Some x) = refl
 
       first : (o : Option (Read (List Column))) → follow o (λ ds. read_columns fs rows (variable_limit - length ds) (length ds) >>= λ cs. R ds cs)
           ≡ follow {A = Matrix} (follow o (λ ds. read_columns fs rows (variable_limit - length ds) (length ds) >>= λ cs. give (record { discrete = ds; continuous = cs }))) (λ m. R m.discrete m.continuous)
-      first none = refl
-      first (some x) = second x.what (read_columns fs rows (variable_limit - length x.what) (length x.what) x.rest)
+      first None = refl
+      first (Some x) = second x.what (read_columns fs rows (variable_limit - length x.what) (length x.what) x.rest)
 
   after-rights : (fs : List Bool) (k : ℕ) (R : List (Option Value) → List Value → Reader A) (l : List ℕ)
       → (expect (bytes "RHS\n") >>= λ _. read_less 0 fs >>= λ q. read_equal k (length fs) >>= λ vs. R q.floors (q.rights ++ vs)) l
@@ -169,24 +169,24 @@ module _ {A : Type 0} where
     where
       first : (o : Option (Read (Unit {0}))) → follow o (λ _. read_less 0 fs >>= λ q. read_equal k (length fs) >>= λ vs. R q.floors (q.rights ++ vs))
           ≡ follow (follow o (λ _. read_each (side_at fs) (length fs + k) 0)) (λ ss. R (floors_of (length fs) ss) (rights_of ss))
-      first none = refl
-      first (some x) = let z : 0 + length fs ≡ length fs = omega arith in rw z at (less-are fs k 0 fs refl R x.rest)
+      first None = refl
+      first (Some x) = let z : 0 + length fs ≡ length fs = omega arith in rw z at (less-are fs k 0 fs refl R x.rest)
 
   after-bounds : (k : ℕ) (R : List Bounds → Reader A) (l : List ℕ) → (expect (bytes "BOUNDS\n") >>= λ _. read_bounds k 0 >>= λ bs. expect (bytes "ENDATA\n") >>= λ _. R bs) l ≡ follow (bounds_part k l) R
   unfolding bounds_part
   after-bounds k R l = first (as_read (strip (bytes "BOUNDS\n") l))
     where
       third : (bs : List Bounds) (o : Option (Read (Unit {0}))) → follow o (λ _. R bs) ≡ follow (follow o (λ _. give bs)) R
-      third bs none = refl
-      third bs (some x) = refl
+      third bs None = refl
+      third bs (Some x) = refl
 
       second : (o : Option (Read (List Bounds))) → follow o (λ bs. expect (bytes "ENDATA\n") >>= λ _. R bs) ≡ follow (follow o (λ bs. expect (bytes "ENDATA\n") >>= λ _. give bs)) R
-      second none = refl
-      second (some x) = third x.what (as_read (strip (bytes "ENDATA\n") x.rest))
+      second None = refl
+      second (Some x) = third x.what (as_read (strip (bytes "ENDATA\n") x.rest))
 
       first : (o : Option (Read (Unit {0}))) → follow o (λ _. read_bounds k 0 >>= λ bs. expect (bytes "ENDATA\n") >>= λ _. R bs) ≡ follow (follow o (λ _. read_each bounds_at k 0 >>= λ bs. expect (bytes "ENDATA\n") >>= λ _. give bs)) R
-      first none = refl
-      first (some x) = rw (bounds-are k 0 x.rest) (second (read_each bounds_at k 0 x.rest))
+      first None = refl
+      first (Some x) = rw (bounds-are k 0 x.rest) (second (read_each bounds_at k 0 x.rest))
 
 -- what the definition reads behind the columns of n and behind the right sides
 abbrev sheet_with : Kinds → List Column → List Column → List (Option Value) → List Value → List Bounds → Sheet
@@ -212,13 +212,13 @@ unfolding sides_part
 sides-join n m l = after-rights n.less n.equal (bounds_of n m.discrete m.continuous) l ∙ first (rights_part n.less (rows_in n) l)
   where
     second : (ss : List Side) (o : Option (Read (List Bounds))) → follow o (λ bs. give (sheet_of n m (record { sides = ss; bounds = bs }))) ≡ follow {A = Sides} (follow o (λ bs. give (record { sides = ss; bounds = bs }))) (λ s. give (sheet_of n m s))
-    second ss none = refl
-    second ss (some x) = refl
+    second ss None = refl
+    second ss (Some x) = refl
 
     first : (o : Option (Read (List Side))) → follow o (λ ss. bounds_of n m.discrete m.continuous (floors_of (length n.less) ss) (rights_of ss))
         ≡ follow {A = Sides} (follow o (λ ss. bounds_part (length m.discrete + length m.continuous) >>= λ bs. give (record { sides = ss; bounds = bs }))) (λ s. give (sheet_of n m s))
-    first none = refl
-    first (some x) =
+    first None = refl
+    first (Some x) =
         after-bounds (length m.discrete + length m.continuous) (λ bs. give (sheet_of n m (record { sides = x.what; bounds = bs }))) x.rest
         ∙ second x.what (bounds_part (length m.discrete + length m.continuous) x.rest)
 
@@ -228,16 +228,16 @@ columns-join n l = after-matrix n.less (rows_in n) (sides_of n) l ∙ go (read_m
   where
     go : (o : Option (Read Matrix)) → follow o (λ m. sides_of n m.discrete m.continuous)
         ≡ follow o (λ m. sides_part n.less (rows_in n) (length m.discrete + length m.continuous) >>= λ s. give (sheet_of n m s))
-    go none = refl
-    go (some x) = sides-join n x.what x.rest
+    go None = refl
+    go (Some x) = sides-join n x.what x.rest
 
 pub sheet-joins : (l : List ℕ) → read_sheet l ≡ follow (opening l) sheet_from
 unfolding read_sheet
 sheet-joins l = after-opening columns_in l ∙ go (opening l)
   where
     go : (o : Option (Read Kinds)) → follow o columns_in ≡ follow o sheet_from
-    go none = refl
-    go (some x) = columns-join x.what x.rest
+    go None = refl
+    go (Some x) = columns-join x.what x.rest
 
 -- ---- behind the columns
 
@@ -281,29 +281,29 @@ report-bytes n m s d e =
     (sym (append_assoc (bytes_each (side_bytes less) 0 s.sides) (bytes_each (bounds_bytes d) 0 s.bounds) (bare_lines c)))
 
 module _ (n : Kinds) (l : List ℕ) where
-  sheet-out : read_matrix n.less (rows_in n) l ≡ none → sheet_from n l ≡ none
+  sheet-out : read_matrix n.less (rows_in n) l ≡ None → sheet_from n l ≡ None
   unfolding sheet_from
   sheet-out e = rw e
 
-  module _ (m : Matrix) (t : List ℕ) (v : ℕ) (e : read_matrix n.less (rows_in n) l ≡ some (record { what = m; rest = t })) (c : length m.discrete + length m.continuous ≡ v) where
-    sheet-broken : sides_part n.less (rows_in n) v t ≡ none → sheet_from n l ≡ none
+  module _ (m : Matrix) (t : List ℕ) (v : ℕ) (e : read_matrix n.less (rows_in n) l ≡ Some (record { what = m; rest = t })) (c : length m.discrete + length m.continuous ≡ v) where
+    sheet-broken : sides_part n.less (rows_in n) v t ≡ None → sheet_from n l ≡ None
     unfolding sheet_from
     sheet-broken f = rw (e, c, f)
 
-    sheet-in : (s : Sides) (t' : List ℕ) → sides_part n.less (rows_in n) v t ≡ some (record { what = s; rest = t' }) → sheet_from n l ≡ some (record { what = sheet_of n m s; rest = t' })
+    sheet-in : (s : Sides) (t' : List ℕ) → sides_part n.less (rows_in n) v t ≡ Some (record { what = s; rest = t' }) → sheet_from n l ≡ Some (record { what = sheet_of n m s; rest = t' })
     unfolding sheet_from
     sheet-in s t' f = rw (e, c, f)
 
 -- nothing, and something, may follow
-nothing-after : (s : Sheet) (t : List ℕ) → length t ≡ 0 → alone (some (record { what = s; rest = t })) ≡ some s
+nothing-after : (s : Sheet) (t : List ℕ) → length t ≡ 0 → alone (Some (record { what = s; rest = t })) ≡ Some s
 nothing-after s [] h = refl
 nothing-after s (b ∷ t) h = absurd (omega arith)
 
-something-after : (s : Sheet) (t : List ℕ) → (length t ≡ 0 → ⊥) → alone (some (record { what = s; rest = t })) ≡ none
+something-after : (s : Sheet) (t : List ℕ) → (length t ≡ 0 → ⊥) → alone (Some (record { what = s; rest = t })) ≡ None
 something-after s [] h = absurd (h refl)
 something-after s (b ∷ t) h = refl
 
-reads_none : (n : Kinds) (text : List ℕ) (at : ℕ) (out l : List ℕ) → alone (sheet_from n (drop at text)) ≡ none → ReadsFrom n text at out reading.Nothing l
+reads_none : (n : Kinds) (text : List ℕ) (at : ℕ) (out l : List ℕ) → alone (sheet_from n (drop at text)) ≡ None → ReadsFrom n text at out reading.Nothing l
 reads_none n text at out l e = record { is = rw e tt }
 
 module _ (fs : List Bool) (equal : ℕ) (text : List ℕ) (at : ℕ) (spare spare' : List ℕ) (r : MatrixRead) (w : WalksMatrix fs (length fs + equal) text at spare 0 r spare') (out : List ℕ) where
@@ -336,7 +336,7 @@ module _ (fs : List Bool) (equal : ℕ) (text : List ℕ) (at : ℕ) (spare spar
         pub sheet-place : place < 2 ^ 36
         sheet-place = omega (arith, (rw f at u.inside).1)
 
-        whole : sheet_from kinds (drop at text) ≡ some (record { what = sheet_of kinds passed.walked.what told.what; rest = drop end text })
+        whole : sheet_from kinds (drop at text) ≡ Some (record { what = sheet_of kinds passed.walked.what told.what; rest = drop end text })
         whole = sheet-in kinds (drop at text) passed.walked.what (drop next text) v passed.walked.is passed.variables told.what (drop end text) told.is
 
         pub sheet-long : (l : List ℕ) → end < length text → ReadsFrom (record { less = fs; equal = equal }) text at out reading.Nothing l
@@ -355,7 +355,7 @@ module _ (fs : List Bool) (equal : ℕ) (text : List ℕ) (at : ℕ) (spare spar
               let k : WalkedMatrix fs (length fs + equal) text at o place a y b c o' = rw h at x.is in
               let same : k.walked.what ≡ passed.walked.what = same-what _ _ _ _ _ k.walked.is passed.walked.is in
               let s = sheet_of kinds passed.walked.what told.what in
-              let found : alone (sheet_from kinds (drop at text)) ≡ some s = ap alone whole ∙ nothing-after s (drop end text) (omega (arith, length-drop end text)) in
+              let found : alone (sheet_from kinds (drop at text)) ≡ Some s = ap alone whole ∙ nothing-after s (drop end text) (omega (arith, length-drop end text)) in
               let written : Written out 0 (sides_bytes (length fs) d told.what ++ matrix_bytes passed.walked.what) y o' = rw same at (written_then _ _ _ _ _ _ _ _ told.written k.walked.written) in
               record { is = rw (found, report-bytes kinds passed.walked.what told.what d passed.discrete) written }
 

@@ -1,6 +1,5 @@
 -- What the reader of an export answers.
-use Rattle.std.proofs.Math.Option.{Option, none, some}
-use Rattle.std.specs.Prelude.{List, ℕ, drop}
+use Rattle.std.specs.Prelude.{List, ℕ, drop, Option, Some, None}
 use Rattle.value.specs.Printed.{Written}
 use Rattle.mps.specs.Sheet.{Sheet}
 use Rattle.mps.specs.Report.{bare_of}
@@ -11,10 +10,10 @@ use Rattle.importer.specs.declared.Reading.TheVariants.{Read, Nothing}
 
 -- the report of the sheet that is read, as far as the output reaches; or nothing is read
 abbrev pub ReadsAs : Option Sheet → List ℕ → Reading → List ℕ → Type 0
-ReadsAs (some s) out (Read n) out' = Written out 0 (bare_of s) n out'
-ReadsAs none out Nothing out' = Unit {0}
-ReadsAs (some s) out Nothing out' = ⊥
-ReadsAs none out (Read n) out' = ⊥
+ReadsAs (Some s) out (Read n) out' = Written out 0 (bare_of s) n out'
+ReadsAs None out Nothing out' = Unit {0}
+ReadsAs (Some s) out Nothing out' = ⊥
+ReadsAs None out (Read n) out' = ⊥
 
 pub record Reads (text out : List ℕ) (r : Reading) (out' : List ℕ) : Type 0 where
   pub is : ReadsAs (sheet_in text) out r out'

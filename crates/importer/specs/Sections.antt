@@ -1,7 +1,6 @@
 -- The parts of the reader of exports (`mps`, `read_sheet`) that inner functions follow, and the bytes that are written of what each reads.
 -- `proofs/Sections` joins them again.
-use Rattle.std.specs.Prelude.{Bool, false, cond, List, [], ◌∷◌, ◌++◌, ℕ, zero, suc, ◌+◌, ◌-◌, leb, ltb, length, get_or}
-use Rattle.std.proofs.Math.Option.{Option, none, some}
+use Rattle.std.specs.Prelude.{Bool, false, cond, List, [], ◌∷◌, ◌++◌, ℕ, zero, suc, ◌+◌, ◌-◌, leb, ltb, length, get_or, Option, Some, None}
 use Rattle.rules.specs.Characters.{bytes}
 use Rattle.rules.specs.Limits.{variable_limit}
 use Rattle.value.specs.declared.Value.{Value}
@@ -46,8 +45,8 @@ again_line bs j i v = cond (get_or bs i false) (value_line (floor_cell_head (suc
 
 -- 0 where no line is
 unfoldable pub cell_or : (Value → List ℕ) → List ℕ → Option (List ℕ) → Option (Read Value)
-cell_or again l none = give zero_value l
-cell_or again l (some r) = follow (read_value r) (λ v. unless (is_zero v) (expect (again v) >>= λ _. give v))
+cell_or again l None = give zero_value l
+cell_or again l (Some r) = follow (read_value r) (λ v. unless (is_zero v) (expect (again v) >>= λ _. give v))
 
 unfoldable pub cell_at : List Bool → ℕ → ℕ → Reader Value
 cell_at bs j i = λ l. cell_or (again_line bs j i) l (strip (cell_head (suc j) (suc i)) l)

@@ -1,12 +1,10 @@
 -- What the code's steps answer, tied to the reader of exports (`mps`): the text from a position on is what is left to read.
-use Rattle.std.specs.Prelude.{◌≡◌, Bool, List, ℕ, ◌+◌, ◌-◌, ◌*◌, ◌≤◌, length, take, drop}
-use Rattle.std.proofs.Math.Option.{Option, none, some}
+use Rattle.std.specs.Prelude.{◌≡◌, Bool, List, ℕ, ◌+◌, ◌-◌, ◌*◌, ◌≤◌, length, take, drop, Option, Some, None}
 use Rattle.value.specs.declared.Value.{Value}
 use Rattle.value.specs.Decimal.{Valid}
 use Rattle.value.specs.Printed.{Written}
 use Rattle.lexer.specs.Text.{front, behind}
 use Rattle.language.specs.Valid.{ValidIfAny}
-use Rattle.rows.specs.End.{end_of}
 use Rattle.mps.specs.Sheet.{Column, Bounds}
 use Rattle.mps.specs.Reading.{Read, Reader, strip, in_line, floor_here, less_rows, equal_rows, Kinds}
 use Rattle.importer.specs.Sections.{opening, columns_bytes, read_matrix, matrix_bytes}
@@ -32,8 +30,8 @@ use Rattle.importer.specs.declared.Count.{Count}
 -- ---- a word that was awaited
 
 abbrev pub rest_of : List ℕ → Move → Option (List ℕ)
-rest_of text (move.At n) = some (drop n text)
-rest_of text move.Nothing = none
+rest_of text (move.At n) = Some (drop n text)
+rest_of text move.Nothing = None
 
 abbrev pub MoveInside : List ℕ → Move → Type 0
 MoveInside text (move.At n) = n ≤ length text
@@ -53,8 +51,8 @@ pub record LineEnds (text : List ℕ) (at r : ℕ) : Type 0 where
   pub rest : drop r text ≡ behind in_line (drop at text)
 
 abbrev pub read_of : List ℕ → Found → Option (Read Value)
-read_of text (found.Value v n) = some (record { what = v; rest = drop n text })
-read_of text found.Nothing = none
+read_of text (found.Value v n) = Some (record { what = v; rest = drop n text })
+read_of text found.Nothing = None
 
 abbrev pub FoundInside : List ℕ → Found → Type 0
 FoundInside text (found.Value v n) = Valid v × (n ≤ length text)
@@ -83,8 +81,8 @@ pub record Counts (text : List ℕ) (at from limit : ℕ) (r : Count) : Type 0 w
   pub inside : r.at ≤ length text
 
 abbrev pub kinds_of : List ℕ → List Bool → RowsRead → Option (Read Kinds)
-kinds_of text floors (opened.At n less equal) = some (record { what = record { less = take less floors; equal = equal }; rest = drop n text })
-kinds_of text floors opened.Nothing = none
+kinds_of text floors (opened.At n less equal) = Some (record { what = record { less = take less floors; equal = equal }; rest = drop n text })
+kinds_of text floors opened.Nothing = None
 
 abbrev pub OpeningInside : List ℕ → List Bool → RowsRead → Type 0
 OpeningInside text floors (opened.At n less equal) = (n ≤ length text) × (less + equal ≤ 512) × (512 ≤ length floors)
@@ -98,12 +96,12 @@ pub record Opens (text : List ℕ) (r : RowsRead) (floors : List Bool) : Type 0 
 
 pub record Walked {A : Type 0} (m : Reader A) (f : A → List ℕ) (text : List ℕ) (at : ℕ) (out : List ℕ) (place n p : ℕ) (out' : List ℕ) : Type 0 where
   pub what : A
-  pub is : m (drop at text) ≡ some (record { what = what; rest = drop n text })
+  pub is : m (drop at text) ≡ Some (record { what = what; rest = drop n text })
   pub written : Written out place (f what) p out'
 
 abbrev pub WalksAs : {A : Type 0} → Reader A → (A → List ℕ) → List ℕ → ℕ → List ℕ → ℕ → Step → List ℕ → Type 0
 WalksAs m f text at out place (step.To n p) out' = Walked m f text at out place n p out'
-WalksAs m f text at out place step.Nothing out' = m (drop at text) ≡ none
+WalksAs m f text at out place step.Nothing out' = m (drop at text) ≡ None
 
 -- at most so many bytes
 abbrev pub StepInside : List ℕ → ℕ → ℕ → Step → Type 0
@@ -122,7 +120,7 @@ pub record WalkedColumns (m : Reader (List Column)) (j : ℕ) (text : List ℕ) 
 
 abbrev pub ColumnsAs : Reader (List Column) → ℕ → List ℕ → ℕ → List ℕ → ℕ → ColumnsRead → List ℕ → Type 0
 ColumnsAs m j text at out place (columns.To n p k) out' = WalkedColumns m j text at out place n p k out'
-ColumnsAs m j text at out place columns.Nothing out' = m (drop at text) ≡ none
+ColumnsAs m j text at out place columns.Nothing out' = m (drop at text) ≡ None
 
 abbrev pub ColumnsInside : List ℕ → ℕ → ℕ → ColumnsRead → Type 0
 ColumnsInside text place limit (columns.To n p k) = (n ≤ length text) × (k ≤ limit) × (p ≤ place + 131328 * k)
@@ -140,7 +138,7 @@ pub record WalkedMatrix (bs : List Bool) (rows : ℕ) (text : List ℕ) (at : �
 
 abbrev pub MatrixAs : List Bool → ℕ → List ℕ → ℕ → List ℕ → ℕ → MatrixRead → List ℕ → Type 0
 MatrixAs bs rows text at out place (matrix.To n p d v) out' = WalkedMatrix bs rows text at out place n p d v out'
-MatrixAs bs rows text at out place matrix.Nothing out' = read_matrix bs rows (drop at text) ≡ none
+MatrixAs bs rows text at out place matrix.Nothing out' = read_matrix bs rows (drop at text) ≡ None
 
 abbrev pub MatrixInside : List ℕ → MatrixRead → Type 0
 MatrixInside text (matrix.To n p d v) = (n ≤ length text) × (v ≤ 512)
@@ -153,11 +151,11 @@ pub record WalksMatrix (bs : List Bool) (rows : ℕ) (text : List ℕ) (at : ℕ
 -- ---- bounds
 
 abbrev pub bounds_of : List ℕ → Limits → Option (Read Bounds)
-bounds_of text (limits.At l u n) = some (record { what = record { lower = l; upper = end_of u }; rest = drop n text })
-bounds_of text limits.Nothing = none
+bounds_of text (limits.At l u n) = Some (record { what = record { lower = l; upper = u }; rest = drop n text })
+bounds_of text limits.Nothing = None
 
 abbrev pub LimitsInside : List ℕ → Limits → Type 0
-LimitsInside text (limits.At l u n) = Valid l × ValidIfAny (end_of u) × (n ≤ length text)
+LimitsInside text (limits.At l u n) = Valid l × ValidIfAny u × (n ≤ length text)
 LimitsInside text limits.Nothing = Unit {0}
 
 pub record FindsBounds (m : Reader Bounds) (text : List ℕ) (at : ℕ) (r : Limits) : Type 0 where
@@ -167,11 +165,11 @@ pub record FindsBounds (m : Reader Bounds) (text : List ℕ) (at : ℕ) (r : Lim
 -- ---- an upper bound or a floor
 
 abbrev pub end_in : List ℕ → EndFound → Option (Read (Option Value))
-end_in text (end.At u n) = some (record { what = end_of u; rest = drop n text })
-end_in text end.Nothing = none
+end_in text (end.At u n) = Some (record { what = u; rest = drop n text })
+end_in text end.Nothing = None
 
 abbrev pub EndInside : List ℕ → EndFound → Type 0
-EndInside text (end.At u n) = ValidIfAny (end_of u) × (n ≤ length text)
+EndInside text (end.At u n) = ValidIfAny u × (n ≤ length text)
 EndInside text end.Nothing = Unit {0}
 
 pub record FindsEnd (m : Reader (Option Value)) (text : List ℕ) (at : ℕ) (r : EndFound) : Type 0 where

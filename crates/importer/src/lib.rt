@@ -12,7 +12,6 @@ ghost use Rattle.language.specs.Listing.{low_lines, col_line};
 ghost use Rattle.listing.specs.Shown.{shown_line, shown_lines};
 ghost use Rattle.listing.specs.Kinds.{kind_in};
 ghost use Rattle.listing.specs.Bare.{bare_row, bare_variable};
-ghost use Rattle.rows.specs.End.{end_of};
 ghost use Rattle.mps.specs.Export.{named as namedBytes};
 ghost use Rattle.mps.specs.Reading.{read_value, line_value, read_column, read_columns, read_discrete, read_upper};
 ghost use Rattle.importer.specs.Sections.{read_each, bytes_each, head_of, again_line, cell_at, cell_bytes, column_bytes, floor_at, side_shown, side_at, side_bytes, bounds_at, bounds_bytes, rights_part, bounds_part, sides_part, sides_bytes};
@@ -85,14 +84,14 @@ enum MatrixRead {
 // An upper bound or a floor, and where the text goes on.
 #[derive(Clone, Copy)]
 enum EndFound {
-    At(rows::End, usize),
+    At(Option<value::Value>, usize),
     Nothing,
 }
 
 // A variable's bounds, and where the text goes on.
 #[derive(Clone, Copy)]
 enum Limits {
-    At(value::Value, rows::End, usize),
+    At(value::Value, Option<value::Value>, usize),
     Nothing,
 }
 
@@ -181,18 +180,18 @@ fn line_end(text: &[u8], at: usize) -> usize
 }
 
 // A literal, or a `-` and a literal.
-fn signed(t: &[u8]) -> value::Fit
+fn signed(t: &[u8]) -> Option<value::Value>
     ensures { result ≡ read_back t.now }
 {
     if t.len() == 0 {
-        return value::Fit::TooBig;
+        return None;
     }
     if t[0] != b'-' {
         return value::literal(t);
     }
     match value::literal(&t[1..]) {
-        value::Fit::Fits(v) => value::Fit::Fits(value::negated(v)),
-        value::Fit::TooBig => value::Fit::TooBig,
+        Some(v) => Some(value::negated(v)),
+        None => None,
     }
 }
 
@@ -214,7 +213,7 @@ fn read_value(text: &[u8], at: usize) -> Found
     let end = line_end(text, at);
     let t = &text[at..end];
     match signed(t) {
-        value::Fit::Fits(v) => {
+        Some(v) => {
             if !is_print(t, v) {
                 return Found::Nothing;
             }
@@ -223,7 +222,7 @@ fn read_value(text: &[u8], at: usize) -> Found
                 Move::Nothing => Found::Nothing,
             }
         }
-        value::Fit::TooBig => Found::Nothing,
+        None => Found::Nothing,
     }
 }
 
@@ -541,10 +540,10 @@ fn floor_at(text: &[u8], at: usize, floors: &[bool], i: usize) -> EndFound
     ensures { FindsEnd (floor_at floors.now i) text.now at result }
 {
     if !has_floor(floors, i) {
-        return EndFound::At(rows::End::None, at);
+        return EndFound::At(None, at);
     }
     match line_value(text, at, b" MODEL F", i + 1, b" ") {
-        Found::Value(v, next) => EndFound::At(rows::End::At(v), next),
+        Found::Value(v, next) => EndFound::At(Some(v), next),
         Found::Nothing => EndFound::Nothing,
     }
 }
@@ -564,13 +563,13 @@ fn row_line(
 }
 
 // Nothing where there is no floor.
-fn low_line(row: usize, floor: rows::End, out: &mut [u8], place: usize) -> usize
+fn low_line(row: usize, floor: Option<value::Value>, out: &mut [u8], place: usize) -> usize
     requires { place < 2 ^ 41 }
-    ensures { (Written out.old place (shown_lines (low_lines row (end_of floor))) result out.new) × (result ≤ place + 128) }
+    ensures { (Written out.old place (shown_lines (low_lines row floor)) result out.new) × (result ≤ place + 128) }
 {
     match floor {
-        rows::End::None => place,
-        rows::End::At(v) => {
+        None => place,
+        Some(v) => {
             let from = listing::rest_from(out.len(), place);
             place + listing::low(row, v, &mut out[from..])
         }
@@ -582,12 +581,12 @@ fn side_lines(
     number: usize,
     equal: bool,
     v: value::Value,
-    floor: rows::End,
+    floor: Option<value::Value>,
     out: &mut [u8],
     place: usize,
 ) -> usize
     requires { place < 2 ^ 40 }
-    ensures { (Written out.old place (side_shown number equal v (end_of floor)) result out.new) × (result ≤ place + 256) }
+    ensures { (Written out.old place (side_shown number equal v floor) result out.new) × (result ≤ place + 256) }
 {
     let kind = listing::sheet::kind_of(equal, floor);
     let next = row_line(number, kind, v, out, place);
@@ -646,9 +645,9 @@ fn upper_at(text: &[u8], at: usize, number: usize) -> EndFound
     ensures { FindsEnd (read_upper number) text.now at result }
 {
     match named(text, at, b" PL MODEL C", number, b"\n") {
-        Move::At(next) => EndFound::At(rows::End::None, next),
+        Move::At(next) => EndFound::At(None, next),
         Move::Nothing => match line_value(text, at, b" UP MODEL C", number, b" ") {
-            Found::Value(v, next) => EndFound::At(rows::End::At(v), next),
+            Found::Value(v, next) => EndFound::At(Some(v), next),
             Found::Nothing => EndFound::Nothing,
         },
     }
@@ -671,12 +670,12 @@ fn variable_line(
     number: usize,
     discrete: bool,
     lower: value::Value,
-    upper: rows::End,
+    upper: Option<value::Value>,
     out: &mut [u8],
     place: usize,
 ) -> usize
     requires { place < 2 ^ 40 }
-    ensures { (Written out.old place (bare_variable number discrete lower (end_of upper)) result out.new) × (result ≤ place + 128) }
+    ensures { (Written out.old place (bare_variable number discrete lower upper) result out.new) × (result ≤ place + 128) }
 {
     let from = listing::rest_from(out.len(), place);
     place + listing::bare::variable(number, discrete, lower, upper, &mut out[from..])

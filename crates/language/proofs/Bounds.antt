@@ -1,8 +1,8 @@
 -- Bounds: the largest and the smallest of the stated values.
+use Rattle.std.specs.Prelude.{Option, Some, None}
 use mathlib.Core.Path.{◌≡◌, refl, sym, ◌∙◌, ap, subst}
 use mathlib.Core.Logic.{◌⊎◌, inl, inr}
 use mathlib.Core.Bool.{Bool, true, false, cond}
-use mathlib.Core.Option.{Option, none, some}
 use mathlib.Core.List.{List, [], ◌∷◌}
 use Prim.Native.Nat.{ℕ}
 use lib.Dec.{eqb}
@@ -19,53 +19,53 @@ use Rattle.value.proofs.Numbers.{is_at_most-yes, is_at_most-no}
 
 -- ---- a floor on a bare variable stands where its bound stands
 
-pub floor-bound : (f : Fact) (w : Option Value) (j : ℕ) (u : Value) → floor_for f w j ≡ some u → (t : Value) × (bound_at f j ≡ some t) × (w ≡ some u)
+pub floor-bound : (f : Fact) (w : Option Value) (j : ℕ) (u : Value) → floor_for f w j ≡ Some u → (t : Value) × (bound_at f j ≡ Some t) × (w ≡ Some u)
 floor-bound (bound i v) w j u e = go (eqb i j) e
   where
-    go : (t : Bool) → cond t w none ≡ some u → (b : Value) × (cond t (some v) none ≡ some b) × (w ≡ some u)
+    go : (t : Bool) → cond t w None ≡ Some u → (b : Value) × (cond t (Some v) None ≡ Some b) × (w ≡ Some u)
     go true e = (v, refl, e)
     go false e = absurd (none-some e)
 floor-bound (row r v) w j u e = absurd (none-some e)
 
-pub bound-floor : (f : Fact) (w : Option Value) (j : ℕ) (t : Value) → bound_at f j ≡ some t → floor_for f w j ≡ w
+pub bound-floor : (f : Fact) (w : Option Value) (j : ℕ) (t : Value) → bound_at f j ≡ Some t → floor_for f w j ≡ w
 bound-floor (bound i v) w j t e = go (eqb i j) e
   where
-    go : (b : Bool) → cond b (some v) none ≡ some t → cond b w none ≡ w
+    go : (b : Bool) → cond b (Some v) None ≡ Some t → cond b w None ≡ w
     go true e = refl
     go false e = absurd (none-some e)
 bound-floor (row r v) w j t e = absurd (none-some e)
 
 -- ---- the stated values
 
-pub in-picked : (f : Entry → Option Value) (es : List Entry) (e : Entry) (v : Value) → In es e → f e ≡ some v → In (picked f es) v
+pub in-picked : (f : Entry → Option Value) (es : List Entry) (e : Entry) (v : Value) → In es e → f e ≡ Some v → In (picked f es) v
 unfolding picked
 in-picked f [] e v h s = absurd (in-nil e h)
 in-picked f (d ∷ es) e v h s = go (f d) refl (in-cons d es e h) (λ k. in-picked f es e v k s)
   where
-    go : (o : Option Value) → f d ≡ o → (d ≡ e) ⊎ In es e → (In es e → In (picked f es) v) → In (elim o [ some v ↦ v ∷ picked f es | none ↦ picked f es ]) v
-    go (some w) fd (inl k) ih = let same : w ≡ v = some-injective (sym fd ∙ ap f k ∙ s) in record { place = 0; at = same }
-    go (some w) fd (inr k) ih = in-later w (picked f es) v (ih k)
-    go none fd (inl k) ih = absurd (none-some (sym fd ∙ ap f k ∙ s))
-    go none fd (inr k) ih = ih k
+    go : (o : Option Value) → f d ≡ o → (d ≡ e) ⊎ In es e → (In es e → In (picked f es) v) → In (elim o [ Some v ↦ v ∷ picked f es | None ↦ picked f es ]) v
+    go (Some w) fd (inl k) ih = let same : w ≡ v = some-injective (sym fd ∙ ap f k ∙ s) in record { place = 0; at = same }
+    go (Some w) fd (inr k) ih = in-later w (picked f es) v (ih k)
+    go None fd (inl k) ih = absurd (none-some (sym fd ∙ ap f k ∙ s))
+    go None fd (inr k) ih = ih k
 
-pub picked-in : (f : Entry → Option Value) (es : List Entry) (v : Value) → In (picked f es) v → (e : Entry) × In es e × (f e ≡ some v)
+pub picked-in : (f : Entry → Option Value) (es : List Entry) (v : Value) → In (picked f es) v → (e : Entry) × In es e × (f e ≡ Some v)
 unfolding picked
 picked-in f [] v h = absurd (in-nil v h)
 picked-in f (d ∷ es) v h = go (f d) refl h (picked-in f es v)
   where
     Found : List Entry → Type 0
-    Found l = (e : Entry) × In l e × (f e ≡ some v)
+    Found l = (e : Entry) × In l e × (f e ≡ Some v)
 
     later : Found es → Found (d ∷ es)
     later r = (r.0, in-later d es r.0 r.1, r.2)
 
-    first : (w : Value) → f d ≡ some w → (w ≡ v) ⊎ In (picked f es) v → (In (picked f es) v → Found es) → Found (d ∷ es)
-    first w fd (inl k) ih = (d, in-here d es, fd ∙ ap some k)
+    first : (w : Value) → f d ≡ Some w → (w ≡ v) ⊎ In (picked f es) v → (In (picked f es) v → Found es) → Found (d ∷ es)
+    first w fd (inl k) ih = (d, in-here d es, fd ∙ ap Some k)
     first w fd (inr k) ih = later (ih k)
 
-    go : (o : Option Value) → f d ≡ o → In (elim o [ some v ↦ v ∷ picked f es | none ↦ picked f es ]) v → (In (picked f es) v → Found es) → Found (d ∷ es)
-    go (some w) fd h ih = first w fd (in-cons w (picked f es) v h) ih
-    go none fd h ih = later (ih h)
+    go : (o : Option Value) → f d ≡ o → In (elim o [ Some v ↦ v ∷ picked f es | None ↦ picked f es ]) v → (In (picked f es) v → Found es) → Found (d ∷ es)
+    go (Some w) fd h ih = first w fd (in-cons w (picked f es) v h) ih
+    go None fd h ih = later (ih h)
 
 -- ---- the extreme one
 
@@ -121,17 +121,17 @@ largest-bounds [] v h = absurd (in-nil v h)
 largest-bounds (w ∷ l) v h = extreme-bounds is_at_most (λ v w. exactly v ⊑ exactly w) is_at_most-yes is_at_most-no (λ v. ⊑_refl (exactly v)) (λ u v w. ⊑_trans) l w v h
 
 -- the smallest is one of them and none is below it, where there are any
-pub smallest-none : (l : List Value) → smallest l ≡ none → (v : Value) → In l v → ⊥
+pub smallest-none : (l : List Value) → smallest l ≡ None → (v : Value) → In l v → ⊥
 unfolding smallest
 smallest-none [] e v h = in-nil v h
 smallest-none (w ∷ l) e v h = none-some (sym e)
 
-pub smallest-in : (l : List Value) (u : Value) → smallest l ≡ some u → In l u
+pub smallest-in : (l : List Value) (u : Value) → smallest l ≡ Some u → In l u
 unfolding smallest
 smallest-in [] u e = absurd (none-some e)
 smallest-in (w ∷ l) u e = subst (In (w ∷ l)) (some-injective e) (extreme-in is_at_least l w)
 
-pub smallest-bounds : (l : List Value) (u : Value) → smallest l ≡ some u → (v : Value) → In l v → exactly u ⊑ exactly v
+pub smallest-bounds : (l : List Value) (u : Value) → smallest l ≡ Some u → (v : Value) → In l v → exactly u ⊑ exactly v
 unfolding smallest
 smallest-bounds [] u e v h = absurd (none-some e)
 smallest-bounds (w ∷ l) u e v h =

@@ -1,7 +1,7 @@
 -- Every data section that is written, with portions that are in order, is read: `PhrasedData`, the other way round.
+use Rattle.std.specs.Prelude.{Some}
 use mathlib.Core.Path.{◌≡◌, refl, sym, ◌∙◌, ap, subst}
 use mathlib.Core.Bool.{Bool, true, false}
-use mathlib.Core.Option.{some}
 use mathlib.Core.List.{List, [], ◌∷◌, ◌++◌, append_assoc}
 use Prim.Native.Nat.{ℕ, zero, suc, ◌*◌, ◌^◌, ◌≤◌}
 use native.Mathlib.Omega.{arith}
@@ -185,7 +185,7 @@ module _ (names : List Name) where
 
   -- ---- portions
 
-  portion-at : (i p : ℕ) (whole : Bool) (d : Spans) → portion_by i p (sort_of whole d) ≡ some (record { name = i; place = p; whole = whole; domain = d })
+  portion-at : (i p : ℕ) (whole : Bool) (d : Spans) → portion_by i p (sort_of whole d) ≡ Some (record { name = i; place = p; whole = whole; domain = d })
   unfolding portion_by
   portion-at i p true d = refl
   portion-at i p false d = refl

@@ -1,8 +1,8 @@
 -- What the portions of a data section give, where the rules write them and they are carried out in order: each its elements, no element
 -- twice, and nothing besides.
+use Rattle.std.specs.Prelude.{None, Some}
 use mathlib.Core.Path.{◌≡◌, refl, sym, ◌∙◌, ap, subst}
 use mathlib.Core.Bool.{Bool, true, false}
-use mathlib.Core.Option.{none, some}
 use mathlib.Core.Logic.{◌⊎◌, inl, inr}
 use mathlib.Core.List.{List, [], ◌∷◌}
 use Prim.Native.Nat.{ℕ, zero, suc, ◌<◌}
@@ -81,10 +81,10 @@ structure-apart (whole_model p q r t minimize w v u few) = declarations-apart w
 record Gave (x : WrittenPortion) (st new : Store) : Type 0 where
   later : Later st new
   filled : (s : Scope) → Extends (scope_of new) s → Filled s x
-  fresh : (s : Scope) → Extends (scope_of new) s → (e : List ℤ) → InPortion s x e → stored st x.name e ≡ none
+  fresh : (s : Scope) → Extends (scope_of new) s → (e : List ℤ) → InPortion s x e → stored st x.name e ≡ None
   there : (s : Scope) → Extends (scope_of new) s → (e : List ℤ) → InPortion s x e → Has (stored new x.name e)
-  no_other : (s : Scope) → Extends (scope_of new) s → (i : ℕ) (e : List ℤ) (v : Value) → stored new i e ≡ some v
-      → (stored st i e ≡ some v) ⊎ ((x.name ≡ i) × InPortion s x e)
+  no_other : (s : Scope) → Extends (scope_of new) s → (i : ℕ) (e : List ℤ) (v : Value) → stored new i e ≡ Some v
+      → (stored st i e ≡ Some v) ⊎ ((x.name ≡ i) × InPortion s x e)
 
 pub at_some : {A : Type 0} (l : List A) (k : ℕ) → k < length l → (a : A) × At l k a
 at_some [] k h = absurd (omega (arith, h))
@@ -134,11 +134,11 @@ module _ (x : WrittenPortion) {st new : Store} (r : Ran x (InOrder (positions_of
 record GaveAll (xs : List WrittenPortion) (st new : Store) : Type 0 where
   later : Later st new
   filled : (s : Scope) → Extends (scope_of new) s → (x : WrittenPortion) → In xs x → Filled s x
-  fresh : (s : Scope) → Extends (scope_of new) s → (x : WrittenPortion) → In xs x → (e : List ℤ) → InPortion s x e → stored st x.name e ≡ none
+  fresh : (s : Scope) → Extends (scope_of new) s → (x : WrittenPortion) → In xs x → (e : List ℤ) → InPortion s x e → stored st x.name e ≡ None
   once : (s : Scope) → Extends (scope_of new) s → (j k : ℕ) (x y : WrittenPortion) (e : List ℤ) → At xs j x → At xs k y → x.name ≡ y.name
       → InPortion s x e → InPortion s y e → j ≡ k
-  no_other : (s : Scope) → Extends (scope_of new) s → (i : ℕ) (e : List ℤ) (v : Value) → stored new i e ≡ some v
-      → (stored st i e ≡ some v) ⊎ ((x : WrittenPortion) × In xs x × (x.name ≡ i) × InPortion s x e)
+  no_other : (s : Scope) → Extends (scope_of new) s → (i : ℕ) (e : List ℤ) (v : Value) → stored new i e ≡ Some v
+      → (stored st i e ≡ Some v) ⊎ ((x : WrittenPortion) × In xs x × (x.name ≡ i) × InPortion s x e)
 
 gave-none : (st : Store) → GaveAll [] st st
 gave-none st = record {
@@ -150,7 +150,7 @@ gave-none st = record {
 }
 
 -- an element that is there can be given no more
-clash : (st : Store) (i j : ℕ) (e : List ℤ) → i ≡ j → Has (stored st i e) → stored st j e ≡ none → ⊥
+clash : (st : Store) (i j : ℕ) (e : List ℤ) → i ≡ j → Has (stored st i e) → stored st j e ≡ None → ⊥
 clash st i j e same h n = none-some (sym n ∙ ap (λ k. stored st k e) (sym same) ∙ h.is)
 
 gave-more : {x : WrittenPortion} {xs : List WrittenPortion} {st mid new : Store} → Gave x st mid → GaveAll xs mid new → GaveAll (x ∷ xs) st new
@@ -165,8 +165,8 @@ gave-more {x} {xs} {st} {mid} {new} a b = record {
   no_other = λ s g i e v h. others s g i e v (b.no_other s g i e v h);
 }
   where
-    first : (s : Scope) → Extends (scope_of new) s → (y : WrittenPortion) → x ≡ y → (e : List ℤ) → InPortion s y e → stored st y.name e ≡ none
-    first s g y q e h = subst (λ (y : WrittenPortion). InPortion s y e → stored st y.name e ≡ none) q (a.fresh s (extends-later b.later g) e) h
+    first : (s : Scope) → Extends (scope_of new) s → (y : WrittenPortion) → x ≡ y → (e : List ℤ) → InPortion s y e → stored st y.name e ≡ None
+    first s g y q e h = subst (λ (y : WrittenPortion). InPortion s y e → stored st y.name e ≡ None) q (a.fresh s (extends-later b.later g) e) h
 
     both : (s : Scope) → Extends (scope_of new) s → (y z : WrittenPortion) (e : List ℤ) → x ≡ y → In xs z → y.name ≡ z.name → InPortion s y e → InPortion s z e → ⊥
     both s g y z e q n same h k =
@@ -179,8 +179,8 @@ gave-more {x} {xs} {st} {mid} {new} a b = record {
     once s g (suc j) zero y z e h i same m n = absurd (both s g z y e i (record { place = j; at = h }) (sym same) n m)
     once s g (suc j) (suc k) y z e h i same m n = ap suc (b.once s g j k y z e h i same m n)
 
-    others : (s : Scope) → Extends (scope_of new) s → (i : ℕ) (e : List ℤ) (v : Value) → (stored mid i e ≡ some v) ⊎ ((y : WrittenPortion) × In xs y × (y.name ≡ i) × InPortion s y e)
-        → (stored st i e ≡ some v) ⊎ ((y : WrittenPortion) × In (x ∷ xs) y × (y.name ≡ i) × InPortion s y e)
+    others : (s : Scope) → Extends (scope_of new) s → (i : ℕ) (e : List ℤ) (v : Value) → (stored mid i e ≡ Some v) ⊎ ((y : WrittenPortion) × In xs y × (y.name ≡ i) × InPortion s y e)
+        → (stored st i e ≡ Some v) ⊎ ((y : WrittenPortion) × In (x ∷ xs) y × (y.name ≡ i) × InPortion s y e)
     others s g i e v (inl h) = elim (a.no_other s (extends-later b.later g) i e v h) [ inl k ↦ inl k | inr k ↦ inr (x, in-here x xs, k.0, k.1) ]
     others s g i e v (inr h) = inr (h.0, in-later x xs h.0 h.1, h.2, h.3)
 

@@ -1,9 +1,9 @@
 -- In a model from which a problem is generated every written value is defined: the objective, both sides and the floor of each
 -- constraint at each written element, and the limits of every domain.
+use Rattle.std.specs.Prelude.{Option, Some, None}
 use mathlib.Core.Path.{◌≡◌, refl, ap, subst}
 use mathlib.Core.Bool.{not}
 use mathlib.Core.Logic.{◌⊎◌, inl, inr}
-use mathlib.Core.Option.{Option, none, some}
 use mathlib.Core.List.{List, [], ◌∷◌}
 use Prim.Native.Nat.{ℕ, zero, suc, ◌+◌}
 use native.Mathlib.Omega.{arith}
@@ -44,8 +44,8 @@ unfolding is_given
 is-there i p s e u w h = go (s.known i e) refl h
   where
     go : (o : Option Value) → s.known i e ≡ o → check Missing p (not (is_none o)) ≡ done w → Has (s.known i e)
-    go (some v) k h = record { it = v; is = k }
-    go none k h = absurd (refused-done h)
+    go (Some v) k h = record { it = v; is = k }
+    go None k h = absurd (refused-done h)
 
 data-defined : (names : List Name) (i p : ℕ) (d : Spans) (s : Scope) (u : Unit {0}) → NamedDomain names d → over d s (is_given i p) tt ≡ done u
     → DefinedDomain d s × ((e : List ℤ) → InDomain d s e → Has (s.known i e))
@@ -87,7 +87,7 @@ add_variables-at s (c ∷ ds) vs ws e d n =
     go us o (inr k) ih = ih k
 
 walked-defined : (f : Sort → Option Spans) (s : Scope) (xs : List Name) (vs ws : List Variable) → add_variables s (declared f 0 xs) vs ≡ done ws
-    → (j : ℕ) (x : Name) (d : Spans) → At xs j x → f x.sort ≡ some d → NamedDomain xs d → DefinedDomain d s
+    → (j : ℕ) (x : Name) (d : Spans) → At xs j x → f x.sort ≡ Some d → NamedDomain xs d → DefinedDomain d s
 walked-defined f s xs vs ws e j x d at is a =
     let c = declared-in f 0 xs j x d at is in
     let o = add_variables-at s (declared f 0 xs) vs ws e c.0 c.3 in

@@ -1,9 +1,9 @@
 -- Every element of a declared domain of variables has a number: behind a passed domain test, no variable is refused for want of
 -- one.
+use Rattle.std.specs.Prelude.{Option, Some, None}
 use mathlib.Core.Path.{◌≡◌, refl, sym, ◌∙◌, ap, subst}
 use mathlib.Core.Bool.{Bool, true, false}
 use mathlib.Core.Logic.{◌⊎◌, inl, inr}
-use mathlib.Core.Option.{Option, none, some}
 use mathlib.Core.List.{List, [], ◌∷◌, ◌++◌}
 use Prim.Native.Nat.{ℕ, zero, suc, ◌+◌}
 use native.Mathlib.Omega.{arith}
@@ -51,7 +51,7 @@ in-number_of i e (v ∷ vs) h = go (same_variable v i e) refl (in-cons v vs _ h)
     next x = record { it = _; is = ap later x.is }
 
     go : (t : Bool) → same_variable v i e ≡ t → (v ≡ record { name = i; element = e }) ⊎ In vs (record { name = i; element = e })
-        → (In vs (record { name = i; element = e }) → Has (number_of i e vs)) → Has {A = ℕ} (elim t [ true ↦ some 0 | false ↦ later (number_of i e vs) ])
+        → (In vs (record { name = i; element = e }) → Has (number_of i e vs)) → Has {A = ℕ} (elim t [ true ↦ Some 0 | false ↦ later (number_of i e vs) ])
     go true q k ih = record { it = 0; is = refl }
     go false q (inl k) ih = true-false (sym (same_variable-refl i e) ∙ sym (ap (λ (v : Variable). same_variable v i e) k) ∙ q)
     go false q (inr k) ih = next (ih k)
@@ -59,7 +59,7 @@ in-number_of i e (v ∷ vs) h = go (same_variable v i e) refl (in-cons v vs _ h)
 -- ---- the variables of a model
 
 -- a name of a sort is declared by its number, with its domain
-pub declared-in : (f : Sort → Option Spans) (i : ℕ) (xs : List Name) (j : ℕ) (x : Name) (d : Spans) → At xs j x → f x.sort ≡ some d
+pub declared-in : (f : Sort → Option Spans) (i : ℕ) (xs : List Name) (j : ℕ) (x : Name) (d : Spans) → At xs j x → f x.sort ≡ Some d
     → (c : Declaration) × (c.name ≡ i + j) × (c.domain ≡ d) × In (declared f i xs) c
 unfolding declared
 declared-in f i [] j x d at e = absurd at
@@ -69,9 +69,9 @@ declared-in f i (y ∷ xs) (suc j) x d at e = go (f y.sort) (declared-in f (suc 
   where
     go : (o : Option Spans) → (c : Declaration) × (c.name ≡ suc i + j) × (c.domain ≡ d) × In (declared f (suc i) xs) c
         → (c : Declaration) × (c.name ≡ i + suc j) × (c.domain ≡ d)
-        × In {A = Declaration} (elim o [ some d ↦ record { name = i; domain = d; place = y.place } ∷ declared f (suc i) xs | none ↦ declared f (suc i) xs ]) c
-    go (some b) r = (r.0, omega (arith, r.1), r.2, in-later _ (declared f (suc i) xs) r.0 r.3)
-    go none r = (r.0, omega (arith, r.1), r.2, r.3)
+        × In {A = Declaration} (elim o [ Some d ↦ record { name = i; domain = d; place = y.place } ∷ declared f (suc i) xs | None ↦ declared f (suc i) xs ]) c
+    go (Some b) r = (r.0, omega (arith, r.1), r.2, in-later _ (declared f (suc i) xs) r.0 r.3)
+    go None r = (r.0, omega (arith, r.1), r.2, r.3)
 
 variable-declared : (m : Model) (i : ℕ) (d : Spans) → IsVariable m.structure.names i d → (c : Declaration) × (c.name ≡ i) × (c.domain ≡ d) × In (discretes m ++ continuouses m) c
 unfolding discretes continuouses as_discrete as_continuous

@@ -1,8 +1,8 @@
 -- What the declarations and constraints become: variables and entries, each from its written element, with their values.
+use Rattle.std.specs.Prelude.{Option, Some, None}
 use mathlib.Core.Path.{◌≡◌, refl, sym, ◌∙◌, ap, subst}
 use mathlib.Core.Logic.{◌↔◌, ◌⊎◌, inl, inr}
 use mathlib.Core.Bool.{Bool, true, false, cond}
-use mathlib.Core.Option.{Option, none, some}
 use mathlib.Core.List.{List, [], ◌∷◌, ◌++◌, map, append_assoc, append-nil}
 use Prim.Native.Nat.{ℕ, zero, suc, ◌+◌, ◌<◌}
 use native.Mathlib.Omega.{arith}
@@ -76,10 +76,10 @@ floor-kind (between f) s w h = ap kind_by (sym h.1)
 
 -- a row's value is not below its floor, if it has one
 abbrev pub AboveFloor : Option Value → ℚ → Type 0
-AboveFloor none p = Unit
-AboveFloor (some v) p = exactly v ⊑ p
+AboveFloor None p = Unit
+AboveFloor (Some v) p = exactly v ⊑ p
 
-no-floor : (w : Option Value) (p : ℚ) → w ≡ none → AboveFloor w p
+no-floor : (w : Option Value) (p : ℚ) → w ≡ None → AboveFloor w p
 no-floor w p e = subst (λ w. AboveFloor w p) (sym e) tt
 
 -- a row and its floor are met exactly when the written constraint holds

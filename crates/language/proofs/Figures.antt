@@ -1,7 +1,7 @@
 -- Numbers and values as they are printed: which bytes they have, and that they can be read back.
+use Rattle.std.specs.Prelude.{Option, Some, None}
 use mathlib.Core.Path.{◌≡◌, refl, sym, ◌∙◌, ap}
 use mathlib.Core.Bool.{cond}
-use mathlib.Core.Option.{Option, none, some}
 use mathlib.Core.List.{List, [], ◌∷◌, map, append-nil}
 use Prim.Native.Nat.{ℕ, zero, suc, ◌/◌, ◌^◌, ◌<◌, ◌≤◌}
 use native.Mathlib.Omega.{arith}
@@ -12,8 +12,6 @@ use borrow.Author.Tests.{le-leb}
 use Rattle.rules.specs.Characters.{code}
 use Rattle.rules.specs.Limits.{mantissa_limit}
 use Rattle.value.specs.declared.Value.{Value}
-use Rattle.value.specs.declared.Fit.{Fit}
-use Rattle.value.specs.declared.Fit.TheVariants.{Fits, TooBig}
 use Rattle.value.specs.Decimal.{Valid, zero_value, of_whole}
 use Rattle.value.proofs.Operations.{of_whole-valid}
 use Rattle.value.specs.Printed.{digits, natural, minus_sign, places, printed, printed_whole}
@@ -71,22 +69,22 @@ whole-text k = printed-text (of_whole k)
 
 pub upper-text : (u : Option Value) → Text (upper_field u)
 unfolding upper_field
-upper-text none = omega arith
-upper-text (some v) = printed-text v
+upper-text None = omega arith
+upper-text (Some v) = printed-text v
 
 -- a printed value has a byte, since what is empty is no literal
 pub printed-some : (v : Value) → Valid v → 0 < length (printed v)
 printed-some v h = go (printed v) (read_back_lem v h)
   where
-    go : (s : List ℕ) → read_back s ≡ Fits v → 0 < length s
+    go : (s : List ℕ) → read_back s ≡ Some v → 0 < length s
     go [] e = absurd (let q = read-empty in let z : ◌≡◌ {A = ℕ} 0 1 = cc in omega arith)
     go (b ∷ s) e = omega arith
 
 -- ---- read back
 
-abbrev fitted : Fit → Value
-fitted (Fits v) = v
-fitted TooBig = zero_value
+abbrev fitted : Option Value → Value
+fitted (Some v) = v
+fitted None = zero_value
 
 unfoldable pub read_value : List ℕ → Value
 read_value s = fitted (read_back s)
@@ -123,14 +121,14 @@ natural-once m n hm hn e = sym (natural-back m hm) ∙ ap read_natural e ∙ nat
 
 -- a printed value begins with no letter, `inf` with one
 unfoldable pub read_upper : List ℕ → Option Value
-read_upper s = cond (leb (get_or s 0 0) 57) (some (read_value s)) none
+read_upper s = cond (leb (get_or s 0 0) 57) (Some (read_value s)) None
 
 pub upper-back : (u : Option Value) → ValidIfAny u → read_upper (upper_field u) ≡ u
 unfolding read_upper upper_field
-upper-back none h = refl
-upper-back (some v) h =
+upper-back None h = refl
+upper-back (Some v) h =
     let first : get_or (printed v) 0 0 ≤ 57 = all_get_d (λ b. b ≤ 57) (printed v) 0 0 (all-weaken Figure (λ b. b ≤ 57) (λ b f. f.most) (printed v) (printed-figures v)) (omega arith) in
-    ap {B = Option Value} (λ t. cond t (some (read_value (printed v))) none) (le-leb (get_or (printed v) 0 0) 57 first) ∙ ap {B = Option Value} some (value-back v h)
+    ap {B = Option Value} (λ t. cond t (Some (read_value (printed v))) None) (le-leb (get_or (printed v) 0 0) 57 first) ∙ ap {B = Option Value} Some (value-back v h)
 
 -- ---- letters
 

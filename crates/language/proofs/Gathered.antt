@@ -1,7 +1,7 @@
 -- Where gathering gives a row, the row's value at an assignment is the written value of the form.
+use Rattle.std.specs.Prelude.{Option, Some, None}
 use mathlib.Core.Path.{◌≡◌, refl, sym, ◌∙◌, ap, subst}
 use mathlib.Core.Bool.{Bool, true, false, ◌&&◌}
-use mathlib.Core.Option.{Option, none, some}
 use mathlib.Core.List.{List, [], ◌∷◌, map}
 use Prim.Native.Nat.{ℕ, zero, suc, ◌<◌}
 use native.Mathlib.Omega.{arith}
@@ -63,17 +63,17 @@ same_variable-true v i e h = go (eqb v.name i) refl h
     go true d h = λ k. record { name = eqb-true v.name i d k; element = same_element-true v.element e h k }
     go false d h = cc
 
-pub number_of-at : (i : ℕ) (e : List ℤ) (vs : List Variable) (j : ℕ) → number_of i e vs ≡ some j → At vs j (record { name = i; element = e })
+pub number_of-at : (i : ℕ) (e : List ℤ) (vs : List Variable) (j : ℕ) → number_of i e vs ≡ Some j → At vs j (record { name = i; element = e })
 unfolding number_of
 number_of-at i e [] j h = absurd (none-some h)
 number_of-at i e (v ∷ vs) j h = go (same_variable v i e) refl (number_of i e vs) (number_of-at i e vs) h
   where
-    step : (o : Option ℕ) → ((k : ℕ) → o ≡ some k → At vs k (record { name = i; element = e })) → later o ≡ some j → At (v ∷ vs) j (record { name = i; element = e })
-    step none ih h = absurd (none-some h)
-    step (some k) ih h = rw (← (some-injective h)) (ih k refl)
+    step : (o : Option ℕ) → ((k : ℕ) → o ≡ Some k → At vs k (record { name = i; element = e })) → later o ≡ Some j → At (v ∷ vs) j (record { name = i; element = e })
+    step None ih h = absurd (none-some h)
+    step (Some k) ih h = rw (← (some-injective h)) (ih k refl)
 
-    go : (t : Bool) → same_variable v i e ≡ t → (o : Option ℕ) → ((k : ℕ) → o ≡ some k → At vs k (record { name = i; element = e }))
-        → ◌≡◌ {A = Option ℕ} (elim t [ true ↦ some 0 | false ↦ later o ]) (some j) → At (v ∷ vs) j (record { name = i; element = e })
+    go : (t : Bool) → same_variable v i e ≡ t → (o : Option ℕ) → ((k : ℕ) → o ≡ Some k → At vs k (record { name = i; element = e }))
+        → ◌≡◌ {A = Option ℕ} (elim t [ true ↦ Some 0 | false ↦ later o ]) (Some j) → At (v ∷ vs) j (record { name = i; element = e })
     go true d o ih h = rw (← (some-injective h)) (same_variable-true v i e d)
     go false d o ih h = step o ih h
 

@@ -1,8 +1,8 @@
 -- Demand 3 on a read model: the listing of a generated problem keeps the model's meaning.
+use Rattle.std.specs.Prelude.{Option, Some, None}
 use mathlib.Core.Path.{◌≡◌, refl, sym, ◌∙◌, ap, subst, subst₂}
 use mathlib.Core.Logic.{◌↔◌, inl, inr}
 use mathlib.Core.Bool.{Bool}
-use mathlib.Core.Option.{Option, none, some}
 use mathlib.Core.List.{List, [], map}
 use Prim.Native.Nat.{ℕ, suc}
 use lib.IntN.{ℤ}
@@ -159,8 +159,8 @@ module _ (m : Model) (vs : List Variable) (n : ℕ) (variables-made : Variables 
         ]
 
         below : (v : Variable) (u : Option Value) → IsUpper m v u → BelowUpper u (x v)
-        below v none k = tt
-        below v (some u) (k, (o, t, e)) =
+        below v None k = tt
+        below v (Some u) (k, (o, t, e)) =
             subst₂ ◌⊑◌ (names-value x o.constraint.left (scope_at m o) v t.names) e
             (keeps-upper _ _ _ o.constraint.relation t.kind (h.constraints o t.written))
 
@@ -183,8 +183,8 @@ module _ (m : Model) (vs : List Variable) (n : ℕ) (variables-made : Variables 
         ]
 
         below : (v : Variable) (o : Source) (u : Option Value) → IsUpper m v u → BelowUpper u (x v) → States Upper m v o → x v ⊑ right_value m o
-        below v o none k b t = absurd (k o t)
-        below v o (some u) k b t = ⊑_trans b (k.0 o t)
+        below v o None k b t = absurd (k o t)
+        below v o (Some u) k b t = ⊑_trans b (k.0 o t)
 
         holds : (o : Source) (f : Fact) (w : Option Value) → Made m vs (record { source = o; fact = f; floor = w }) → In es (record { source = o; fact = f; floor = w })
             → (d : Side) → o.constraint.left ≡ d → Holds o.constraint.relation (scope_at m o) (left_value m x o) (right_value m o)
@@ -256,8 +256,8 @@ module _ (m : Model) (p : Lp) (parts : Parts m p) (x : Variable → ℚ) where
       }
     where
       above : (i : ℕ) (e : Entry) → At (rows p) i e → (w : Option Value) → e.floor ≡ w → AboveFloor w (row_value (suc i) y ls)
-      above i e at none f = tt
-      above i e at (some v) f = h.meets-floors (suc i) v (low-line m p i e v at f)
+      above i e at None f = tt
+      above i e at (Some v) f = h.meets-floors (suc i) v (low-line m p i e v at f)
 
   fits-feasible : FitsHere → Feasible ls y
   fits-feasible h =

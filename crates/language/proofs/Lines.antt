@@ -1,9 +1,9 @@
 -- The lines of a listing: each says what it must, they stand in order, and each row, each floor, each variable and each
 -- coefficient of the objective has its line.
+use Rattle.std.specs.Prelude.{Option, Some, None}
 use mathlib.Core.Path.{◌≡◌, refl, sym, ◌∙◌, ap, subst, subst₂}
 use mathlib.Core.Logic.{◌⊎◌, inl, inr}
 use mathlib.Core.Bool.{Bool, true, false}
-use mathlib.Core.Option.{Option, none, some}
 use mathlib.Core.List.{List, [], ◌∷◌, ◌++◌}
 use Prim.Native.Nat.{ℕ, zero, suc, ◌+◌, ◌-◌, ◌<◌, ◌≤◌}
 use native.Mathlib.Omega.{arith}
@@ -105,14 +105,14 @@ var-lines names p j [] = refl
 var-lines names p j (v ∷ vs) = ap (λ l. variable_line names p j v ∷ l) (var-lines names p (suc j) vs)
 
 -- a floor's line
-low-here : (n : ℕ) (w : Option Value) (v : Value) → w ≡ some v → In (low_lines n w) (low_line n v)
+low-here : (n : ℕ) (w : Option Value) (v : Value) → w ≡ Some v → In (low_lines n w) (low_line n v)
 unfolding low_lines
 low-here n w v e = subst (λ w. In (low_lines n w) (low_line n v)) (sym e) (in-here (low_line n v) [])
 
-all-low : (P : Line → Type 0) (n : ℕ) (w : Option Value) → ((v : Value) → w ≡ some v → P (low_line n v)) → All P (low_lines n w)
+all-low : (P : Line → Type 0) (n : ℕ) (w : Option Value) → ((v : Value) → w ≡ Some v → P (low_line n v)) → All P (low_lines n w)
 unfolding low_lines
-all-low P n none h = tt
-all-low P n (some v) h = (h v refl, tt)
+all-low P n None h = tt
+all-low P n (Some v) h = (h v refl, tt)
 
 row-ranked : (i : ℕ) (e : Entry) → All (RankedAt 1 (suc i)) (row_lines_of i e)
 unfolding rank
@@ -126,8 +126,8 @@ row-rising i e =
     (own e.floor)
   where
     own : (w : Option Value) → Rising EarlierLine (low_lines (suc i) w)
-    own none = rising-nil
-    own (some v) = rising-one (low_line (suc i) v)
+    own None = rising-nil
+    own (Some v) = rising-one (low_line (suc i) v)
 
 variable-ranked : (names : List Name) (p : Lp) (j : ℕ) (v : Variable) → All (RankedAt 2 (suc j)) (var_lines_of names p j v)
 unfolding rank
@@ -312,7 +312,7 @@ module _ (m : Model) (p : Lp) where
   pub row-line : (i : ℕ) (e : Entry) → At (rows p) i e → In (lines_of m p) (row_line_of i e)
   row-line i e h = of_row i e _ h (in-here (row_line_of i e) _)
 
-  pub low-line : (i : ℕ) (e : Entry) (v : Value) → At (rows p) i e → e.floor ≡ some v → In (lines_of m p) (low_line (suc i) v)
+  pub low-line : (i : ℕ) (e : Entry) (v : Value) → At (rows p) i e → e.floor ≡ Some v → In (lines_of m p) (low_line (suc i) v)
   low-line i e v h f = of_row i e _ h (in-later (row_line_of i e) _ _ (low-here (suc i) e.floor v f))
 
   -- each variable has its line

@@ -1,9 +1,9 @@
 -- The variables and the rows have their numbers one to one, in the order of declarations, constraints and elements; discrete
 -- variables and rows from `<=` and `>=` come first.
+use Rattle.std.specs.Prelude.{Option, Some, None}
 use mathlib.Core.Path.{◌≡◌, refl, sym, ◌∙◌, ap, subst}
 use mathlib.Core.Logic.{◌↔◌, ◌⊎◌, inl, inr}
 use mathlib.Core.Bool.{Bool, true, false, cond}
-use mathlib.Core.Option.{Option, none, some}
 use mathlib.Core.List.{List, [], ◌∷◌, ◌++◌, map}
 use Prim.Native.Nat.{ℕ, suc, ◌+◌, ◌<◌}
 use native.Mathlib.Omega.{arith}
@@ -37,7 +37,7 @@ record Declares (f : Sort → Option Spans) (i : ℕ) (xs : List Name) (d : Decl
   name : Name
   at : At xs ordinal name
   name-is : d.name ≡ i + ordinal
-  domain-is : f name.sort ≡ some d.domain
+  domain-is : f name.sort ≡ Some d.domain
 
 declares : (f : Sort → Option Spans) (i : ℕ) (xs : List Name) (d : Declaration) → In (declared f i xs) d → Declares f i xs d
 unfolding declared
@@ -54,7 +54,7 @@ declares f i (x ∷ xs) d h = go (f x.sort) refl h (declares f (suc i) xs d)
           domain-is = r.domain-is;
         }
 
-    first : (s : Spans) → f x.sort ≡ some s → (record { name = i; domain = s; place = x.place } ≡ d) ⊎ In (declared f (suc i) xs) d
+    first : (s : Spans) → f x.sort ≡ Some s → (record { name = i; domain = s; place = x.place } ≡ d) ⊎ In (declared f (suc i) xs) d
         → (In (declared f (suc i) xs) d → Declares f (suc i) xs d) → Declares f i (x ∷ xs) d
     first s fs (inl k) ih =
         record {
@@ -62,15 +62,15 @@ declares f i (x ∷ xs) d h = go (f x.sort) refl h (declares f (suc i) xs d)
           name = x;
           at = refl;
           name-is = sym (ap (λ (y : Declaration). y.name) k) ∙ omega arith;
-          domain-is = fs ∙ ap (λ (y : Declaration). some y.domain) k;
+          domain-is = fs ∙ ap (λ (y : Declaration). Some y.domain) k;
         }
     first s fs (inr k) ih = later (ih k)
 
     go : (o : Option Spans) → f x.sort ≡ o
-        → In (elim o [ some s ↦ record { name = i; domain = s; place = x.place } ∷ declared f (suc i) xs | none ↦ declared f (suc i) xs ]) d
+        → In (elim o [ Some s ↦ record { name = i; domain = s; place = x.place } ∷ declared f (suc i) xs | None ↦ declared f (suc i) xs ]) d
         → (In (declared f (suc i) xs) d → Declares f (suc i) xs d) → Declares f i (x ∷ xs) d
-    go (some s) fs h ih = first s fs (in-cons _ (declared f (suc i) xs) d h) ih
-    go none fs h ih = later (ih h)
+    go (Some s) fs h ih = first s fs (in-cons _ (declared f (suc i) xs) d h) ih
+    go None fs h ih = later (ih h)
 
 rising-declared : (f : Sort → Option Spans) (i : ℕ) (xs : List Name) → Rising (λ (d e : Declaration). d.name < e.name) (declared f i xs)
 unfolding declared
@@ -81,16 +81,16 @@ rising-declared f i (x ∷ xs) = go (f x.sort) (rising-declared f (suc i) xs)
     ByName l = Rising (λ (d e : Declaration). d.name < e.name) l
 
     go : (o : Option Spans) → ByName (declared f (suc i) xs)
-        → ByName (elim o [ some s ↦ record { name = i; domain = s; place = x.place } ∷ declared f (suc i) xs | none ↦ declared f (suc i) xs ])
-    go (some s) ih = rising-cons _ (declared f (suc i) xs) (λ d h. omega (arith, (declares f (suc i) xs d h).name-is)) ih
-    go none ih = ih
+        → ByName (elim o [ Some s ↦ record { name = i; domain = s; place = x.place } ∷ declared f (suc i) xs | None ↦ declared f (suc i) xs ])
+    go (Some s) ih = rising-cons _ (declared f (suc i) xs) (λ d h. omega (arith, (declares f (suc i) xs d h).name-is)) ih
+    go None ih = ih
 
 same_name : (f g : Sort → Option Spans) (xs : List Name) (d e : Declaration) (a : Declares f 0 xs d) (b : Declares g 0 xs e) → d.name ≡ e.name → a.name ≡ b.name
 same_name f g xs d e a b h =
     let same : a.ordinal ≡ b.ordinal = omega (arith, a.name-is, b.name-is) in
     at-unique xs b.ordinal a.name b.name (subst (λ k. At xs k a.name) same a.at) b.at
 
-not-both : (s : Sort) (d e : Spans) → as_discrete s ≡ some d → as_continuous s ≡ some e → ⊥
+not-both : (s : Sort) (d e : Spans) → as_discrete s ≡ Some d → as_continuous s ≡ Some e → ⊥
 unfolding as_discrete as_continuous
 not-both Syntax.index d e h k = none-some h
 not-both (Syntax.integer x) d e h k = none-some h

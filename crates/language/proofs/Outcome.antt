@@ -1,16 +1,12 @@
 -- Laws of `specs/Outcome`.
+use Rattle.std.specs.Prelude.{Option, Some, None}
 use mathlib.Core.Path.{◌≡◌, refl}
 use mathlib.Core.Bool.{Bool, true, false}
-use mathlib.Core.Option.{Option, none, some}
 use Prim.Native.Nat.{ℕ}
 use native.Mathlib.Omega.{arith}
 use lib.IntN.{ℤ}
 use Rattle.rules.specs.declared.Refusal.{Refusal}
 use Rattle.value.specs.declared.Value.{Value}
-use Rattle.value.specs.declared.Fit.{Fit}
-use Rattle.value.specs.declared.Fit.TheVariants.{Fits, TooBig}
-use Rattle.value.specs.declared.Whole.{Whole}
-use Rattle.value.specs.declared.Whole.TheVariants.{Number, NotWhole as no_number}
 use Rattle.language.specs.Outcome.{Outcome, ◌>>=◌, check, fitting, or_refuse, whole_number, done, refused}
 
 -- ---- a sequence that ends in a value has one at each step, for a proof that goes on with it
@@ -21,10 +17,10 @@ done-injective e = cc
 pub refused-done : {A : Type 0} {n : Refusal} {p : ℕ} {a : A} → ◌≡◌ {A = Outcome A} (refused n p) (done a) → ⊥
 refused-done e = let z : ◌≡◌ {A = ℕ} 0 1 = cc in omega arith
 
-pub some-injective : {A : Type 0} {a b : A} → ◌≡◌ {A = Option A} (some a) (some b) → a ≡ b
+pub some-injective : {A : Type 0} {a b : A} → ◌≡◌ {A = Option A} (Some a) (Some b) → a ≡ b
 some-injective e = cc
 
-pub none-some : {A : Type 0} {a : A} → ◌≡◌ {A = Option A} none (some a) → ⊥
+pub none-some : {A : Type 0} {a : A} → ◌≡◌ {A = Option A} None (Some a) → ⊥
 none-some e = let z : ◌≡◌ {A = ℕ} 0 1 = cc in omega arith
 
 module _ {A B : Type 0} where
@@ -33,31 +29,31 @@ module _ {A B : Type 0} where
   after (refused n p) f b e k = absurd (refused-done e)
 
 module _ {A : Type 0} where
-  pub some_of : (n : Refusal) (p : ℕ) (o : Option A) (a : A) → or_refuse n p o ≡ done a → o ≡ some a
-  some_of n p (some b) a e = cc
-  some_of n p none a e = absurd (refused-done e)
+  pub some_of : (n : Refusal) (p : ℕ) (o : Option A) (a : A) → or_refuse n p o ≡ done a → o ≡ Some a
+  some_of n p (Some b) a e = cc
+  some_of n p None a e = absurd (refused-done e)
 
 module _ {A B : Type 0} where
-  pub after-some : {C : Type 0} (n : Refusal) (p : ℕ) (o : Option A) (f : A → Outcome B) (b : B) → (or_refuse n p o >>= f) ≡ done b → ((a : A) → o ≡ some a → f a ≡ done b → C) → C
+  pub after-some : {C : Type 0} (n : Refusal) (p : ℕ) (o : Option A) (f : A → Outcome B) (b : B) → (or_refuse n p o >>= f) ≡ done b → ((a : A) → o ≡ Some a → f a ≡ done b → C) → C
   after-some n p o f b e k = after (or_refuse n p o) f b e (λ a h. k a (some_of n p o a h))
 
-pub fits-of : (p : ℕ) (o : Fit) (v : Value) → fitting p o ≡ done v → o ≡ Fits v
-fits-of p (Fits w) v e = cc
-fits-of p TooBig v e = absurd (refused-done e)
+pub fits-of : (p : ℕ) (o : Option Value) (v : Value) → fitting p o ≡ done v → o ≡ Some v
+fits-of p (Some w) v e = cc
+fits-of p None v e = absurd (refused-done e)
 
-pub whole_of : (p : ℕ) (o : Whole) (k : ℤ) → whole_number p o ≡ done k → o ≡ Number k
-whole_of p (Number j) k e = cc
-whole_of p no_number k e = absurd (refused-done e)
+pub whole_of : (p : ℕ) (o : Option ℤ) (k : ℤ) → whole_number p o ≡ done k → o ≡ Some k
+whole_of p (Some j) k e = cc
+whole_of p None k e = absurd (refused-done e)
 
 pub check-of : (n : Refusal) (p : ℕ) (t : Bool) (u : Unit {0}) → check n p t ≡ done u → t ≡ true
 check-of n p true u e = refl
 check-of n p false u e = absurd (refused-done e)
 
 module _ {B : Type 0} where
-  pub after-fits : {C : Type 0} (p : ℕ) (o : Fit) (f : Value → Outcome B) (b : B) → (fitting p o >>= f) ≡ done b → ((v : Value) → o ≡ Fits v → f v ≡ done b → C) → C
+  pub after-fits : {C : Type 0} (p : ℕ) (o : Option Value) (f : Value → Outcome B) (b : B) → (fitting p o >>= f) ≡ done b → ((v : Value) → o ≡ Some v → f v ≡ done b → C) → C
   after-fits p o f b e k = after (fitting p o) f b e (λ v h. k v (fits-of p o v h))
 
-  pub after-whole : {C : Type 0} (p : ℕ) (o : Whole) (f : ℤ → Outcome B) (b : B) → (whole_number p o >>= f) ≡ done b → ((k : ℤ) → o ≡ Number k → f k ≡ done b → C) → C
+  pub after-whole : {C : Type 0} (p : ℕ) (o : Option ℤ) (f : ℤ → Outcome B) (b : B) → (whole_number p o >>= f) ≡ done b → ((k : ℤ) → o ≡ Some k → f k ≡ done b → C) → C
   after-whole p o f b e k = after (whole_number p o) f b e (λ j h. k j (whole_of p o j h))
 
   pub after_check : {C : Type 0} (n : Refusal) (p : ℕ) (t : Bool) (f : Unit {0} → Outcome B) (b : B) → (check n p t >>= f) ≡ done b → (t ≡ true → f tt ≡ done b → C) → C

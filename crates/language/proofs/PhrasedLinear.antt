@@ -1,8 +1,8 @@
 -- Whatever the readers of linear forms give was written, and a left side is a bound exactly where one variable stands without
 -- sign or factor.
+use Rattle.std.specs.Prelude.{Option, Some, None}
 use mathlib.Core.Path.{◌≡◌, refl, sym, subst}
 use mathlib.Core.Bool.{Bool, true, false, cond, ◌&&◌}
-use mathlib.Core.Option.{Option, none, some}
 use mathlib.Core.Logic.{◌↔◌}
 use mathlib.Core.List.{List, ◌∷◌, ◌++◌, append-nil}
 use Prim.Native.Nat.{ℕ, zero, suc}
@@ -56,8 +56,8 @@ module _ (names : List Name) where
 
       name-head : (l : List ℕ) (o : Option Used) → find l names 0 0 ≡ o → Reads (on_head names S n R p (name l) (head_by_name o)) (λ t k. Writes names (form_term sigmas t) (name l at p ∷ k))
       unfolding head_by_name
-      name-head l none e = factor-read (name l)
-      name-head l (some u) e = sort-read l u.number u.sort (means 0 u e)
+      name-head l None e = factor-read (name l)
+      name-head l (Some u) e = sort-read l u.number u.sort (means 0 u e)
 
       mark-head : (c : ℕ) (a b : Bool) → sigmas ≡ a → eqb c sigma_word ≡ b → Reads (on_head names S n R p (mark c) (cond (a && b) Linear.a_sigma Linear.a_primary)) (λ t k. Writes names (form_term sigmas t) (mark c at p ∷ k))
       mark-head c true true ea eb = weaken (rs p ea) (λ t l w. rw (eqb-true c sigma_word eb, ea) (a_sigma w))

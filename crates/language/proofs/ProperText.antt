@@ -1,8 +1,8 @@
 -- Every line of an accepted text's listing is proper: values fit, numbers are small, and strings and names are visible bytes.
+use Rattle.std.specs.Prelude.{Option, Some, None}
 use mathlib.Core.Path.{◌≡◌, refl}
 use mathlib.Core.Bool.{Bool, true, false, ◌&&◌, ◌||◌, not}
 use mathlib.Core.Logic.{inl, inr}
-use mathlib.Core.Option.{Option, none, some}
 use mathlib.Core.List.{List, [], ◌∷◌}
 use Prim.Native.Nat.{ℕ, zero, suc, ◌+◌, ◌≤◌}
 use native.Mathlib.Omega.{arith}
@@ -107,8 +107,8 @@ coefficients-valid (row r v) h = h.0
 
 low_lines-proper : (n : ℕ) (w : Option Value) → n ≤ mantissa_limit → ValidIfAny w → All Proper (low_lines n w)
 unfolding low_lines
-low_lines-proper n none b h = tt
-low_lines-proper n (some v) b h = (record { row = b; floor = h }, tt)
+low_lines-proper n None b h = tt
+low_lines-proper n (Some v) b h = (record { row = b; floor = h }, tt)
 
 row_lines-proper : (n : ℕ) (es : List Entry) → n + length es ≤ suc mantissa_limit → All ValidEntry es → All TextRow es → All Proper (row_lines n es)
 unfolding row_lines

@@ -1,5 +1,6 @@
 -- What the tokens of a text are: names and strings of their length and bytes, literals of what literals give; their places rise,
 -- and there are no more of them than bytes and an end.
+use Rattle.std.specs.Prelude.{Option, Some, None}
 use mathlib.Core.Path.{◌≡◌, refl}
 use mathlib.Core.Bool.{Bool, true, false, cond, ◌&&◌, ◌||◌}
 use mathlib.Core.List.{List, [], ◌∷◌, ◌++◌}
@@ -12,8 +13,6 @@ use borrow.Author.Tests.{leb-true}
 use Rattle.rules.specs.declared.Refusal.TheVariants.{LongText, StrangeByte, Misplaced, BadName, Full}
 use Rattle.rules.specs.Limits.{byte_limit, token_limit, name_length, string_length}
 use Rattle.value.specs.declared.Value.{Value}
-use Rattle.value.specs.declared.Fit.{Fit}
-use Rattle.value.specs.declared.Fit.TheVariants.{Fits, TooBig}
 use Rattle.value.specs.Literal.{is_digit, literal_of}
 use Rattle.lexer.specs.Marks.{Word, capital_words, small_words, at_most, at_least}
 use Rattle.language.specs.Listed.{In}
@@ -98,7 +97,7 @@ well-shaped l (b ∷ t) e = go (leb 1 (length l)) refl (leb (length l) string_le
 
 -- ---- one token
 
-module _ (P : Value → Type 0) (fits : (l : List ℕ) (v : Value) → literal_of l ≡ Fits v → P v) where
+module _ (P : Value → Type 0) (fits : (l : List ℕ) (v : Value) → literal_of l ≡ Some v → P v) where
   -- a step at p: its token has its shape and stands at p, or behind p if it is a refusal
   record Fine (p : ℕ) (s : Step) : Type 0 where
     shape : Shaped P s.token.kind
@@ -136,9 +135,9 @@ module _ (P : Value → Type 0) (fits : (l : List ℕ) (v : Value) → literal_o
   unfolding valued literal_kind
   value-fine w p l = fine (go (literal_of l) refl)
     where
-      go : (o : Fit) → literal_of l ≡ o → Shaped P (literal_kind w o)
-      go (Fits v) e = fits l v e
-      go TooBig e = tt
+      go : (o : Option Value) → literal_of l ≡ o → Shaped P (literal_kind w o)
+      go (Some v) e = fits l v e
+      go None e = tt
 
   literal-fine : (p : ℕ) (w r : List ℕ) → Fine p (literal_step p w r)
   unfolding literal_step powered

@@ -1,8 +1,8 @@
 -- A left side is a bound exactly where its tokens are those of one variable: a linear form with a sign in front, a factor, a sigma or
 -- a second term has other tokens, whatever the variable.
+use Rattle.std.specs.Prelude.{Option, Some, None}
 use mathlib.Core.Path.{◌≡◌, refl, sym, ◌∙◌, ap, subst}
 use mathlib.Core.Bool.{Bool, true, false, ◌||◌}
-use mathlib.Core.Option.{Option, none, some}
 use mathlib.Core.Logic.{◌↔◌, ◌⊎◌, inl, inr}
 use mathlib.Core.List.{List, [], ◌∷◌, ◌++◌, append_assoc, append-nil}
 use Prim.Native.Nat.{ℕ, zero, suc}
@@ -28,15 +28,15 @@ is_closing t = is_mark closes t || is_mark closes_list t
 
 -- what stands behind the bracket that closes n + 1 open ones
 cut : ℕ → List Token → Option (List Token)
-cut n [] = none
+cut n [] = None
 cut n (t ∷ ts) =
     elim (is_opening t) [
       | true ↦ cut (suc n) ts
-      | false ↦ elim (is_closing t) [ true ↦ elim n [ zero ↦ some ts | suc k ↦ cut k ts ] | false ↦ cut n ts ]
+      | false ↦ elim (is_closing t) [ true ↦ elim n [ zero ↦ Some ts | suc k ↦ cut k ts ] | false ↦ cut n ts ]
     ]
 
 closed : ℕ → List Token → Option (List Token)
-closed zero ts = some ts
+closed zero ts = Some ts
 closed (suc n) ts = cut n ts
 
 pass_step : (n : ℕ) (t : Token) (ts : List Token) → is_opening t ≡ false → is_closing t ≡ false → cut n (t ∷ ts) ≡ cut n ts
@@ -194,7 +194,7 @@ unfolding closed
 no_longer point l k t ts a b e = let z : ◌≡◌ {A = ℕ} 0 1 = cc (ap (λ k. k ++ (t ∷ ts)) b) in omega arith
 no_longer (span i f g p d) l k t ts a b e =
     let x : a.1 ≡ b.1 ++ (t ∷ ts) = tail_of (sym a.2 ∙ e ∙ ap (λ k. k ++ (t ∷ ts)) b.2) in
-    let y : some (t ∷ ts) ≡ some [] = sym (b.3.left 0 (t ∷ ts)) ∙ ap (cut 0) (sym x ∙ sym (append-nil a.1)) ∙ a.3.left 0 [] in
+    let y : Some (t ∷ ts) ≡ Some [] = sym (b.3.left 0 (t ∷ ts)) ∙ ap (cut 0) (sym x ∙ sym (append-nil a.1)) ∙ a.3.left 0 [] in
     let z : ◌≡◌ {A = ℕ} 0 1 = cc in omega arith
   where
     tail_of : {a b : Token} {l k : List Token} → a ∷ l ≡ b ∷ k → l ≡ k
@@ -203,7 +203,7 @@ no_longer (span i f g p d) l k t ts a b e =
 -- ---- how a phrase begins
 
 first : List Token → Option (List ℕ)
-first [] = none
+first [] = None
 first (t ∷ ts) = name_of t.kind
 
 module _ (names : List Name) where
@@ -243,11 +243,11 @@ module _ (names : List Name) where
   not_plain a (inr m) n h = subst Plain (same-meaning n m) h
 
   -- no primary begins as a variable does
-  other-first : (l : List Token) → Alone l → (s : List ℕ) → first l ≡ some s → (d : Spans) × (i : ℕ) × Varies s i d
+  other-first : (l : List Token) → Alone l → (s : List ℕ) → first l ≡ Some s → (d : Spans) × (i : ℕ) × Varies s i d
   unfolding first name_of
   other-first l a s e = let x : a.spelling ≡ s = some-injective (ap first (sym a.is) ∙ e) in (a.domain, a.number, subst (λ s. Varies s a.number a.domain) x a.varies)
 
-  no_name_lem : (l : List Token) → first l ≡ none → Alone l → ⊥
+  no_name_lem : (l : List Token) → first l ≡ None → Alone l → ⊥
   unfolding first name_of
   no_name_lem l e a = let x = ap first a.is in let z : ◌≡◌ {A = ℕ} 0 1 = cc in omega arith
 

@@ -1,7 +1,7 @@
 -- The sum over the listing's `col` lines with a row's number is the row's value.
+use Rattle.std.specs.Prelude.{Option, Some, None}
 use mathlib.Core.Path.{◌≡◌, refl, sym, ◌∙◌, ap}
 use mathlib.Core.Bool.{Bool, true, false}
-use mathlib.Core.Option.{Option, none, some}
 use mathlib.Core.List.{List, [], ◌∷◌, ◌++◌, map}
 use Prim.Native.Nat.{ℕ, zero, suc, ◌+◌, ◌-◌, ◌<◌}
 use native.Mathlib.Omega.{arith}
@@ -37,8 +37,8 @@ module _ (y : ℕ → ℚ) where
 
   low-lines-zero : (i n : ℕ) (w : Option Value) → row_value i y (low_lines n w) ≡ 𝟎
   unfolding row_value column_term low_lines
-  low-lines-zero i n none = refl
-  low-lines-zero i n (some v) = zero-add 𝟎
+  low-lines-zero i n None = refl
+  low-lines-zero i n (Some v) = zero-add 𝟎
 
   row-lines-zero : (i n : ℕ) (es : List Entry) → row_value i y (row_lines n es) ≡ 𝟎
   unfolding row_value column_term row_lines

@@ -1,8 +1,8 @@
 -- All value that evaluation gives is valid, and every number of a run or an element is small, where the literals and the
 -- data are valid.
+use Rattle.std.specs.Prelude.{Option, Some, None}
 use mathlib.Core.Path.{◌≡◌, subst}
 use mathlib.Core.Bool.{Bool, true, false, cond}
-use mathlib.Core.Option.{Option, some}
 use mathlib.Core.List.{List, [], ◌∷◌}
 use Prim.Native.Nat.{ℕ, ◌+◌}
 use native.Mathlib.Omega.{arith}
@@ -11,7 +11,6 @@ use lib.IntN.{ℤ, pos, negsuc, nat_abs}
 use lib.Signed.{◌≤ℤ◌}
 use Rattle.rules.specs.declared.Refusal.TheVariants.{BadIndex, Missing}
 use Rattle.value.specs.declared.Value.{Value}
-use Rattle.value.specs.declared.Whole.TheVariants.{Number, NotWhole as no_number}
 use Rattle.rational.specs.Integer.{up, down}
 use Rattle.rational.proofs.Integer.{le_parts}
 use Rattle.value.specs.Decimal.{Valid, zero_value, sum_of, product_of, whole_of, floor_of, ceiling_of}
@@ -34,11 +33,11 @@ use Rattle.language.specs.Valid.{Small, SmallElement, SmallBinding, ValidScope}
 
 -- ---- whole values
 
-pub small-whole : (v : Value) (k : ℤ) → Valid v → whole_of v ≡ Number k → Small k
+pub small-whole : (v : Value) (k : ℤ) → Valid v → whole_of v ≡ Some k → Small k
 unfolding whole_of
 small-whole v k h e = go (eqb v.s 0) e
   where
-    go : (t : Bool) → cond t (Number v.m) no_number ≡ Number k → Small k
+    go : (t : Bool) → cond t (Some v.m) None ≡ Some k → Small k
     go true e = let same : v.m ≡ k = cc in subst Small same h.small
     go false e = let z : ◌≡◌ {A = ℕ} 0 1 = cc in absurd (omega arith)
 
@@ -90,12 +89,12 @@ each_keeps P f keeps (k ∷ ks) a b h pa e =
 
 -- ---- scopes
 
-pub bound-small : (i : ℕ) (l : List Binding) (k : ℤ) → All SmallBinding l → bound_to i l ≡ some k → Small k
+pub bound-small : (i : ℕ) (l : List Binding) (k : ℤ) → All SmallBinding l → bound_to i l ≡ Some k → Small k
 unfolding bound_to
 bound-small i [] k h e = absurd (none-some e)
 bound-small i (b ∷ l) k h e = go (eqb i b.name) e (bound-small i l k h.1)
   where
-    go : (t : Bool) → ◌≡◌ {A = Option ℤ} (elim t [ true ↦ some b.at | false ↦ bound_to i l ]) (some k) → (bound_to i l ≡ some k → Small k) → Small k
+    go : (t : Bool) → ◌≡◌ {A = Option ℤ} (elim t [ true ↦ Some b.at | false ↦ bound_to i l ]) (Some k) → (bound_to i l ≡ Some k → Small k) → Small k
     go true e ih = subst Small (some-injective e) h.0
     go false e ih = ih e
 

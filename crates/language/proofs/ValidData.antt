@@ -1,7 +1,7 @@
 -- A data section that is read from valid literals gives a valid store.
+use Rattle.std.specs.Prelude.{Option, Some, None}
 use mathlib.Core.Path.{◌≡◌, refl, subst}
 use mathlib.Core.Bool.{Bool, true, false, cond}
-use mathlib.Core.Option.{Option, none, some}
 use mathlib.Core.List.{List, [], ◌∷◌}
 use Prim.Native.Nat.{ℕ, zero, suc}
 use lib.Dec.{eqb}
@@ -60,10 +60,10 @@ module _ {A : Type 0} {Q : A → Type 0} where
   lifted (done a) q = given (q a refl)
   lifted (refused n p) q = refusing
 
-  demanded : (o : Option A) (p : ℕ) → ((a : A) → o ≡ some a → Q a) → Gives (demand o p) Q
+  demanded : (o : Option A) (p : ℕ) → ((a : A) → o ≡ Some a → Q a) → Gives (demand o p) Q
   unfolding demand
-  demanded (some a) p q = given (q a refl)
-  demanded none p q = refusing
+  demanded (Some a) p q = given (q a refl)
+  demanded None p q = refusing
 
   either : (t : Bool) {m n : Reader A} → Gives m Q → Gives n Q → Gives (elim t as (λ _. Reader A) [ true ↦ m | false ↦ n ]) Q
   either true a b = a
@@ -127,13 +127,13 @@ abbrev UsedLiterals : Used → Type 0
 UsedLiterals u = AllSort Valid u.sort
 
 module _ (names : List Name) (table : AllNames Valid names) where
-  found-valid : (l : List ℕ) (xs : List Name) (i p : ℕ) (u : Used) → AllNames Valid xs → find l xs i p ≡ some u → UsedLiterals u
+  found-valid : (l : List ℕ) (xs : List Name) (i p : ℕ) (u : Used) → AllNames Valid xs → find l xs i p ≡ Some u → UsedLiterals u
   unfolding find
   found-valid l [] i p u h e = absurd (none-some e)
   found-valid l (x ∷ xs) i p u h e = go (same_bytes l x.spelling) e (found-valid l xs (suc i) p u h.1)
     where
-      go : (t : Bool) → ◌≡◌ {A = Option Used} (elim t [ true ↦ some (record { number = i; sort = x.sort; place = p }) | false ↦ find l xs (suc i) p ]) (some u)
-          → (find l xs (suc i) p ≡ some u → UsedLiterals u) → UsedLiterals u
+      go : (t : Bool) → ◌≡◌ {A = Option Used} (elim t [ true ↦ Some (record { number = i; sort = x.sort; place = p }) | false ↦ find l xs (suc i) p ]) (Some u)
+          → (find l xs (suc i) p ≡ Some u → UsedLiterals u) → UsedLiterals u
       go true e ih = subst UsedLiterals (some-injective e) h.0
       go false e ih = ih e
 
@@ -141,9 +141,9 @@ module _ (names : List Name) (table : AllNames Valid names) where
   unfolding known found
   known-valid l p = go (find l names 0 p) (λ u e. found-valid l names 0 p u table e)
     where
-      go : (o : Option Used) → ((u : Used) → o ≡ some u → UsedLiterals u) → Gives (found o p) UsedLiterals
-      go (some u) q = given (q u refl)
-      go none q = refusing
+      go : (o : Option Used) → ((u : Used) → o ≡ Some u → UsedLiterals u) → Gives (found o p) UsedLiterals
+      go (Some u) q = given (q u refl)
+      go None q = refusing
 
   read_known-valid : Gives (read_known names) UsedLiterals
   unfolding read_known
@@ -159,7 +159,7 @@ abbrev SmallEntry : Entry → Type 0
 SmallEntry (fixed k) = Small k
 SmallEntry (marked i) = Unit
 
-digits-small : (k : Kind) (z : ℤ) → Shaped Valid k → digits_of k ≡ some z → Small z
+digits-small : (k : Kind) (z : ℤ) → Shaped Valid k → digits_of k ≡ Some z → Small z
 unfolding digits_of
 digits-small (Text.mark c) z h e = absurd (none-some e)
 digits-small (Text.name l) z h e = absurd (none-some e)
@@ -222,7 +222,7 @@ bound_of-small (marked i ∷ es) h = (tt, bound_of-small es h.1)
 
 -- ---- the numbers of a portion
 
-value_of-valid : (k : Kind) (v : Value) → Shaped Valid k → value_of k ≡ some v → Valid v
+value_of-valid : (k : Kind) (v : Value) → Shaped Valid k → value_of k ≡ Some v → Valid v
 unfolding value_of
 value_of-valid (Text.mark c) v h e = absurd (none-some e)
 value_of-valid (Text.name l) v h e = absurd (none-some e)
@@ -262,7 +262,7 @@ runs-valid x (j ∷ js) b st d hb h =
 abbrev PortionLiterals : Portion → Type 0
 PortionLiterals x = AllSpans Valid x.domain
 
-portion_by-valid : (i p : ℕ) (s : Sort) (x : Portion) → AllSort Valid s → portion_by i p s ≡ some x → PortionLiterals x
+portion_by-valid : (i p : ℕ) (s : Sort) (x : Portion) → AllSort Valid s → portion_by i p s ≡ Some x → PortionLiterals x
 unfolding portion_by
 portion_by-valid i p Syntax.index x h e = absurd (none-some e)
 portion_by-valid i p (Syntax.integer d) x h e = subst PortionLiterals (some-injective e) h

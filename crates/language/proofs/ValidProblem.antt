@@ -1,8 +1,8 @@
 -- A problem that is generated from valid literals and data has valid values and small index numbers only, and no more variables
 -- and rows than the tables take.
+use Rattle.std.specs.Prelude.{Option, Some, None}
 use mathlib.Core.Path.{◌≡◌, refl, ap, subst}
 use mathlib.Core.Bool.{Bool, true, false, cond}
-use mathlib.Core.Option.{Option, none, some}
 use mathlib.Core.List.{List, [], ◌∷◌, ◌++◌, map, append-nil}
 use Prim.Native.Nat.{ℕ, suc, ◌≤◌}
 use native.Mathlib.Omega.{arith}
@@ -36,18 +36,18 @@ use Rattle.language.proofs.Valid.{bind-valid, each_keeps, eval-valid, run-valid,
 abbrev pub DeclaredLiterals : Declaration → Type 0
 DeclaredLiterals d = AllSpans Valid d.domain
 
-declared-literals : (f : Sort → Option Spans) → ((s : Sort) (d : Spans) → AllSort Valid s → f s ≡ some d → AllSpans Valid d)
+declared-literals : (f : Sort → Option Spans) → ((s : Sort) (d : Spans) → AllSort Valid s → f s ≡ Some d → AllSpans Valid d)
     → (i : ℕ) (xs : List Name) → AllNames Valid xs → All DeclaredLiterals (declared f i xs)
 unfolding declared
 declared-literals f from i [] h = tt
 declared-literals f from i (x ∷ xs) h = go (f x.sort) refl (declared-literals f from (suc i) xs h.1)
   where
     go : (o : Option Spans) → f x.sort ≡ o → All DeclaredLiterals (declared f (suc i) xs)
-        → All DeclaredLiterals (elim o [ some d ↦ record { name = i; domain = d; place = x.place } ∷ declared f (suc i) xs | none ↦ declared f (suc i) xs ])
-    go (some d) e ih = (from x.sort d h.0 e, ih)
-    go none e ih = ih
+        → All DeclaredLiterals (elim o [ Some d ↦ record { name = i; domain = d; place = x.place } ∷ declared f (suc i) xs | None ↦ declared f (suc i) xs ])
+    go (Some d) e ih = (from x.sort d h.0 e, ih)
+    go None e ih = ih
 
-discrete-literals : (s : Sort) (d : Spans) → AllSort Valid s → as_discrete s ≡ some d → AllSpans Valid d
+discrete-literals : (s : Sort) (d : Spans) → AllSort Valid s → as_discrete s ≡ Some d → AllSpans Valid d
 unfolding as_discrete
 discrete-literals Syntax.index d h e = absurd (none-some e)
 discrete-literals (Syntax.integer c) d h e = absurd (none-some e)
@@ -56,7 +56,7 @@ discrete-literals (Syntax.formula f) d h e = absurd (none-some e)
 discrete-literals (Syntax.discrete c) d h e = subst (AllSpans Valid) (some-injective e) h
 discrete-literals (Syntax.continuous c) d h e = absurd (none-some e)
 
-continuous-literals : (s : Sort) (d : Spans) → AllSort Valid s → as_continuous s ≡ some d → AllSpans Valid d
+continuous-literals : (s : Sort) (d : Spans) → AllSort Valid s → as_continuous s ≡ Some d → AllSpans Valid d
 unfolding as_continuous
 continuous-literals Syntax.index d h e = absurd (none-some e)
 continuous-literals (Syntax.integer c) d h e = absurd (none-some e)
@@ -67,14 +67,14 @@ continuous-literals (Syntax.continuous c) d h e = subst (AllSpans Valid) (some-i
 
 -- ---- bounds
 
-picked-valid : (f : Entry → Option Value) → ((e : Entry) (v : Value) → ValidEntry e → f e ≡ some v → Valid v) → (es : List Entry) → All ValidEntry es → All Valid (picked f es)
+picked-valid : (f : Entry → Option Value) → ((e : Entry) (v : Value) → ValidEntry e → f e ≡ Some v → Valid v) → (es : List Entry) → All ValidEntry es → All Valid (picked f es)
 unfolding picked
 picked-valid f from [] h = tt
 picked-valid f from (e ∷ es) h = go (f e) refl (picked-valid f from es h.1)
   where
-    go : (o : Option Value) → f e ≡ o → All Valid (picked f es) → All Valid (elim o [ some v ↦ v ∷ picked f es | none ↦ picked f es ])
-    go (some v) k ih = (from e v h.0 k, ih)
-    go none k ih = ih
+    go : (o : Option Value) → f e ≡ o → All Valid (picked f es) → All Valid (elim o [ Some v ↦ v ∷ picked f es | None ↦ picked f es ])
+    go (Some v) k ih = (from e v h.0 k, ih)
+    go None k ih = ih
 
 pub extreme-valid : (le : Value → Value → Bool) (v : Value) (l : List Value) → Valid v → All Valid l → Valid (extreme le v l)
 unfolding extreme
@@ -95,21 +95,21 @@ unfolding smallest
 smallest-valid [] h = tt
 smallest-valid (v ∷ l) h = extreme-valid is_at_least v l h.0 h.1
 
-bound_at-valid : (f : Fact) (j : ℕ) (v : Value) → ValidFact f → bound_at f j ≡ some v → Valid v
+bound_at-valid : (f : Fact) (j : ℕ) (v : Value) → ValidFact f → bound_at f j ≡ Some v → Valid v
 bound_at-valid (bound i w) j v h e = go (eqb i j) e
   where
-    go : (t : Bool) → cond t (some w) none ≡ some v → Valid v
+    go : (t : Bool) → cond t (Some w) None ≡ Some v → Valid v
     go true e = subst Valid (some-injective e) h
     go false e = absurd (none-some e)
 bound_at-valid (row r w) j v h e = absurd (none-some e)
 
-lower_at-valid : (r : Relation) (f : Fact) (w : Option Value) (j : ℕ) (v : Value) → ValidFact f → ValidIfAny w → lower_at r f w j ≡ some v → Valid v
+lower_at-valid : (r : Relation) (f : Fact) (w : Option Value) (j : ℕ) (v : Value) → ValidFact f → ValidIfAny w → lower_at r f w j ≡ Some v → Valid v
 lower_at-valid at_most f w j v h k e = absurd (none-some e)
 lower_at-valid at_least f w j v h k e = bound_at-valid f j v h e
 lower_at-valid equal f w j v h k e = bound_at-valid f j v h e
 lower_at-valid (between g) f w j v h k e = subst ValidIfAny (floor-bound f w j v e).2 k
 
-upper_at-valid : (r : Relation) (f : Fact) (j : ℕ) (v : Value) → ValidFact f → upper_at r f j ≡ some v → Valid v
+upper_at-valid : (r : Relation) (f : Fact) (j : ℕ) (v : Value) → ValidFact f → upper_at r f j ≡ Some v → Valid v
 upper_at-valid at_most f j v h e = bound_at-valid f j v h e
 upper_at-valid at_least f j v h e = absurd (none-some e)
 upper_at-valid equal f j v h e = bound_at-valid f j v h e

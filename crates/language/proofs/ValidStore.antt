@@ -1,7 +1,7 @@
 -- The store of the data holds valid values and small index numbers only, where its numbers are valid.
+use Rattle.std.specs.Prelude.{Option, Some, None}
 use mathlib.Core.Path.{◌≡◌, subst}
 use mathlib.Core.Bool.{Bool, true, false, ◌&&◌}
-use mathlib.Core.Option.{Option, none, some}
 use mathlib.Core.List.{List, [], ◌∷◌}
 use Prim.Native.Nat.{ℕ, zero, suc}
 use lib.Dec.{eqb, ltb}
@@ -23,12 +23,12 @@ use Rattle.language.specs.Literals.{AllSpans}
 use Rattle.language.specs.Valid.{Small, SmallElement, ValidScope, ValidStore}
 use Rattle.language.proofs.Valid.{bind-valid, run-valid}
 
-stored-valid : (st : Store) (i : ℕ) (e : List ℤ) (v : Value) → ValidStore st → stored st i e ≡ some v → Valid v
+stored-valid : (st : Store) (i : ℕ) (e : List ℤ) (v : Value) → ValidStore st → stored st i e ≡ Some v → Valid v
 unfolding stored
 stored-valid [] i e v h k = absurd (none-some k)
 stored-valid (x ∷ st) i e v h k = go (eqb x.name i && same_element x.element e) k (stored-valid st i e v h.1)
   where
-    go : (t : Bool) → ◌≡◌ {A = Option Value} (elim t [ true ↦ some x.value | false ↦ stored st i e ]) (some v) → (stored st i e ≡ some v → Valid v) → Valid v
+    go : (t : Bool) → ◌≡◌ {A = Option Value} (elim t [ true ↦ Some x.value | false ↦ stored st i e ]) (Some v) → (stored st i e ≡ Some v → Valid v) → Valid v
     go true k ih = subst Valid (some-injective k) h.0.value
     go false k ih = ih k
 
@@ -48,8 +48,8 @@ accept-valid x e p v st new he hv h a =
 -- ---- positions
 
 abbrev pub SmallIf : Option ℤ → Type 0
-SmallIf none = Unit
-SmallIf (some k) = Small k
+SmallIf None = Unit
+SmallIf (Some k) = Small k
 
 abbrev pub SmallBound : Bound → Type 0
 SmallBound b = All SmallIf b
@@ -63,12 +63,12 @@ set_at-small (suc j) k (x ∷ b) hk h = (h.0, set_at-small j k b hk h.1)
 pub element_of-small : (b : Bound) → SmallBound b → SmallElement (element_of b)
 unfolding element_of
 element_of-small [] h = tt
-element_of-small (some k ∷ b) h = (h.0, element_of-small b h.1)
-element_of-small (none ∷ b) h = (zero-valid.small, element_of-small b h.1)
+element_of-small (Some k ∷ b) h = (h.0, element_of-small b h.1)
+element_of-small (None ∷ b) h = (zero-valid.small, element_of-small b h.1)
 
 bind_if-valid : (i : ℕ) (x : Option ℤ) (s : Scope) → SmallIf x → ValidScope s → ValidScope (bind_if i x s)
-bind_if-valid i none s hx h = h
-bind_if-valid i (some k) s hx h = bind-valid i k s hx h
+bind_if-valid i None s hx h = h
+bind_if-valid i (Some k) s hx h = bind-valid i k s hx h
 
 pub position_run-valid : (d : Spans) (b : Bound) (j : ℕ) (s : Scope) (ks : List ℤ) → AllSpans Valid d → SmallBound b → ValidScope s → position_run d b j s ≡ done ks → SmallElement ks
 unfolding position_run

@@ -1,8 +1,7 @@
 -- Document 01, "Meaning" and "Order": portions are carried out as read. When the portions of a data section, as they are written
 -- (`DataPhrases`), are in order: portion by portion and number by number, each under the data given before it. No reader of
 -- tokens occurs here.
-use Rattle.std.specs.Prelude.{◌≡◌, true, List, [], ◌∷◌, ◌++◌, ℕ, ◌<◌, length, ℤ}
-use Rattle.std.proofs.Math.Option.{none}
+use Rattle.std.specs.Prelude.{◌≡◌, true, List, [], ◌∷◌, ◌++◌, ℕ, ◌<◌, None, length, ℤ}
 use Rattle.rules.specs.Limits.{data_limit}
 use Rattle.value.specs.Number.{exactly}
 use Rattle.language.specs.Outcome.{done}
@@ -16,7 +15,7 @@ use Rattle.language.specs.DataPhrases.{SignedNumber, WrittenPortion}
 pub record Stores (x : WrittenPortion) (e : List ℤ) (n : SignedNumber) (st new : Store) : Type 0 where
   pub whole : x.whole ≡ true → IsWhole (exactly n.literal)
   pub inside : (p : ℕ) → within x.domain e (scope_of st) p ≡ done tt
-  pub unset : stored st x.name e ≡ none
+  pub unset : stored st x.name e ≡ None
   pub room : length st < data_limit
   pub stores : new ≡ record { name = x.name; element = e; value = signed_value n.negative n.literal } ∷ st
 

@@ -1,6 +1,5 @@
 -- Document 01, "Grammar", "Meaning" and "Order": the data section. Portions are carried out as read.
-use Rattle.std.specs.Prelude.{Bool, true, false, cond, ◌&&◌, not, List, [], ◌∷◌, ℕ, zero, suc, eqb, length, ℤ, neg_ℤ}
-use Rattle.std.proofs.Math.Option.{Option, none, some}
+use Rattle.std.specs.Prelude.{Bool, true, false, cond, ◌&&◌, not, List, [], ◌∷◌, ℕ, zero, suc, eqb, Option, Some, None, length, ℤ, neg_ℤ}
 use Rattle.rules.specs.declared.Refusal.TheVariants.{Misplaced, BadIndex, Missing, Full}
 use Rattle.rules.specs.Limits.{byte_limit, nesting_limit}
 use Rattle.lexer.specs.Marks.{plus_sign, minus_sign, comma, opens, closes, opens_list, closes_list, init_word, close_word}
@@ -23,12 +22,12 @@ pub data Entry : Type 0 where
 
 -- the whole number of a literal without a point
 unfoldable pub digits_of : Kind → Option ℤ
-digits_of (Text.mark c) = none
-digits_of (Text.name l) = none
-digits_of (Text.literal w v) = cond w (some v.m) none
-digits_of (Text.string l) = none
-digits_of Text.end = none
-digits_of (Text.wrong r) = none
+digits_of (Text.mark c) = None
+digits_of (Text.name l) = None
+digits_of (Text.literal w v) = cond w (Some v.m) None
+digits_of (Text.string l) = None
+digits_of Text.end = None
+digits_of (Text.wrong r) = None
 
 abbrev pub with_minus : Bool → ℤ → ℤ
 with_minus true k = neg_ℤ k
@@ -131,16 +130,16 @@ read_order names p marks = do
 
 unfoldable pub bound_of : List Entry → Bound
 bound_of [] = []
-bound_of (fixed k ∷ es) = some k ∷ bound_of es
-bound_of (marked i ∷ es) = none ∷ bound_of es
+bound_of (fixed k ∷ es) = Some k ∷ bound_of es
+bound_of (marked i ∷ es) = None ∷ bound_of es
 
 unfoldable pub value_of : Kind → Option Value
-value_of (Text.mark c) = none
-value_of (Text.name l) = none
-value_of (Text.literal w v) = some v
-value_of (Text.string l) = none
-value_of Text.end = none
-value_of (Text.wrong r) = none
+value_of (Text.mark c) = None
+value_of (Text.name l) = None
+value_of (Text.literal w v) = Some v
+value_of (Text.string l) = None
+value_of Text.end = None
+value_of (Text.wrong r) = None
 
 abbrev pub signed_value : Bool → Value → Value
 signed_value true v = negate v

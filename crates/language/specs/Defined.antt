@@ -2,8 +2,7 @@
 -- floor (specs/Written). Here is said where nothing of that occurs: every index that is read is bound; every subscript is
 -- whole; every name that is read lies in its declared domain and has a value. A limit need not be whole: a run goes through the
 -- whole numbers between the two (decision 51).
-use Rattle.std.specs.Prelude.{◌≡◌, List, [], ◌∷◌, ℕ, ℤ}
-use Rattle.std.proofs.Math.Option.{Option, some}
+use Rattle.std.specs.Prelude.{◌≡◌, List, [], ◌∷◌, ℕ, ℤ, Option, Some}
 use Rattle.value.specs.Rational.{ℚ, whole, floor, ◌⊑◌}
 use Rattle.language.specs.Listed.{At, In}
 use Rattle.language.specs.Scope.{Scope, bind, unbound, bound_to}
@@ -16,7 +15,7 @@ use Rattle.language.specs.Written.{value, subscripts, InDomain, scope_at, Writte
 -- it is there
 pub record Has {A : Type 0} (o : Option A) : Type 0 where
   pub it : A
-  pub is : o ≡ some it
+  pub is : o ≡ Some it
 
 -- its floor is the number itself
 abbrev pub IsWhole : ℚ → Type 0

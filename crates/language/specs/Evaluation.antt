@@ -1,6 +1,5 @@
 -- Document 01, "Meaning": evaluation goes left to right; every value fits, or the reading is refused.
-use Rattle.std.specs.Prelude.{Bool, true, false, ◌&&◌, List, [], ◌∷◌, ℕ, leb, ltb, length, ℤ, pos, ◌+ℤ◌, ◌-ℤ◌}
-use Rattle.std.proofs.Math.Option.{Option, none, some}
+use Rattle.std.specs.Prelude.{Bool, true, false, ◌&&◌, List, [], ◌∷◌, ℕ, leb, ltb, length, ℤ, pos, ◌+ℤ◌, ◌-ℤ◌, Option, Some, None}
 use Rattle.std.specs.Int.Signed.{le_z}
 use Rattle.language.specs.Ranges.{up_from}
 use Rattle.rational.specs.Integer.{up}
@@ -36,8 +35,8 @@ unfoldable pub length_of : Limits → ℕ
 length_of l = up (l.upper +ℤ pos 1 -ℤ l.lower)
 
 abbrev pub is_none : {A : Type 0} → Option A → Bool
-is_none none = true
-is_none (some a) = false
+is_none None = true
+is_none (Some a) = false
 
 -- an index bound already, or a fifth one, is 7
 unfoldable pub fresh : ℕ → Scope → ℕ → Outcome (Unit {0})

@@ -1,6 +1,5 @@
 -- Document 01, "Grammar": a model up to its data section.
-use Rattle.std.specs.Prelude.{Bool, true, false, cond, ◌||◌, List, [], ◌∷◌, ℕ, zero, suc}
-use Rattle.std.proofs.Math.Option.{Option, none, some}
+use Rattle.std.specs.Prelude.{Bool, true, false, cond, ◌||◌, List, [], ◌∷◌, ℕ, zero, suc, Option, Some, None}
 use Rattle.rules.specs.declared.Refusal.TheVariants.{Misplaced, Full}
 use Rattle.rules.specs.Limits.{nesting_limit, constraint_limit}
 use Rattle.lexer.specs.Marks as Marks
@@ -15,10 +14,10 @@ use Rattle.language.specs.Declarations.{declarations}
 -- one of `<= >= =`
 unfoldable pub relation_of : Token → Option Relation
 relation_of t =
-    cond (is_mark Marks.at_most t) (some at_most)
-    (cond (is_mark Marks.at_least t) (some at_least)
-    (cond (is_mark equals t) (some equal)
-    none))
+    cond (is_mark Marks.at_most t) (Some at_most)
+    (cond (is_mark Marks.at_least t) (Some at_least)
+    (cond (is_mark equals t) (Some equal)
+    None))
 
 unfoldable pub read_relation : Reader Relation
 read_relation = do

@@ -1,6 +1,5 @@
 -- Document 01, "Grammar": linear forms and sigmas.
-use Rattle.std.specs.Prelude.{Bool, true, false, cond, ◌&&◌, List, ℕ, zero, suc, eqb}
-use Rattle.std.proofs.Math.Option.{Option, none, some}
+use Rattle.std.specs.Prelude.{Bool, true, false, cond, ◌&&◌, List, ℕ, zero, suc, eqb, Option, Some, None}
 use Rattle.rules.specs.declared.Refusal.TheVariants.{Misplaced, Full}
 use Rattle.rules.specs.Limits.{token_limit}
 use Rattle.lexer.specs.Marks.{minus_sign, times_sign, comma, closes, sigma_word}
@@ -26,8 +25,8 @@ head_by_sort i (Syntax.discrete d) = a_variable i d
 head_by_sort i (Syntax.continuous d) = a_variable i d
 
 unfoldable pub head_by_name : Option Used → Head
-head_by_name none = a_primary
-head_by_name (some u) = head_by_sort u.number u.sort
+head_by_name None = a_primary
+head_by_name (Some u) = head_by_sort u.number u.sort
 
 -- sigmas are allowed or not: an `S` where none is allowed is no primary, so 3 at it (decision 17)
 unfoldable pub head_by : List Name → Bool → Kind → Head

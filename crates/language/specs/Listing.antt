@@ -1,6 +1,5 @@
 -- Document 01, "Listing": the lines, and their bytes.
-use Rattle.std.specs.Prelude.{Bool, true, false, cond, List, [], ◌∷◌, ◌++◌, map, ℕ, zero, suc, ltb, length, get_or, ℤ}
-use Rattle.std.proofs.Math.Option.{Option, none, some}
+use Rattle.std.specs.Prelude.{Bool, true, false, cond, List, [], ◌∷◌, ◌++◌, map, ℕ, zero, suc, ltb, length, get_or, ℤ, Option, Some, None}
 use Rattle.rules.specs.Characters.{code, bytes, tab, line_feed}
 use Rattle.value.specs.declared.Value.{Value}
 use Rattle.value.specs.Decimal.{zero_value, is_zero}
@@ -41,13 +40,13 @@ kind_of (between h) = range
 
 -- of a row from `<=` or `>=`, by its floor
 abbrev pub kind_by : Option Value → Kind
-kind_by none = less
-kind_by (some v) = range
+kind_by None = less
+kind_by (Some v) = range
 
 -- a floor's line follows its row's
 unfoldable pub low_lines : ℕ → Option Value → List Line
-low_lines n none = []
-low_lines n (some v) = low_line n v ∷ []
+low_lines n None = []
+low_lines n (Some v) = low_line n v ∷ []
 
 unfoldable pub row_lines : ℕ → List Entry → List Line
 row_lines n [] = []
@@ -93,8 +92,8 @@ fields [] = line_feed ∷ []
 fields (f ∷ fs) = tab ∷ (f ++ fields fs)
 
 unfoldable pub upper_field : Option Value → List ℕ
-upper_field none = bytes "inf"
-upper_field (some v) = printed v
+upper_field None = bytes "inf"
+upper_field (Some v) = printed v
 
 unfoldable pub kind_field : Kind → List ℕ
 kind_field less = bytes "L"

@@ -1,6 +1,5 @@
 -- A model text, read: its structure and what its data section gives.
-use Rattle.std.proofs.Math.Option.{Option, none, some}
-use Rattle.std.specs.Prelude.{List, [], ◌∷◌, ℕ, suc}
+use Rattle.std.specs.Prelude.{List, [], ◌∷◌, ℕ, suc, Option, Some, None}
 use Rattle.language.specs.Outcome.{Outcome, done, refused}
 use Rattle.lexer.specs.Text.{tokens}
 use Rattle.language.specs.Syntax.{Name, Sort, Spans, Structure}
@@ -43,26 +42,26 @@ pub record Declaration : Type 0 where
   pub place : ℕ
 
 unfoldable pub as_discrete : Sort → Option Spans
-as_discrete Syntax.index = none
-as_discrete (Syntax.integer d) = none
-as_discrete (Syntax.real d) = none
-as_discrete (Syntax.formula f) = none
-as_discrete (Syntax.discrete d) = some d
-as_discrete (Syntax.continuous d) = none
+as_discrete Syntax.index = None
+as_discrete (Syntax.integer d) = None
+as_discrete (Syntax.real d) = None
+as_discrete (Syntax.formula f) = None
+as_discrete (Syntax.discrete d) = Some d
+as_discrete (Syntax.continuous d) = None
 
 unfoldable pub as_continuous : Sort → Option Spans
-as_continuous Syntax.index = none
-as_continuous (Syntax.integer d) = none
-as_continuous (Syntax.real d) = none
-as_continuous (Syntax.formula f) = none
-as_continuous (Syntax.discrete d) = none
-as_continuous (Syntax.continuous d) = some d
+as_continuous Syntax.index = None
+as_continuous (Syntax.integer d) = None
+as_continuous (Syntax.real d) = None
+as_continuous (Syntax.formula f) = None
+as_continuous (Syntax.discrete d) = None
+as_continuous (Syntax.continuous d) = Some d
 
 -- of the names from number i on, those of a sort, in the order of their declaration
 unfoldable pub declared : (Sort → Option Spans) → ℕ → List Name → List Declaration
 declared f i [] = []
 declared f i (x ∷ xs) =
-    elim (f x.sort) [ some d ↦ record { name = i; domain = d; place = x.place } ∷ declared f (suc i) xs | none ↦ declared f (suc i) xs ]
+    elim (f x.sort) [ Some d ↦ record { name = i; domain = d; place = x.place } ∷ declared f (suc i) xs | None ↦ declared f (suc i) xs ]
 
 unfoldable pub discretes : Model → List Declaration
 discretes m = declared as_discrete 0 m.structure.names

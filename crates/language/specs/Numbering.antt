@@ -1,6 +1,5 @@
 -- Document 01, "Numbering and bounds": variables by number, rows, bounds, the objective.
-use Rattle.std.specs.Prelude.{Bool, true, false, cond, ◌&&◌, List, [], ◌∷◌, ◌++◌, map, ℕ, suc, eqb, ltb, length, get_or, set, replicate, ℤ}
-use Rattle.std.proofs.Math.Option.{Option, none, some}
+use Rattle.std.specs.Prelude.{Bool, true, false, cond, ◌&&◌, List, [], ◌∷◌, ◌++◌, map, ℕ, suc, eqb, ltb, length, get_or, set, replicate, ℤ, Option, Some, None}
 use Rattle.rules.specs.declared.Refusal.TheVariants.{Full, Outside}
 use Rattle.language.specs.Outcome.{Outcome, done, ◌>>=◌, or_refuse, fitting, check}
 use Rattle.rules.specs.Limits.{variable_limit, row_limit}
@@ -36,13 +35,13 @@ unfoldable pub same_variable : Variable → ℕ → List ℤ → Bool
 same_variable v i e = eqb v.name i && same_element v.element e
 
 abbrev pub later : Option ℕ → Option ℕ
-later none = none
-later (some j) = some (suc j)
+later None = None
+later (Some j) = Some (suc j)
 
 -- the number of a variable, here counted from 0: its place among the variables
 unfoldable pub number_of : ℕ → List ℤ → List Variable → Option ℕ
-number_of i e [] = none
-number_of i e (v ∷ vs) = elim (same_variable v i e) [ true ↦ some 0 | false ↦ later (number_of i e vs) ]
+number_of i e [] = None
+number_of i e (v ∷ vs) = elim (same_variable v i e) [ true ↦ Some 0 | false ↦ later (number_of i e vs) ]
 
 -- ---- coefficients of one row, gathered one per variable in text order; each partial sum must fit
 
@@ -138,12 +137,12 @@ fact_of vs (form f) r g s = do
 
 -- the floor, after both sides
 unfoldable pub floor_at : Relation → Scope → Outcome (Option Value)
-floor_at at_most s = done none
-floor_at at_least s = done none
-floor_at equal s = done none
+floor_at at_most s = done None
+floor_at at_least s = done None
+floor_at equal s = done None
 floor_at (between h) s = do
   v ← eval h s
-  done (some v)
+  done (Some v)
 
 abbrev pub is_row : Fact → Bool
 is_row (bound j v) = false
@@ -190,30 +189,30 @@ add_entries vs s n (c ∷ cs) es = do
 -- ---- bounds
 
 abbrev pub bound_at : Fact → ℕ → Option Value
-bound_at (bound i v) j = cond (eqb i j) (some v) none
-bound_at (row r v) j = none
+bound_at (bound i v) j = cond (eqb i j) (Some v) None
+bound_at (row r v) j = None
 
 -- a floor on a bare variable
 abbrev pub floor_for : Fact → Option Value → ℕ → Option Value
-floor_for (bound i v) w j = cond (eqb i j) w none
-floor_for (row r v) w j = none
+floor_for (bound i v) w j = cond (eqb i j) w None
+floor_for (row r v) w j = None
 
 abbrev pub lower_at : Relation → Fact → Option Value → ℕ → Option Value
-lower_at at_most f w j = none
+lower_at at_most f w j = None
 lower_at at_least f w j = bound_at f j
 lower_at equal f w j = bound_at f j
 lower_at (between h) f w j = floor_for f w j
 
 abbrev pub upper_at : Relation → Fact → ℕ → Option Value
 upper_at at_most f j = bound_at f j
-upper_at at_least f j = none
+upper_at at_least f j = None
 upper_at equal f j = bound_at f j
 upper_at (between h) f j = bound_at f j
 
 -- what is stated, in text order
 unfoldable pub picked : (Entry → Option Value) → List Entry → List Value
 picked f [] = []
-picked f (e ∷ es) = elim (f e) [ some v ↦ v ∷ picked f es | none ↦ picked f es ]
+picked f (e ∷ es) = elim (f e) [ Some v ↦ v ∷ picked f es | None ↦ picked f es ]
 
 unfoldable pub extreme : (Value → Value → Bool) → Value → List Value → Value
 extreme le v [] = v
@@ -228,8 +227,8 @@ largest [] = zero_value
 largest (v ∷ l) = extreme is_at_most v l
 
 unfoldable pub smallest : List Value → Option Value
-smallest [] = none
-smallest (v ∷ l) = some (extreme is_at_least v l)
+smallest [] = None
+smallest (v ∷ l) = Some (extreme is_at_least v l)
 
 unfoldable pub lower_of : List Entry → ℕ → Value
 lower_of es j = largest (picked (λ e. lower_at e.source.constraint.relation e.fact e.floor j) es)

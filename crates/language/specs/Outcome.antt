@@ -1,13 +1,8 @@
 -- What a reading or an evaluation gives: a value, or a refusal with its place (document 01, "Why a model comes back").
-use Rattle.std.specs.Prelude.{Bool, true, false, ℕ, ℤ}
-use Rattle.std.proofs.Math.Option.{Option, none, some}
+use Rattle.std.specs.Prelude.{Bool, true, false, ℕ, ℤ, Option, Some, None}
 use Rattle.rules.specs.declared.Refusal.{Refusal}
 use Rattle.rules.specs.declared.Refusal.TheVariants.{Unfit, NotWhole}
 use Rattle.value.specs.declared.Value.{Value}
-use Rattle.value.specs.declared.Fit.{Fit}
-use Rattle.value.specs.declared.Fit.TheVariants.{Fits, TooBig}
-use Rattle.value.specs.declared.Whole.{Whole}
-use Rattle.value.specs.declared.Whole.TheVariants.{Number, NotWhole as no_number}
 
 pub data Outcome (A : Type 0) : Type 0 where
   done : A → Outcome A
@@ -21,18 +16,18 @@ module _ {A B : Type 0} where
 
 module _ {A : Type 0} where
   abbrev pub or_refuse : Refusal → ℕ → Option A → Outcome A
-  or_refuse n p (some a) = done a
-  or_refuse n p none = refused n p
+  or_refuse n p (Some a) = done a
+  or_refuse n p None = refused n p
 
 -- a value that fits, or 5 at p
-abbrev pub fitting : ℕ → Fit → Outcome Value
-fitting p (Fits v) = done v
-fitting p TooBig = refused Unfit p
+abbrev pub fitting : ℕ → Option Value → Outcome Value
+fitting p (Some v) = done v
+fitting p None = refused Unfit p
 
 -- a whole number, or 8 at p
-abbrev pub whole_number : ℕ → Whole → Outcome ℤ
-whole_number p (Number k) = done k
-whole_number p no_number = refused NotWhole p
+abbrev pub whole_number : ℕ → Option ℤ → Outcome ℤ
+whole_number p (Some k) = done k
+whole_number p None = refused NotWhole p
 
 -- a test that must hold
 abbrev pub check : Refusal → ℕ → Bool → Outcome (Unit {0})

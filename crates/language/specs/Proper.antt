@@ -1,7 +1,6 @@
 -- What every line of a listing is: its values fit, its numbers and index numbers are no larger than a value's, and the bytes of
 -- its strings and names are from 32 to 126.
-use Rattle.std.proofs.Math.Option.{Option}
-use Rattle.std.specs.Prelude.{List, ℕ, ◌≤◌, ℤ}
+use Rattle.std.specs.Prelude.{List, ℕ, ◌≤◌, ℤ, Option}
 use Rattle.rules.specs.Limits.{mantissa_limit}
 use Rattle.value.specs.declared.Value.{Value}
 use Rattle.value.specs.Decimal.{Valid}

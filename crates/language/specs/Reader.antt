@@ -1,7 +1,6 @@
 -- Readers: what is read from the tokens that are left, and the tokens then left. A token passes its own tests before anything
 -- is asked of it (document 01, "Order").
-use Rattle.std.specs.Prelude.{Bool, true, false, List, [], ◌∷◌, ℕ, zero, suc, eqb}
-use Rattle.std.proofs.Math.Option.{Option, none, some}
+use Rattle.std.specs.Prelude.{Bool, true, false, List, [], ◌∷◌, ℕ, zero, suc, eqb, Option, Some, None}
 use Rattle.rules.specs.declared.Refusal.{Refusal}
 use Rattle.rules.specs.declared.Refusal.TheVariants.{Misplaced, BadName, Full}
 use Rattle.language.specs.Outcome.{Outcome, done, refused}
@@ -70,27 +69,27 @@ mark_of end = 0
 mark_of (wrong r) = 0
 
 unfoldable pub name_of : Kind → Option (List ℕ)
-name_of (mark c) = none
-name_of (name l) = some l
-name_of (literal w v) = none
-name_of (string l) = none
-name_of end = none
-name_of (wrong r) = none
+name_of (mark c) = None
+name_of (name l) = Some l
+name_of (literal w v) = None
+name_of (string l) = None
+name_of end = None
+name_of (wrong r) = None
 
 unfoldable pub string_of : Kind → Option (List ℕ)
-string_of (mark c) = none
-string_of (name l) = none
-string_of (literal w v) = none
-string_of (string l) = some l
-string_of end = none
-string_of (wrong r) = none
+string_of (mark c) = None
+string_of (name l) = None
+string_of (literal w v) = None
+string_of (string l) = Some l
+string_of end = None
+string_of (wrong r) = None
 
 abbrev pub is_mark : ℕ → Token → Bool
 is_mark c t = eqb (mark_of t.kind) c
 
 abbrev pub is_some : {A : Type 0} → Option A → Bool
-is_some none = false
-is_some (some a) = true
+is_some None = false
+is_some (Some a) = true
 
 abbrev pub is_string : Token → Bool
 is_string t = is_some (string_of t.kind)
@@ -100,8 +99,8 @@ is_name t = is_some (name_of t.kind)
 
 -- a kind that may stand there, or 3
 unfoldable pub demand : {A : Type 0} → Option A → ℕ → Reader A
-demand (some a) p = give a
-demand none p = refuse Misplaced p
+demand (Some a) p = give a
+demand None p = refuse Misplaced p
 
 unfoldable pub require : Bool → Refusal → ℕ → Reader (Unit {0})
 require true n p = give tt
@@ -141,12 +140,12 @@ pub record Used : Type 0 where
   pub place : ℕ
 
 unfoldable pub find : List ℕ → List Name → ℕ → ℕ → Option Used
-find l [] i p = none
-find l (x ∷ xs) i p = elim (same_bytes l x.spelling) [ true ↦ some (record { number = i; sort = x.sort; place = p }) | false ↦ find l xs (suc i) p ]
+find l [] i p = None
+find l (x ∷ xs) i p = elim (same_bytes l x.spelling) [ true ↦ Some (record { number = i; sort = x.sort; place = p }) | false ↦ find l xs (suc i) p ]
 
 unfoldable pub found : Option Used → ℕ → Reader Used
-found (some u) p = give u
-found none p = refuse BadName p
+found (Some u) p = give u
+found None p = refuse BadName p
 
 -- the spelling at place p as a declared name, or 4
 unfoldable pub known : List Name → List ℕ → ℕ → Reader Used

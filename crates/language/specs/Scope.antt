@@ -1,6 +1,5 @@
 -- What a formula is read under: the data, and the bound indices, the last bound first.
-use Rattle.std.specs.Prelude.{Bool, true, false, List, [], ◌∷◌, ℕ, eqb, ℤ, pos, negsuc}
-use Rattle.std.proofs.Math.Option.{Option, none, some}
+use Rattle.std.specs.Prelude.{Bool, true, false, List, [], ◌∷◌, ℕ, eqb, ℤ, pos, negsuc, Option, Some, None}
 use Rattle.value.specs.declared.Value.{Value}
 
 pub record Binding : Type 0 where
@@ -19,8 +18,8 @@ unfoldable pub unbound : Scope → Scope
 unbound s = record { known = s.known; bound = [] }
 
 unfoldable pub bound_to : ℕ → List Binding → Option ℤ
-bound_to i [] = none
-bound_to i (b ∷ l) = elim (eqb i b.name) [ true ↦ some b.at | false ↦ bound_to i l ]
+bound_to i [] = None
+bound_to i (b ∷ l) = elim (eqb i b.name) [ true ↦ Some b.at | false ↦ bound_to i l ]
 
 unfoldable pub same_whole : ℤ → ℤ → Bool
 same_whole (pos a) (pos b) = eqb a b

@@ -1,6 +1,5 @@
 -- Document 01, "Meaning" and "Order": the store of the data, what a portion's runs and numbers do with it, and missing data.
-use Rattle.std.specs.Prelude.{Bool, true, false, ◌&&◌, not, List, [], ◌∷◌, ℕ, zero, suc, eqb, ltb, length, ℤ, pos}
-use Rattle.std.proofs.Math.Option.{Option, none, some}
+use Rattle.std.specs.Prelude.{Bool, true, false, ◌&&◌, not, List, [], ◌∷◌, ℕ, zero, suc, eqb, ltb, length, ℤ, pos, Option, Some, None}
 use Rattle.rules.specs.declared.Refusal.TheVariants.{Missing, Full}
 use Rattle.language.specs.Outcome.{Outcome, done, ◌>>=◌, check}
 use Rattle.rules.specs.Limits.{data_limit}
@@ -22,8 +21,8 @@ abbrev pub Store : Type 0
 Store = List Datum
 
 unfoldable pub stored : Store → ℕ → List ℤ → Option Value
-stored [] i ks = none
-stored (x ∷ st) i ks = elim (eqb x.name i && same_element x.element ks) [ true ↦ some x.value | false ↦ stored st i ks ]
+stored [] i ks = None
+stored (x ∷ st) i ks = elim (eqb x.name i && same_element x.element ks) [ true ↦ Some x.value | false ↦ stored st i ks ]
 
 -- the data so far, and nothing bound
 unfoldable pub scope_of : Store → Scope
@@ -39,12 +38,12 @@ pub record Portion : Type 0 where
   pub domain : Spans
 
 unfoldable pub portion_by : ℕ → ℕ → Sort → Option Portion
-portion_by i p Syntax.index = none
-portion_by i p (Syntax.integer d) = some (record { name = i; place = p; whole = true; domain = d })
-portion_by i p (Syntax.real d) = some (record { name = i; place = p; whole = false; domain = d })
-portion_by i p (Syntax.formula f) = none
-portion_by i p (Syntax.discrete d) = none
-portion_by i p (Syntax.continuous d) = none
+portion_by i p Syntax.index = None
+portion_by i p (Syntax.integer d) = Some (record { name = i; place = p; whole = true; domain = d })
+portion_by i p (Syntax.real d) = Some (record { name = i; place = p; whole = false; domain = d })
+portion_by i p (Syntax.formula f) = None
+portion_by i p (Syntax.discrete d) = None
+portion_by i p (Syntax.continuous d) = None
 
 -- what each position is bound to by now
 abbrev pub Bound : Type 0
@@ -52,18 +51,18 @@ Bound = List (Option ℤ)
 
 unfoldable pub set_at : ℕ → ℤ → Bound → Bound
 set_at j k [] = []
-set_at zero k (x ∷ b) = some k ∷ b
+set_at zero k (x ∷ b) = Some k ∷ b
 set_at (suc j) k (x ∷ b) = x ∷ set_at j k b
 
 -- the element, once all positions are bound
 unfoldable pub element_of : Bound → List ℤ
 element_of [] = []
-element_of (some k ∷ b) = k ∷ element_of b
-element_of (none ∷ b) = pos 0 ∷ element_of b
+element_of (Some k ∷ b) = k ∷ element_of b
+element_of (None ∷ b) = pos 0 ∷ element_of b
 
 abbrev pub bind_if : ℕ → Option ℤ → Scope → Scope
-bind_if i none s = s
-bind_if i (some k) s = bind i k s
+bind_if i None s = s
+bind_if i (Some k) s = bind i k s
 
 -- the run of position j: its own declared limits, which see the earlier positions that are bound by now (decision 32)
 unfoldable pub position_run : Spans → Bound → ℕ → Scope → Outcome (List ℤ)

@@ -1,7 +1,6 @@
 -- What is valid: values that fit, and index numbers no larger than a value's, wherever a scope, the data or a problem holds
 -- them; and as many variables and rows as the tables take.
-use Rattle.std.specs.Prelude.{◌≡◌, List, ℕ, ◌≤◌, length, ℤ, nat_abs}
-use Rattle.std.proofs.Math.Option.{Option, none, some}
+use Rattle.std.specs.Prelude.{◌≡◌, List, ℕ, ◌≤◌, length, ℤ, nat_abs, Option, Some, None}
 use Rattle.rules.specs.Limits.{mantissa_limit, variable_limit, row_limit}
 use Rattle.value.specs.declared.Value.{Value}
 use Rattle.value.specs.Decimal.{Valid}
@@ -23,7 +22,7 @@ abbrev pub SmallBinding : Binding → Type 0
 SmallBinding b = Small b.at
 
 pub record ValidScope (s : Scope) : Type 0 where
-  pub known : (i : ℕ) (e : List ℤ) (v : Value) → s.known i e ≡ some v → Valid v
+  pub known : (i : ℕ) (e : List ℤ) (v : Value) → s.known i e ≡ Some v → Valid v
   pub bound : All SmallBinding s.bound
 
 pub record ValidDatum (x : Datum) : Type 0 where
@@ -47,8 +46,8 @@ ValidFact (row r v) = ValidRow r × Valid v
 
 -- an upper bound or a floor, which may be absent
 abbrev pub ValidIfAny : Option Value → Type 0
-ValidIfAny none = Unit
-ValidIfAny (some v) = Valid v
+ValidIfAny None = Unit
+ValidIfAny (Some v) = Valid v
 
 pub record ValidEntry (e : Entry) : Type 0 where
   pub element : SmallElement e.source.element

@@ -1,7 +1,6 @@
 -- Document 01, "The words of demand 3": written values, on the text's own terms, without limit of size and not by way of
 -- gathered coefficients; constraints at their elements, and declared variables.
-use Rattle.std.specs.Prelude.{◌≡◌, Bool, true, false, List, [], ◌∷◌, ◌++◌, ℤ}
-use Rattle.std.proofs.Math.Option.{Option, none, some}
+use Rattle.std.specs.Prelude.{◌≡◌, Bool, true, false, List, [], ◌∷◌, ◌++◌, ℤ, Option, Some, None}
 use Rattle.language.specs.Listed.{At, In}
 use Rattle.language.specs.Ranges.{range}
 use Rattle.value.specs.Rational.{ℚ, 𝟎, ◌⊕◌, ◌⊗◌, neg, whole, floor, ceiling, ◌⊑◌}
@@ -23,12 +22,12 @@ negated_if false q = q
 
 -- what a name without a value counts as; no accepted model has one
 unfoldable pub whole_or0 : Option ℤ → ℚ
-whole_or0 none = 𝟎
-whole_or0 (some k) = whole k
+whole_or0 None = 𝟎
+whole_or0 (Some k) = whole k
 
 unfoldable pub value_or0 : Option Value → ℚ
-value_or0 none = 𝟎
-value_or0 (some v) = exactly v
+value_or0 None = 𝟎
+value_or0 (Some v) = exactly v
 
 -- a run from a written lower to a written upper limit
 unfoldable pub run_between : ℚ → ℚ → List ℤ

@@ -1,8 +1,8 @@
 -- What a literal token is worth, for every spelling: the decimal, or the decimal times the power of ten behind it.
+use Rattle.std.specs.Prelude.{Some}
 use mathlib.Core.Path.{◌≡◌, refl, ap}
 use mathlib.Core.Bool.{Bool, true, false, cond, ◌&&◌, ◌||◌}
 use mathlib.Core.List.{List, [], ◌∷◌, append-nil}
-use mathlib.Core.Option as Option
 use Prim.Native.Nat.{ℕ, zero, suc, ◌+◌, ◌≤◌}
 use native.Mathlib.Omega.{arith}
 use borrow.Author.Tests.{ne_eqb, eqb-true, le-leb, leb-true, leb-false}
@@ -22,7 +22,7 @@ use Rattle.lexer.proofs.Runs.{true-false, front_length}
 -- the power that the digits p write
 record Digits (minus : Bool) (p : List ℕ) : Type 0 where
   power : ℤ
-  read : power_by minus p ≡ Option.some power
+  read : power_by minus p ≡ Some power
 
 digits-taken : (l : List ℕ) (m : ℕ) → m ≤ length (front is_digit l) → all_digits (take m l) ≡ true
 unfolding front all_digits
@@ -49,7 +49,7 @@ pub record PowerAt (r : List ℕ) : Type 0 where
   pub bytes : List ℕ
   pub power : ℤ
   pub taken : take (power_length r) r ≡ 69 ∷ bytes
-  pub read : power_of bytes ≡ Option.some power
+  pub read : power_of bytes ≡ Some power
 
 -- behind a sign of g bytes: at most two of the n digits that stand there
 record SizeOf (g n : ℕ) : Type 0 where
@@ -71,7 +71,7 @@ size_of g (suc n) f = go (leb (suc n) 2) refl
 -- the power that a sign and m digits write, or m digits
 record Reads (p : List ℕ) : Type 0 where
   power : ℤ
-  read : power_of p ≡ Option.some power
+  read : power_of p ≡ Some power
 
 module _ (c : ℕ) (t : List ℕ) (m : ℕ) (h : 1 ≤ m) (g : m ≤ 2) where
   signed-read : (minus : Bool) → eqb c 45 ≡ minus → (minus ≡ false → eqb c 43 ≡ true) → m ≤ length (front is_digit t) → Reads (c ∷ take m t)

@@ -1,4 +1,6 @@
 -- The power of ten behind a decimal: where it ends, and the literal with it.
+use Rattle.std.specs.Prelude.{Option, Some, None}
+use Rattle.value.specs.declared.Value.{Value}
 use mathlib.Core.Path.{◌≡◌, refl, sym, ◌∙◌, subst}
 use mathlib.Core.Bool.{Bool, true, false, cond, ◌&&◌, ◌||◌}
 use mathlib.Core.List.{List, [], ◌∷◌, ◌++◌}
@@ -9,8 +11,6 @@ use lib.Dec.{eqb, leb}
 use lib.ListN.{length, get_or, take, drop, drop_of_length-le, length-drop}
 use lib.Seq.{drop-drop, take-add, length-take-le}
 use Rattle.rules.specs.Limits.{power_digits}
-use Rattle.value.specs.declared.Fit.{Fit}
-use Rattle.value.specs.declared.Fit.TheVariants.{Fits, TooBig}
 use Rattle.value.specs.Literal.{literal_of}
 use Rattle.value.proofs.Reading.{literal-valid}
 use Rattle.lexer.specs.declared.Class.TheVariants.{Digit}
@@ -89,13 +89,13 @@ power-here s at b g n r h e f w c q =
 -- ---- the literal whose decimal ends at `end`
 
 -- the value of the literal l
-value-is : (s l : List ℕ) (w : Bool) (v : Fit) (at n : ℕ) (r : Found) → v ≡ literal_of l → n ≡ length l → r ≡ found_of w v at n → Gives s r (valued w at l)
+value-is : (s l : List ℕ) (w : Bool) (v : Option Value) (at n : ℕ) (r : Found) → v ≡ literal_of l → n ≡ length l → r ≡ found_of w v at n → Gives s r (valued w at l)
 unfolding valued literal_kind
 value-is s l w v at n r e h g = subst (λ (q : Found). Gives s q (valued w at l)) (sym g) (go v e)
   where
-    go : (v : Fit) → v ≡ literal_of l → Gives s (found_of w v at n) (valued w at l)
-    go (Fits x) e = record { same = rw (← e, h) refl; within = literal-valid l x (sym e) }
-    go TooBig e = record { same = rw (← e, h) refl; within = tt }
+    go : (v : Option Value) → v ≡ literal_of l → Gives s (found_of w v at n) (valued w at l)
+    go (Some x) e = record { same = rw (← e, h) refl; within = literal-valid l x (sym e) }
+    go None e = record { same = rw (← e, h) refl; within = tt }
 
 module _ (s : List ℕ) (at end n : ℕ) (h : at ≤ end) (g : end ≤ length s) (w : PowerLength s end n) where
   powered-bytes : take (end + n - at) (drop at s) ≡ part_of s at (end - at) ++ take n (drop end s)
@@ -104,7 +104,7 @@ module _ (s : List ℕ) (at end n : ℕ) (h : at ≤ end) (g : end ≤ length s)
       let f : at + (end - at) ≡ end = omega arith in
       rw (e, take-add (end - at) n (drop at s), drop-drop (end - at) at s, f) refl
 
-  pub powered-is : (whole plain : Bool) (v : Fit) (r : Found) → v ≡ literal_of (take (end + n - at) (drop at s)) → plain ≡ (whole && eqb n 0) → r ≡ found_of plain v at (end + n - at)
+  pub powered-is : (whole plain : Bool) (v : Option Value) (r : Found) → v ≡ literal_of (take (end + n - at) (drop at s)) → plain ≡ (whole && eqb n 0) → r ≡ found_of plain v at (end + n - at)
       → Gives s r (powered whole at (part_of s at (end - at)) (drop end s))
   unfolding powered
   powered-is whole plain v r e p q =

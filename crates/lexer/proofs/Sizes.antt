@@ -1,5 +1,7 @@
 -- A token's bytes and place: at least one byte and no more than are left, at its first byte, unless it is refused; a refusal
 -- stands in the text.
+use Rattle.std.specs.Prelude.{Option, Some, None}
+use Rattle.value.specs.declared.Value.{Value}
 use mathlib.Core.Path.{◌≡◌, refl, sym, ◌∙◌, ap}
 use mathlib.Core.Bool.{Bool, true, false, cond, ◌&&◌, ◌||◌}
 use mathlib.Core.List.{List, [], ◌∷◌, ◌++◌}
@@ -10,8 +12,6 @@ use lib.ListN.{length, take, drop, length-take, length-drop, length-append}
 use Rattle.rules.specs.declared.Refusal.{Refusal}
 use Rattle.rules.specs.declared.Refusal.TheVariants.{StrangeByte, Misplaced, BadName}
 use Rattle.rules.specs.Limits.{name_length, string_length}
-use Rattle.value.specs.declared.Fit.{Fit}
-use Rattle.value.specs.declared.Fit.TheVariants.{Fits, TooBig}
 use Rattle.value.specs.Literal.{is_digit, literal_of}
 use Rattle.lexer.specs.Marks.{Word, at_most, at_least}
 use Rattle.lexer.specs.Text.{Kind, mark, name, string, wrong, same_bytes, among, Step, step, is_wrong, is_small, is_capital, is_sign, in_name, in_string, no_brace, front, behind, pointed, literal_kind, valued, power_length, powered, name_step, word_step, literal_step, strange, well_shaped, string_step, order_step, step_at}
@@ -65,10 +65,10 @@ unfolding is_wrong
 string-proper true l = refl
 string-proper false l = refl
 
-literal-proper : (w : Bool) (v : Fit) → Proper (literal_kind w v)
+literal-proper : (w : Bool) (v : Option Value) → Proper (literal_kind w v)
 unfolding literal_kind is_wrong
-literal-proper w (Fits v) = refl
-literal-proper w TooBig = refl
+literal-proper w (Some v) = refl
+literal-proper w None = refl
 
 among-proper : (ws : List Word) (l : List ℕ) (k : Kind) → Proper k → Proper (among ws l k)
 unfolding among is_wrong

@@ -1,4 +1,6 @@
 -- For callers: a string's bytes are those that `between_braces` gives at its token's place.
+use Rattle.std.specs.Prelude.{Option, Some, None}
+use Rattle.value.specs.declared.Value.{Value}
 use mathlib.Core.Path.{◌≡◌, refl, sym, ◌∙◌, ap, subst}
 use mathlib.Core.Bool.{Bool, true, false, cond, ◌||◌}
 use mathlib.Core.List.{List, [], ◌∷◌, ◌++◌}
@@ -10,8 +12,6 @@ use lib.ListN.{length, drop}
 use lib.Seq.{drop-drop}
 use Rattle.rules.specs.declared.Refusal.TheVariants.{LongText, StrangeByte, Misplaced, BadName, Full}
 use Rattle.rules.specs.Limits.{byte_limit, token_limit, name_length}
-use Rattle.value.specs.declared.Fit.{Fit}
-use Rattle.value.specs.declared.Fit.TheVariants.{Fits, TooBig}
 use Rattle.value.specs.Literal.{is_digit, literal_of}
 use Rattle.lexer.specs.Marks.{Word, at_most, at_least, capital_words, small_words}
 use Rattle.lexer.specs.Text.{Kind, mark, name, literal, string, end, wrong, Token, Step, step, same_bytes, among, is_blank, is_small, is_capital, is_sign, in_name, in_string, no_brace, front, behind, pointed, literal_kind, valued, powered, name_step, word_step, literal_step, strange, well_shaped, string_step, order_step, step_at, is_wrong, tokens_from, uncounted, counted, tokens}
@@ -54,9 +54,9 @@ valued_plain : (w : Bool) (p : ℕ) (l : List ℕ) → is_string (valued w p l).
 unfolding valued literal_kind
 valued_plain w p l = go (literal_of l)
   where
-    go : (v : Fit) → is_string (literal_kind w v) ≡ false
-    go (Fits v) = refl
-    go TooBig = refl
+    go : (v : Option Value) → is_string (literal_kind w v) ≡ false
+    go (Some v) = refl
+    go None = refl
 
 literal-plain : (p : ℕ) (w r : List ℕ) → is_string (literal_step p w r).token.kind ≡ false
 unfolding literal_step powered

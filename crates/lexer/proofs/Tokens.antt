@@ -1,4 +1,6 @@
 -- What each function that reads a token answers, as laws over plain variables.
+use Rattle.std.specs.Prelude.{Option}
+use Rattle.value.specs.declared.Value.{Value}
 use mathlib.Core.Path.{◌≡◌, refl, sym, ◌∙◌, ap, subst}
 use mathlib.Core.Bool.{Bool, true, false, cond, ◌&&◌, ◌||◌}
 use mathlib.Core.List.{List, [], ◌∷◌, ◌++◌}
@@ -11,7 +13,6 @@ use lib.ListN.{length, get_or, take, drop, drop_of_length-le}
 use lib.Seq.{drop-drop, take-add}
 use Rattle.rules.specs.declared.Refusal.TheVariants.{StrangeByte, Misplaced, BadName}
 use Rattle.rules.specs.Limits.{name_length, string_length}
-use Rattle.value.specs.declared.Fit.{Fit}
 use Rattle.value.specs.Literal.{is_digit}
 use Rattle.lexer.specs.Marks.{capital_words, small_words}
 use Rattle.lexer.specs.Text as Text
@@ -102,7 +103,7 @@ module _ (s : List ℕ) (at : ℕ) where
 
 -- ---- literals
 
-pub found-is : (w : Bool) (v u : Fit) (at n : ℕ) (r : Found) → v ≡ u → r ≡ found_of w u at n → r ≡ found_of w v at n
+pub found-is : (w : Bool) (v u : Option Value) (at n : ℕ) (r : Found) → v ≡ u → r ≡ found_of w u at n → r ≡ found_of w v at n
 found-is w v u at n r e h = rw e h
 
 module _ (s : List ℕ) (at w : ℕ) where

@@ -1,9 +1,8 @@
 -- What the functions inside the lexer answer, in the definition's terms.
-use Rattle.std.specs.Prelude.{◌≡◌, Bool, true, false, cond, List, ◌∷◌, ◌++◌, ℕ, ◌+◌, ◌-◌, ◌<◌, ◌≤◌, eqb, length, drop}
+use Rattle.std.specs.Prelude.{◌≡◌, Bool, true, false, cond, List, ◌∷◌, ◌++◌, ℕ, ◌+◌, ◌-◌, ◌<◌, ◌≤◌, eqb, length, drop, Option, Some, None}
+use Rattle.value.specs.declared.Value.{Value}
 use Rattle.rules.specs.declared.Refusal.TheVariants.{StrangeByte, Unfit}
 use Rattle.rules.specs.Characters.{code}
-use Rattle.value.specs.declared.Fit.{Fit}
-use Rattle.value.specs.declared.Fit.TheVariants.{Fits, TooBig}
 use Rattle.value.specs.Literal.{is_digit}
 use Rattle.lexer.specs.Marks.{Word, at_most, at_least}
 use Rattle.lexer.specs.Text as Text
@@ -37,9 +36,9 @@ pub record Gives (s : List ℕ) (r : Found) (x : Text.Step) : Type 0 where
   pub within : Within s r.place r.token
 
 -- a literal's value, or that there is none
-abbrev pub found_of : Bool → Fit → ℕ → ℕ → Found
-found_of w (Fits v) at n = record { token = Literal w v; place = at; size = n }
-found_of w TooBig at n = record { token = Wrong Unfit; place = at; size = n }
+abbrev pub found_of : Bool → Option Value → ℕ → ℕ → Found
+found_of w (Some v) at n = record { token = Literal w v; place = at; size = n }
+found_of w None at n = record { token = Wrong Unfit; place = at; size = n }
 
 -- w is the number of the word that l is, or 0 if it is none of them
 pub record IsWord (ws : List Word) (l : List ℕ) (w : ℕ) : Type 0 where

@@ -1,14 +1,12 @@
 -- Document 01, "Text": the tokens of a text, from left to right. A refusal of a token by itself (2, 3 shape, 4 length, 5),
 -- by the token count (6) or by the text's length (1) is a token too, and the last one: so a token's own tests come before its
 -- placement, everywhere (decision 5; the numbers are those of docs/DECISIONS.md).
-use Rattle.std.specs.Prelude.{Bool, true, false, cond, ◌&&◌, ◌||◌, not, List, [], ◌∷◌, ◌++◌, ℕ, zero, suc, ◌+◌, ◌-◌, eqb, leb, length, take, drop}
+use Rattle.std.specs.Prelude.{Bool, true, false, cond, ◌&&◌, ◌||◌, not, List, [], ◌∷◌, ◌++◌, ℕ, zero, suc, ◌+◌, ◌-◌, eqb, leb, length, take, drop, Option, Some, None}
 use Rattle.rules.specs.declared.Refusal.{Refusal}
 use Rattle.rules.specs.declared.Refusal.TheVariants.{LongText, StrangeByte, Misplaced, BadName, Unfit, Full}
 use Rattle.rules.specs.Characters.{code, space, tab, line_feed, carriage_return}
 use Rattle.rules.specs.Limits.{byte_limit, token_limit, name_length, string_length, power_digits}
 use Rattle.value.specs.declared.Value.{Value}
-use Rattle.value.specs.declared.Fit.{Fit}
-use Rattle.value.specs.declared.Fit.TheVariants.{Fits, TooBig}
 use Rattle.value.specs.Literal.{is_digit, literal_of}
 use Rattle.lexer.specs.Marks.{Word, capital_words, small_words, init_word, close_word, at_most, at_least}
 
@@ -94,9 +92,9 @@ order_step p k (b ∷ t) = cond (eqb b (code "=")) (step (mark k) p 2) (step (wr
 -- more than 18 digits is one token, 5 at its first byte (decision 3). A power of ten may follow: `E`, an optional sign and one or
 -- two digits (decision 50)
 
-unfoldable pub literal_kind : Bool → Fit → Kind
-literal_kind w (Fits v) = literal w v
-literal_kind w TooBig = wrong Unfit
+unfoldable pub literal_kind : Bool → Option Value → Kind
+literal_kind w (Some v) = literal w v
+literal_kind w None = wrong Unfit
 
 unfoldable pub valued : Bool → ℕ → List ℕ → Step
 valued w p l = step (literal_kind w (literal_of l)) p (length l)

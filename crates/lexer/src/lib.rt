@@ -273,16 +273,16 @@ fn word(s: &[u8], at: usize) -> Found
 }
 
 // A literal's value, or that there is none that fits.
-fn valued(whole: bool, v: value::Fit, at: usize, size: usize) -> Found
+fn valued(whole: bool, v: Option<value::Value>, at: usize, size: usize) -> Found
     ensures { result ≡ found_of whole v at size }
 {
     match v {
-        value::Fit::Fits(x) => Found {
+        Some(x) => Found {
             token: Token::Literal(whole, x),
             place: at,
             size: size,
         },
-        value::Fit::TooBig => Found {
+        None => Found {
             token: Token::Wrong(rules::Refusal::Unfit),
             place: at,
             size: size,

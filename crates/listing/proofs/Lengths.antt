@@ -1,8 +1,8 @@
 -- How long what is written of a line is, so that a caller's sum of lengths fits.
+use Rattle.std.specs.Prelude.{Option, Some, None}
 use mathlib.Core.Path.{◌≡◌, refl, ap}
 use mathlib.Core.Bool.{Bool}
 use mathlib.Core.List.{List, [], ◌∷◌, map}
-use mathlib.Core.Option.{Option, none, some}
 use Prim.Native.Nat.{ℕ, suc, ◌+◌, ◌*◌, ◌≤◌}
 use native.Mathlib.Omega.{arith}
 use lib.ListN.{length, length-append}
@@ -34,8 +34,8 @@ natural-most n = whole-most (pos n)
 
 upper-most : (u : Option Value) → length (shown_upper u) ≤ 26
 unfolding shown_upper
-upper-most none = omega arith
-upper-most (some v) = shown-most v
+upper-most None = omega arith
+upper-most (Some v) = shown-most v
 
 kind-most : (q : Kind) → length (kind_field q) ≤ 26
 unfolding kind_field

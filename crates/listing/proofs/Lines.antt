@@ -1,7 +1,7 @@
 -- Laws for callers: what is written of a proper line is the definition's, line after line into the rest of an output, and what a
 -- cleared output then holds.
+use Rattle.std.specs.Prelude.{Option, Some, None}
 use mathlib.Core.Path.{◌≡◌, refl, sym, ◌∙◌, ap}
-use mathlib.Core.Option.{Option, none, some}
 use mathlib.Core.List.{List, [], ◌∷◌, ◌++◌, map, append_assoc, append-nil}
 use Prim.Native.Nat.{ℕ, zero, suc, ◌+◌, ◌-◌, ◌≤◌, min}
 use native.Mathlib.Omega.{arith}
@@ -29,8 +29,8 @@ wholes-shown (k ∷ e) h = rw (whole-shown k h.0, wholes-shown e h.1)
 
 upper-shown : (u : Option Value) → ValidIfAny u → shown_upper u ≡ upper_field u
 unfolding shown_upper upper_field
-upper-shown none h = refl
-upper-shown (some v) h = shown-valid v h
+upper-shown None h = refl
+upper-shown (Some v) h = shown-valid v h
 
 fields-shown : (k : Line) → Proper k → shown_fields k ≡ fields_of k
 fields-shown (lp_line a b c d s t) h =

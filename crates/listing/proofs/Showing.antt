@@ -1,4 +1,5 @@
 -- Laws of what is shown of a number or a value: how long it is, and that it is what the definition prints.
+use Rattle.std.specs.Prelude.{Option, Some, None}
 use mathlib.Core.Path.{◌≡◌, refl, sym, ◌∙◌, ap}
 use mathlib.Core.Bool.{Bool, true, false, cond}
 use mathlib.Core.List.{List, [], ◌∷◌, ◌++◌}
@@ -20,15 +21,12 @@ use Rattle.value.proofs.Ranges.{range-places}
 use Rattle.value.proofs.Writing.{length_digits, sign-short, shown-printed, shown-none}
 use Rattle.lexer.specs.View.{part_of}
 use Rattle.language.proofs.Figures.{natural-whole}
-use Rattle.rows.specs.declared.End.{End}
-use Rattle.rows.specs.declared.End.TheVariants.{None, At}
 use Rattle.language.specs.Listing.{kind_by, kind_field}
 use Rattle.language.specs.Listing as Listing
 use Rattle.listing.specs.declared.Kind.{Kind}
 use Rattle.listing.specs.declared.Kind.TheVariants.{Less, Equal, Range}
 use Rattle.listing.specs.Kinds.{kind_in}
 use Rattle.listing.specs.Shown.{shown_whole, shown_natural, shown_upper}
-use Rattle.rows.specs.End.{end_of}
 
 -- ---- lengths
 
@@ -95,12 +93,12 @@ module _ (n : ℕ) where
 
 -- ---- an upper bound
 
-pub upper-none : (u : End) → u ≡ None → shown_upper (end_of u) ≡ bytes "inf"
-unfolding shown_upper end_of
+pub upper-none : (u : Option Value) → u ≡ None → shown_upper u ≡ bytes "inf"
+unfolding shown_upper
 upper-none u e = rw e
 
-pub upper-at : (u : End) (v : Value) → u ≡ At v → shown_upper (end_of u) ≡ shown v
-unfolding shown_upper end_of
+pub upper-at : (u : Option Value) (v : Value) → u ≡ Some v → shown_upper u ≡ shown v
+unfolding shown_upper
 upper-at u v e = rw e
 
 -- ---- the letter of a kind
@@ -119,17 +117,17 @@ module _ (k : Kind) where
   letter-range e = rw e
 
 -- the kind of a row, by whether it is one of `=` and by its floor
-module _ (b : Bool) (o : End) where
-  pub kind-equal : b ≡ true → kind_in Equal ≡ cond b Listing.equal (kind_by (end_of o))
+module _ (b : Bool) (o : Option Value) where
+  pub kind-equal : b ≡ true → kind_in Equal ≡ cond b Listing.equal (kind_by o)
   unfolding kind_in
   kind-equal e = rw e
 
-  pub kind-less : b ≡ false → o ≡ None → kind_in Less ≡ cond b Listing.equal (kind_by (end_of o))
-  unfolding kind_in end_of
+  pub kind-less : b ≡ false → o ≡ None → kind_in Less ≡ cond b Listing.equal (kind_by o)
+  unfolding kind_in
   kind-less e f = rw (e, f)
 
-  pub kind-range : (v : Value) → b ≡ false → o ≡ At v → kind_in Range ≡ cond b Listing.equal (kind_by (end_of o))
-  unfolding kind_in end_of
+  pub kind-range : (v : Value) → b ≡ false → o ≡ Some v → kind_in Range ≡ cond b Listing.equal (kind_by o)
+  unfolding kind_in
   kind-range v e f = rw (e, f)
 
 -- ---- a string that is cut

@@ -1,7 +1,7 @@
 -- Laws of the line of a span.
+use Rattle.std.specs.Prelude.{Option, Some, None}
 use mathlib.Core.Path.{◌≡◌}
 use mathlib.Core.Bool.{Bool, true, false}
-use mathlib.Core.Option.{Option, none, some}
 use mathlib.Core.List.{List, [], ◌∷◌}
 use Prim.Native.Nat.{ℕ, ◌≤◌}
 use native.Mathlib.Omega.{arith}
@@ -11,21 +11,18 @@ use Rattle.value.specs.declared.Value.{Value}
 use Rattle.value.specs.Printed.{shown, Written}
 use Rattle.value.proofs.Writing.{written_then}
 use Rattle.language.specs.Listing.{fields}
-use Rattle.rows.specs.declared.End.{End}
-use Rattle.rows.specs.declared.End.TheVariants.{None, At}
-use Rattle.rows.specs.End.{end_of}
 use Rattle.listing.specs.Shown.{shown_natural}
 use Rattle.listing.specs.Spans.{shown_end, idle_field, shown_span}
 use Rattle.listing.proofs.Showing.{shown-most}
 use Rattle.listing.proofs.Lengths.{field-length, end-length, natural-most}
 
-module _ (u : End) where
-  pub end_none : u ≡ None → shown_end (end_of u) ≡ bytes "-"
-  unfolding shown_end end_of
+module _ (u : Option Value) where
+  pub end_none : u ≡ None → shown_end u ≡ bytes "-"
+  unfolding shown_end
   end_none e = rw e
 
-  pub end-at : (v : Value) → u ≡ At v → shown_end (end_of u) ≡ shown v
-  unfolding shown_end end_of
+  pub end-at : (v : Value) → u ≡ Some v → shown_end u ≡ shown v
+  unfolding shown_end
   end-at v e = rw e
 
 module _ (b : Bool) where
@@ -46,8 +43,8 @@ span-then n a g b w v = written_then _ _ _ _ _ _ _ _ w v
 
 end-most : (o : Option Value) → length (shown_end o) ≤ 26
 unfolding shown_end
-end-most none = omega arith
-end-most (some v) = shown-most v
+end-most None = omega arith
+end-most (Some v) = shown-most v
 
 idle-most : (b : Bool) → length (idle_field b) ≤ 4
 unfolding idle_field

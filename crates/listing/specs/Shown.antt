@@ -1,7 +1,6 @@
 -- What the writers write of any line: its bytes, with nothing for a number or a value that is out of range. Of a proper line
 -- these are the definition's bytes (`proofs/Lines.antt`).
-use Rattle.std.specs.Prelude.{cond, List, [], ◌∷◌, ◌++◌, map, ℕ, ℤ, pos}
-use Rattle.std.proofs.Math.Option.{Option, none, some}
+use Rattle.std.specs.Prelude.{cond, List, [], ◌∷◌, ◌++◌, map, ℕ, ℤ, pos, Option, Some, None}
 use Rattle.rules.specs.Characters.{code, bytes}
 use Rattle.value.specs.declared.Value.{Value}
 use Rattle.value.specs.Decimal.{of_whole}
@@ -16,8 +15,8 @@ unfoldable pub shown_natural : ℕ → List ℕ
 shown_natural n = shown_whole (pos n)
 
 unfoldable pub shown_upper : Option Value → List ℕ
-shown_upper none = bytes "inf"
-shown_upper (some v) = shown v
+shown_upper None = bytes "inf"
+shown_upper (Some v) = shown v
 
 abbrev pub shown_fields : Line → List (List ℕ)
 shown_fields (lp_line a b c d s t) = shown_natural a ∷ shown_natural b ∷ shown_natural c ∷ shown_natural d ∷ s ∷ t ∷ []

@@ -1,7 +1,6 @@
 -- What is written of the span of a row: `span`, its number, its least and its greatest value, `-` for one that is open, and `idle`
 -- or `-`; nothing for what is out of range.
-use Rattle.std.specs.Prelude.{Bool, cond, List, [], ◌∷◌, ◌++◌, ℕ}
-use Rattle.std.proofs.Math.Option.{Option, none, some}
+use Rattle.std.specs.Prelude.{Bool, cond, List, [], ◌∷◌, ◌++◌, ℕ, Option, Some, None}
 use Rattle.rules.specs.Characters.{bytes}
 use Rattle.value.specs.declared.Value.{Value}
 use Rattle.value.specs.Printed.{shown}
@@ -9,8 +8,8 @@ use Rattle.language.specs.Listing.{fields}
 use Rattle.listing.specs.Shown.{shown_natural}
 
 unfoldable pub shown_end : Option Value → List ℕ
-shown_end none = bytes "-"
-shown_end (some v) = shown v
+shown_end None = bytes "-"
+shown_end (Some v) = shown v
 
 unfoldable pub idle_field : Bool → List ℕ
 idle_field b = cond b (bytes "idle") (bytes "-")

@@ -4,7 +4,6 @@
 ghost use Rattle.value.specs.Printed.{Written};
 ghost use Rattle.listing.specs.Bare.{bare_row, bare_variable};
 ghost use Rattle.listing.specs.Kinds.{kind_in};
-ghost use Rattle.rows.specs.End.{end_of};
 
 pub fn row(number: usize, kind: super::Kind, right: value::Value, out: &mut [u8]) -> usize
     ensures { Written out.old 0 (bare_row number (kind_in kind) right) result out.new }
@@ -20,10 +19,10 @@ pub fn variable(
     number: usize,
     discrete: bool,
     lower: value::Value,
-    upper: rows::End,
+    upper: Option<value::Value>,
     out: &mut [u8],
 ) -> usize
-    ensures { Written out.old 0 (bare_variable number discrete lower (end_of upper)) result out.new }
+    ensures { Written out.old 0 (bare_variable number discrete lower upper) result out.new }
 {
     let at = super::put_text(out, 0, b"var");
     let at = super::number_field(out, at, number);

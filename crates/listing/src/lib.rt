@@ -15,7 +15,6 @@ ghost use Rattle.language.specs.Listing.{lp_line, row_line, low_line, var_line, 
 ghost use Rattle.listing.specs.Shown.{shown_whole, shown_natural, shown_upper, shown_line, shown_refused};
 ghost use Rattle.listing.specs.Kinds.{kind_in};
 ghost use Rattle.listing.specs.Spans.{shown_end, idle_field, shown_span};
-ghost use Rattle.rows.specs.End.{end_of};
 
 // ---- bytes at a place, which may lie past the output's end. No place overflows: a text is shorter than 2^63 bytes, and what
 // stands before and after it in a line is short
@@ -145,24 +144,24 @@ fn number_field(out: &mut [u8], at: usize, n: usize) -> usize
     put(out, at, b'\t')
 }
 
-fn upper_field(out: &mut [u8], at: usize, upper: rows::End) -> usize
+fn upper_field(out: &mut [u8], at: usize, upper: Option<value::Value>) -> usize
     requires { at < 2 ^ 31 }
-    ensures { (Written out.old at (tab ∷ shown_upper (end_of upper)) result out.new) × (result ≤ at + 32) }
+    ensures { (Written out.old at (tab ∷ shown_upper upper) result out.new) × (result ≤ at + 32) }
 {
     match upper {
-        rows::End::None => text_field(out, at, b"inf"),
-        rows::End::At(v) => value_field(out, at, v),
+        None => text_field(out, at, b"inf"),
+        Some(v) => value_field(out, at, v),
     }
 }
 
 // The least or the greatest value of a row, `-` where it is open.
-fn end_field(out: &mut [u8], at: usize, end: rows::End) -> usize
+fn end_field(out: &mut [u8], at: usize, end: Option<value::Value>) -> usize
     requires { at < 2 ^ 31 }
-    ensures { (Written out.old at (tab ∷ shown_end (end_of end)) result out.new) × (result ≤ at + 32) }
+    ensures { (Written out.old at (tab ∷ shown_end end) result out.new) × (result ≤ at + 32) }
 {
     match end {
-        rows::End::None => text_field(out, at, b"-"),
-        rows::End::At(v) => value_field(out, at, v),
+        None => text_field(out, at, b"-"),
+        Some(v) => value_field(out, at, v),
     }
 }
 
@@ -246,12 +245,12 @@ pub fn variable(
     number: usize,
     discrete: bool,
     lower: value::Value,
-    upper: rows::End,
+    upper: Option<value::Value>,
     name: &[u8],
     e: store::Element,
     out: &mut [u8],
 ) -> usize
-    ensures { Written out.old 0 (shown_line (var_line number discrete lower (end_of upper) name.now (list_of e))) result out.new }
+    ensures { Written out.old 0 (shown_line (var_line number discrete lower upper name.now (list_of e))) result out.new }
 {
     let at = put_text(out, 0, b"var");
     let at = number_field(out, at, number);
@@ -281,12 +280,12 @@ pub fn end(out: &mut [u8]) -> usize
 // The span of a row: its least and its greatest value, and whether it is idle.
 pub fn span(
     number: usize,
-    least: rows::End,
-    greatest: rows::End,
+    least: Option<value::Value>,
+    greatest: Option<value::Value>,
     idle: bool,
     out: &mut [u8],
 ) -> usize
-    ensures { Written out.old 0 (shown_span number (end_of least) (end_of greatest) idle) result out.new }
+    ensures { Written out.old 0 (shown_span number least greatest idle) result out.new }
 {
     let at = put_text(out, 0, b"span");
     let at = number_field(out, at, number);

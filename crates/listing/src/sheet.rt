@@ -7,7 +7,6 @@ ghost use Rattle.language.specs.Listing.{lp_line, col_line, ending_line, kind_by
 ghost use Rattle.language.specs.Listing as Listing;
 ghost use Rattle.listing.specs.Shown.{shown_line, shown_lines};
 ghost use Rattle.rows.specs.Read.{value_of};
-ghost use Rattle.rows.specs.End.{end_of};
 ghost use Rattle.listing.specs.Kinds.{kind_in};
 ghost use Rattle.listing.specs.Sheet.Columns.{cell_lines, column_from, columns_from};
 ghost use Rattle.listing.specs.Sheet.Strings.{name_at, string_at, title_of, within};
@@ -91,26 +90,26 @@ fn last_line(out: &mut [u8], at: usize) -> usize
 // ---- rows
 
 // The kind of a row, by whether it is one of `=` and by its floor.
-pub fn kind_of(equal: bool, floor: rows::End) -> super::Kind
-    ensures { kind_in result ≡ cond equal Listing.equal (kind_by (end_of floor)) }
+pub fn kind_of(equal: bool, floor: Option<value::Value>) -> super::Kind
+    ensures { kind_in result ≡ cond equal Listing.equal (kind_by floor) }
 {
     if equal {
         return super::Kind::Equal;
     }
     match floor {
-        rows::End::None => super::Kind::Less,
-        rows::End::At(v) => super::Kind::Range,
+        None => super::Kind::Less,
+        Some(v) => super::Kind::Range,
     }
 }
 
 // The line of a floor, if there is one.
-fn floor_line(row: usize, floor: rows::End, out: &mut [u8], at: usize) -> usize
+fn floor_line(row: usize, floor: Option<value::Value>, out: &mut [u8], at: usize) -> usize
     requires { at < 2 ^ 41 }
-    ensures { (Written out.old at (shown_lines (low_lines row (end_of floor))) result out.new) × (result ≤ at + 128) }
+    ensures { (Written out.old at (shown_lines (low_lines row floor)) result out.new) × (result ≤ at + 128) }
 {
     match floor {
-        rows::End::None => at,
-        rows::End::At(v) => {
+        None => at,
+        Some(v) => {
             let from = super::rest_from(out.len(), at);
             at + super::low(row, v, &mut out[from..])
         }

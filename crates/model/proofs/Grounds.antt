@@ -1,11 +1,11 @@
 -- What evaluation needs of the tables of a text whose structure was read.
+use Rattle.std.specs.Prelude.{Some, slice_get}
 use mathlib.Core.Path.{◌≡◌, refl, sym, ◌∙◌, subst}
 use mathlib.Core.Bool.{Bool}
-use mathlib.Core.Option.{some}
 use mathlib.Core.List.{List, [], ◌∷◌, ◌++◌, append_assoc, append-nil}
 use Prim.Native.Nat.{ℕ, zero, suc, ◌+◌, ◌*◌, ◌≤◌}
 use native.Mathlib.Omega.{arith}
-use lib.ListN.{length, take, drop, get_elem?, length-take}
+use lib.ListN.{length, take, drop, length-take}
 use Rattle.rules.specs.Limits.{name_limit}
 use Rattle.value.specs.declared.Value.{Value}
 use Rattle.value.specs.Decimal.{Valid}
@@ -39,7 +39,7 @@ record ToldAt (s ts ns : List ℕ) (before : List Name) (i : ℕ) (x : Name) : T
   place : x.place ≡ row_word ns i 0
   declares : Declares s ts before x.sort (row_word ns i 4)
 
-told_at : (s ts ns : List ℕ) (before names : List Name) (i : ℕ) (x : Name) → Told s ts ns before names → get_elem? names i ≡ some x → ToldAt s ts ns (before ++ take i names) i x
+told_at : (s ts ns : List ℕ) (before names : List Name) (i : ℕ) (x : Name) → Told s ts ns before names → slice_get names i ≡ Some x → ToldAt s ts ns (before ++ take i names) i x
 unfolding row_word
 told_at s ts [] before [] i x h e = absurd (let z : ◌≡◌ {A = ℕ} 0 1 = cc in omega arith)
 told_at s ts [] before (y ∷ ys) i x h e = absurd h
@@ -60,7 +60,7 @@ told_at s ts (p ∷ n ∷ k ∷ c ∷ q ∷ ns) before (y ∷ ys) (suc i) x h e 
       declares = rw (n, ← append_assoc before (y ∷ []) (take i ys)) r.declares;
     }
 
-few-at : (names : List Name) (i : ℕ) (x : Name) → AllFew names → get_elem? names i ≡ some x → FewIndices x.sort
+few-at : (names : List Name) (i : ℕ) (x : Name) → AllFew names → slice_get names i ≡ Some x → FewIndices x.sort
 few-at [] i x h e = absurd (let z : ◌≡◌ {A = ℕ} 0 1 = cc in omega arith)
 few-at (y ∷ ys) zero x h e = let d : y ≡ x = cc in subst (λ (x : Name). FewIndices x.sort) d h.0
 few-at (y ∷ ys) (suc i) x h e = few-at ys i x h.1 e

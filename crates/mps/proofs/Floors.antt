@@ -1,7 +1,7 @@
 -- Which rows have a floor, and the right sides of rows with a list of floors before those of the rows behind them.
+use Rattle.std.specs.Prelude.{Option, Some, None}
 use mathlib.Core.Path.{◌≡◌, refl, sym, ◌∙◌, ap}
 use mathlib.Core.Bool.{Bool, true, false}
-use mathlib.Core.Option.{Option, none, some}
 use mathlib.Core.List.{List, [], ◌∷◌, ◌++◌, map, append_assoc}
 use Prim.Native.Nat.{ℕ, suc, ◌+◌}
 use native.Mathlib.Omega.{arith}
@@ -11,8 +11,8 @@ use Rattle.mps.specs.Export.{right_head, floor_head, value_line, if_floor, first
 use Rattle.mps.specs.Reading.{first_has, later_have}
 
 abbrev pub has_floor : Option Value → Bool
-has_floor none = false
-has_floor (some w) = true
+has_floor None = false
+has_floor (Some w) = true
 
 pub first-has : (ws : List (Option Value)) → first_has (map has_floor ws) ≡ has_floor (first_floor ws)
 first-has [] = refl

@@ -1,8 +1,8 @@
 -- The sheet of an accepted text's problem is of document 01's form, and what a reader of its export reports is the listing without its strings,
 -- names and index values.
+use Rattle.std.specs.Prelude.{None, Option}
 use mathlib.Core.Path.{◌≡◌, refl, sym, ◌∙◌, ap, subst}
 use mathlib.Core.Bool.{Bool, true, false, cond}
-use mathlib.Core.Option.{Option, none}
 use mathlib.Core.List.{List, [], ◌∷◌, ◌++◌, map, append_assoc, append-nil}
 use Prim.Native.Nat.{ℕ, zero, suc, ◌+◌, ◌-◌, ◌≤◌}
 use native.Mathlib.Omega.{arith}
@@ -149,7 +149,7 @@ abbrev KindByFloor : Entry → Type 0
 KindByFloor e = kind_by e.floor ≡ kind_of e.source.constraint.relation
 
 abbrev NoFloor : Entry → Type 0
-NoFloor e = (Listing.equal ≡ kind_of e.source.constraint.relation) × (none ≡ e.floor)
+NoFloor e = (Listing.equal ≡ kind_of e.source.constraint.relation) × (None ≡ e.floor)
 
 kind-by-floor : (r : Relation) (s : Scope) (w : Option Value) (t : Bool) → FloorIs r s w → cond (is_equal r) false t ≡ true → kind_by w ≡ kind_of r
 kind-by-floor at_most s w t h e = ap kind_by h
@@ -157,7 +157,7 @@ kind-by-floor at_least s w t h e = ap kind_by h
 kind-by-floor Syntax.equal s w t h e = true-false (sym e)
 kind-by-floor (between f) s w t h e = ap kind_by h.1
 
-no-floor : (r : Relation) (s : Scope) (w : Option Value) (t : Bool) → FloorIs r s w → cond (is_equal r) t false ≡ true → (Listing.equal ≡ kind_of r) × (none ≡ w)
+no-floor : (r : Relation) (s : Scope) (w : Option Value) (t : Bool) → FloorIs r s w → cond (is_equal r) t false ≡ true → (Listing.equal ≡ kind_of r) × (None ≡ w)
 no-floor at_most s w t h e = true-false (sym e)
 no-floor at_least s w t h e = true-false (sym e)
 no-floor Syntax.equal s w t h e = (refl, sym h)
@@ -187,7 +187,7 @@ row_same n e k w ks ls a b h = rw (a, b, bare-append (low_lines n e.floor) ks, b
 equal-rows : (i : ℕ) (es : List Entry) → All NoFloor es → bare_lines (rows_from i [] (map entry_right es)) ≡ bare_lines (row_lines (suc i) es)
 unfolding rows_from row_lines low_lines
 equal-rows i [] h = refl
-equal-rows i (e ∷ es) h = row_same (suc i) e _ none _ _ h.0.0 h.0.1 (equal-rows (suc i) es h.1)
+equal-rows i (e ∷ es) h = row_same (suc i) e _ None _ _ h.0.0 h.0.1 (equal-rows (suc i) es h.1)
 
 all-rows : (i : ℕ) (es fs : List Entry) → All KindByFloor es → All NoFloor fs
     → bare_lines (rows_from i (map entry_floor es) (map entry_right (es ++ fs))) ≡ bare_lines (row_lines (suc i) (es ++ fs))

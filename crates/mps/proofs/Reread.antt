@@ -1,7 +1,7 @@
 -- The answer to every text, by the sheet that the reader finds or does not find.
+use Rattle.std.specs.Prelude.{Option, Some, None}
 use mathlib.Core.Path.{◌≡◌, refl, sym, ◌∙◌, subst}
 use mathlib.Core.Logic.{◌⊎◌, inl, inr}
-use mathlib.Core.Option.{Option, none, some}
 use mathlib.Core.List.{List}
 use Prim.Native.Nat.{ℕ}
 use Rattle.rules.specs.declared.Refusal.TheVariants.{Misplaced}
@@ -16,22 +16,22 @@ use Rattle.mps.proofs.Complete.{export-once, not-export}
 
 -- what is found is printed; 3 at 0 where nothing is
 abbrev pub outcome_of : Option Sheet → Outcome (List ℕ)
-outcome_of (some s) = done (bare_of s)
-outcome_of none = refused Misplaced 0
+outcome_of (Some s) = done (bare_of s)
+outcome_of None = refused Misplaced 0
 
 -- of the outcome of the reader
 pub rereads : (text : List ℕ) (n : ℕ) (P : Outcome (List ℕ) → Type 0) → P (outcome_of (sheet_in text) >>= fitted n) → Rereads text n P
 rereads text n P h = go (sheet_in text) refl h
   where
     go : (o : Option Sheet) → sheet_in text ≡ o → P (outcome_of o >>= fitted n) → Rereads text n P
-    go (some s) e h =
+    go (Some s) e h =
         let k = sound text s e in
         record {
           taken = λ t w. subst (λ s. P (fitted n (bare_of s))) (export-once s t k.0 w.formed (k.1 ∙ sym w.bytes)) h;
-          refuses = λ none. absurd (none s (record { formed = k.0; bytes = k.1 }));
+          refuses = λ no_sheet. absurd (no_sheet s (record { formed = k.0; bytes = k.1 }));
           decided = inl (s, record { formed = k.0; bytes = k.1 });
         }
-    go none e h =
+    go None e h =
         let no : (s : Sheet) → IsExport text s → ⊥ = λ s w. not-export text e s w.formed w.bytes in
         record { taken = λ s w. absurd (no s w); refuses = λ _. h; decided = inr no }
 

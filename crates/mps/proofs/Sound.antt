@@ -1,7 +1,7 @@
 -- What the reader finds is a sheet of document 01's form, and the text is its export.
+use Rattle.std.specs.Prelude.{Option, Some, None}
 use mathlib.Core.Path.{◌≡◌, refl, sym, ◌∙◌, ap, subst}
 use mathlib.Core.Bool.{Bool, true, false}
-use mathlib.Core.Option.{Option, none, some}
 use mathlib.Core.List.{List, [], ◌∷◌, ◌++◌, map, append_assoc, head-eq_of_cons-eq, tail-eq_of_cons-eq}
 use Prim.Native.Nat.{ℕ, zero, suc, ◌+◌, ◌-◌, ◌≤◌}
 use native.Mathlib.Omega.{arith}
@@ -42,13 +42,13 @@ unfolding floor_here
 floor-here i l w e = go (strip (floor_line (suc i)) l) refl w e
   where
     found : Option (List ℕ) → Read Bool
-    found o = elim o as (λ _. Read Bool) [ none ↦ record { what = false; rest = l } | some r ↦ record { what = true; rest = r } ]
+    found o = elim o as (λ _. Read Bool) [ None ↦ record { what = false; rest = l } | Some r ↦ record { what = true; rest = r } ]
 
     go : (o : Option (List ℕ)) → strip (floor_line (suc i)) l ≡ o → (w : Option Value) → has_floor w ≡ (found o).what → l ≡ if_floor w (λ _. floor_line (suc i)) ++ (found o).rest
-    go none p none e = refl
-    go none p (some w) e = absurd (let z : ◌≡◌ {A = ℕ} 0 1 = cc in omega arith)
-    go (some r) p none e = absurd (let z : ◌≡◌ {A = ℕ} 0 1 = cc in omega arith)
-    go (some r) p (some w) e = strip-is _ l r p
+    go None p None e = refl
+    go None p (Some w) e = absurd (let z : ◌≡◌ {A = ℕ} 0 1 = cc in omega arith)
+    go (Some r) p None e = absurd (let z : ◌≡◌ {A = ℕ} 0 1 = cc in omega arith)
+    go (Some r) p (Some w) e = strip-is _ l r p
 
 -- whatever their floors are
 record Named (k i : ℕ) (l : List ℕ) (q : Read (List Bool)) : Type 0 where
@@ -68,7 +68,7 @@ unfolding less_rows less_lines
 less-named zero i l = none_named zero i l
 less-named (suc k) i l = go (strip (less_line (suc i)) l) refl (less-named k (suc i))
   where
-    text : (r : List ℕ) → strip (less_line (suc i)) l ≡ some r → (q : Read (List Bool)) → Named k (suc i) (floor_here i r).rest q
+    text : (r : List ℕ) → strip (less_line (suc i)) l ≡ Some r → (q : Read (List Bool)) → Named k (suc i) (floor_here i r).rest q
         → (ws : List (Option Value)) → map has_floor ws ≡ (floor_here i r).what ∷ q.what → l ≡ less_lines i ws ++ q.rest
     text r p q h [] e = absurd (let z : ◌≡◌ {A = ℕ} 0 1 = cc in omega arith)
     text r p q h (w ∷ ws) e =
@@ -77,11 +77,11 @@ less-named (suc k) i l = go (strip (less_line (suc i)) l) refl (less-named k (su
 
     go : (o : Option (List ℕ)) → strip (less_line (suc i)) l ≡ o → ((r : List ℕ) → Named k (suc i) r (less_rows k (suc i) r))
         → Named (suc k) i l (elim o as (λ _. Read (List Bool)) [
-          | none ↦ record { what = []; rest = l }
-          | some r ↦ let f = floor_here i r in let q = less_rows k (suc i) f.rest in record { what = f.what ∷ q.what; rest = q.rest }
+          | None ↦ record { what = []; rest = l }
+          | Some r ↦ let f = floor_here i r in let q = less_rows k (suc i) f.rest in record { what = f.what ∷ q.what; rest = q.rest }
         ])
-    go none p h = none_named (suc k) i l
-    go (some r) p h = let t = h (floor_here i r).rest in record { text = text r p _ t; few = omega (arith, t.few) }
+    go None p h = none_named (suc k) i l
+    go (Some r) p h = let t = h (floor_here i r).rest in record { text = text r p _ t; few = omega (arith, t.few) }
 
 record Counted (k i : ℕ) (l : List ℕ) (q : Read ℕ) : Type 0 where
   text : l ≡ equal_lines q.what i ++ q.rest
@@ -94,22 +94,22 @@ equal-counted (suc k) i l = go (strip (equal_line (suc i)) l) refl (equal-counte
   where
     go : (o : Option (List ℕ)) → strip (equal_line (suc i)) l ≡ o → ((r : List ℕ) → Counted k (suc i) r (equal_rows k (suc i) r))
         → Counted (suc k) i l (elim o as (λ _. Read ℕ) [
-          | none ↦ record { what = 0; rest = l }
-          | some r ↦ let q = equal_rows k (suc i) r in record { what = suc q.what; rest = q.rest }
+          | None ↦ record { what = 0; rest = l }
+          | Some r ↦ let q = equal_rows k (suc i) r in record { what = suc q.what; rest = q.rest }
         ])
-    go none p h = record { text = refl; few = omega arith }
-    go (some r) p h = record { text = joined (equal_line (suc i)) _ l r _ (strip-is (equal_line (suc i)) l r p) (h r).text; few = omega (arith, (h r).few) }
+    go None p h = record { text = refl; few = omega arith }
+    go (Some r) p h = record { text = joined (equal_line (suc i)) _ l r _ (strip-is (equal_line (suc i)) l r p) (h r).text; few = omega (arith, (h r).few) }
 
 -- ---- columns
 
 -- in the row's floor
-again-taken : (w : Option Value) (j i : ℕ) (v : Value) (l : List ℕ) (q : Read (Unit {0})) → repeated (has_floor w) j i v l ≡ some q
+again-taken : (w : Option Value) (j i : ℕ) (v : Value) (l : List ℕ) (q : Read (Unit {0})) → repeated (has_floor w) j i v l ≡ Some q
     → l ≡ if_floor w (λ _. value_line (floor_cell_head (suc j) (suc i)) v) ++ q.rest
 unfolding repeated
-again-taken none j i v l q e = ap (λ (a : Read (Unit {0})). a.rest) (some-injective e)
-again-taken (some w) j i v l q e = word-taken (value_line (floor_cell_head (suc j) (suc i)) v) l q e
+again-taken None j i v l q e = ap (λ (a : Read (Unit {0})). a.rest) (some-injective e)
+again-taken (Some w) j i v l q e = word-taken (value_line (floor_cell_head (suc j) (suc i)) v) l q e
 
-cells-taken : (j k i : ℕ) (ws : List (Option Value)) (l : List ℕ) (q : Read (List Value)) → read_cells j k i (map has_floor ws) l ≡ some q → Taken (cell_lines j i ws) (Many Valid k) l q
+cells-taken : (j k i : ℕ) (ws : List (Option Value)) (l : List ℕ) (q : Read (List Value)) → read_cells j k i (map has_floor ws) l ≡ Some q → Taken (cell_lines j i ws) (Many Valid k) l q
 unfolding read_cells cell_by cell_lines is_zero
 cells-taken j zero i ws l q e = subst (Taken (cell_lines j i ws) (Many Valid 0) l) (some-injective e) (record { text = refl; fine = record { size = refl; all = tt } })
 cells-taken j (suc k) i ws l q e = go (strip (cell_head (suc j) (suc i)) l) refl (cells-taken j k (suc i) (later_floors ws)) (rw (first-has ws, later-have ws) at e)
@@ -127,13 +127,13 @@ cells-taken j (suc k) i ws l q e = go (strip (cell_head (suc j) (suc i)) l) refl
     read = read_cells j k (suc i) (map has_floor (later_floors ws))
 
     go : (o : Option (List ℕ)) → strip (cell_head (suc j) (suc i)) l ≡ o
-        → ((r : List ℕ) (p : Read (List Value)) → read r ≡ some p → Taken others (Many Valid k) r p)
-        → cell_by (repeated (has_floor (first_floor ws)) j i) read l o ≡ some q → Taken (cell_lines j i ws) (Many Valid (suc k)) l q
-    go none p ih e =
+        → ((r : List ℕ) (p : Read (List Value)) → read r ≡ Some p → Taken others (Many Valid k) r p)
+        → cell_by (repeated (has_floor (first_floor ws)) j i) read l o ≡ Some q → Taken (cell_lines j i ws) (Many Valid (suc k)) l q
+    go None p ih e =
         after (read l) _ q e λ vs a e.
         let t = ih l vs a in
         subst (Taken (cell_lines j i ws) (Many Valid (suc k)) l) (some-injective e) (record { text = t.text; fine = record { size = ap suc t.fine.size; all = (zero-valid, t.fine.all) } })
-    go (some r) p ih e =
+    go (Some r) p ih e =
         after (read_value r) _ q e λ v b e.
         after-unless (is_zero v.what) _ v.rest q e λ z e.
         after (repeated (has_floor (first_floor ws)) j i v.what v.rest) _ q e λ u c e.
@@ -148,7 +148,7 @@ cells-taken j (suc k) i ws l q e = go (strip (cell_head (suc j) (suc i)) l) refl
           fine = record { size = ap suc t.fine.size; all = (h.fine, t.fine.all) };
         })
 
-column-taken : (ws : List (Option Value)) (rows j : ℕ) (l : List ℕ) (q : Read Column) → read_column (map has_floor ws) rows j l ≡ some q → Taken (column_lines ws j) (ColumnFormed rows) l q
+column-taken : (ws : List (Option Value)) (rows j : ℕ) (l : List ℕ) (q : Read Column) → read_column (map has_floor ws) rows j l ≡ Some q → Taken (column_lines ws j) (ColumnFormed rows) l q
 unfolding read_column column_lines
 column-taken ws rows j l q e =
     after (read_cells j rows 0 (map has_floor ws) l) _ q e λ vs a e.
@@ -161,15 +161,15 @@ column-taken ws rows j l q e =
       fine = record { size = t.fine.size; cells = t.fine.all; objective = negate-valid v.what h.fine };
     })
 
-columns-taken : (ws : List (Option Value)) (rows k j : ℕ) (l : List ℕ) (q : Read (List Column)) → read_columns (map has_floor ws) rows k j l ≡ some q → Taken (columns_from ws j) (Few (ColumnFormed rows) k) l q
+columns-taken : (ws : List (Option Value)) (rows k j : ℕ) (l : List ℕ) (q : Read (List Column)) → read_columns (map has_floor ws) rows k j l ≡ Some q → Taken (columns_from ws j) (Few (ColumnFormed rows) k) l q
 unfolding read_columns columns_by columns_from
 columns-taken ws rows zero j l q e = subst (Taken (columns_from ws j) (Few (ColumnFormed rows) 0) l) (some-injective e) (record { text = refl; fine = record { size = omega arith; all = tt } })
 columns-taken ws rows (suc k) j l q e = go (strip (bytes " C") l) (columns-taken ws rows k (suc j)) e
   where
-    go : (o : Option (List ℕ)) → ((r : List ℕ) (p : Read (List Column)) → read_columns (map has_floor ws) rows k (suc j) r ≡ some p → Taken (columns_from ws (suc j)) (Few (ColumnFormed rows) k) r p)
-        → columns_by (read_column (map has_floor ws) rows j) (read_columns (map has_floor ws) rows k (suc j)) l o ≡ some q → Taken (columns_from ws j) (Few (ColumnFormed rows) (suc k)) l q
-    go none ih e = subst (Taken (columns_from ws j) (Few (ColumnFormed rows) (suc k)) l) (some-injective e) (record { text = refl; fine = record { size = omega arith; all = tt } })
-    go (some r) ih e =
+    go : (o : Option (List ℕ)) → ((r : List ℕ) (p : Read (List Column)) → read_columns (map has_floor ws) rows k (suc j) r ≡ Some p → Taken (columns_from ws (suc j)) (Few (ColumnFormed rows) k) r p)
+        → columns_by (read_column (map has_floor ws) rows j) (read_columns (map has_floor ws) rows k (suc j)) l o ≡ Some q → Taken (columns_from ws j) (Few (ColumnFormed rows) (suc k)) l q
+    go None ih e = subst (Taken (columns_from ws j) (Few (ColumnFormed rows) (suc k)) l) (some-injective e) (record { text = refl; fine = record { size = omega arith; all = tt } })
+    go (Some r) ih e =
         after (read_column (map has_floor ws) rows j l) _ q e λ c b e.
         after (read_columns (map has_floor ws) rows k (suc j) c.rest) _ q e λ cs a e.
         let h = column-taken ws rows j l c b in
@@ -192,13 +192,13 @@ unfolding discrete_lines
 discrete-some ws [] e = absurd (let z : ◌≡◌ {A = ℕ} 0 1 = cc in omega arith)
 discrete-some ws (c ∷ cs) e = refl
 
-discrete-taken : (ws : List (Option Value)) (rows : ℕ) (l : List ℕ) (q : Read (List Column)) → read_discrete (map has_floor ws) rows l ≡ some q → Taken (discrete_lines ws) (Few (ColumnFormed rows) variable_limit) l q
+discrete-taken : (ws : List (Option Value)) (rows : ℕ) (l : List ℕ) (q : Read (List Column)) → read_discrete (map has_floor ws) rows l ≡ Some q → Taken (discrete_lines ws) (Few (ColumnFormed rows) variable_limit) l q
 unfolding read_discrete discrete_by discrete_lines
 discrete-taken ws rows l q e = go (strip opening l) refl e
   where
-    go : (o : Option (List ℕ)) → strip opening l ≡ o → discrete_by (map has_floor ws) rows l o ≡ some q → Taken (discrete_lines ws) (Few (ColumnFormed rows) variable_limit) l q
-    go none p e = subst (Taken (discrete_lines ws) (Few (ColumnFormed rows) variable_limit) l) (some-injective e) (record { text = refl; fine = record { size = omega arith; all = tt } })
-    go (some r) p e =
+    go : (o : Option (List ℕ)) → strip opening l ≡ o → discrete_by (map has_floor ws) rows l o ≡ Some q → Taken (discrete_lines ws) (Few (ColumnFormed rows) variable_limit) l q
+    go None p e = subst (Taken (discrete_lines ws) (Few (ColumnFormed rows) variable_limit) l) (some-injective e) (record { text = refl; fine = record { size = omega arith; all = tt } })
+    go (Some r) p e =
         after (read_columns (map has_floor ws) rows variable_limit 0 r) _ q e λ cs a e.
         after-unless (is_none cs.what) _ cs.rest q e λ z e.
         after-word closing cs.rest _ q e λ s b e.
@@ -224,7 +224,7 @@ record SidesRead (bs : List Bool) (s : Sides) : Type 0 where
 abbrev side_lines : ℕ → Sides → List ℕ
 side_lines i s = right_lines i s.floors s.rights
 
-floor-taken : (b : Bool) (i : ℕ) (l : List ℕ) (q : Read (Option Value)) → read_floor b i l ≡ some q → Taken (λ w. if_floor w (λ v. value_line (floor_head (suc i)) v)) (FloorRead b) l q
+floor-taken : (b : Bool) (i : ℕ) (l : List ℕ) (q : Read (Option Value)) → read_floor b i l ≡ Some q → Taken (λ w. if_floor w (λ v. value_line (floor_head (suc i)) v)) (FloorRead b) l q
 unfolding read_floor
 floor-taken false i l q e = subst (Taken _ (FloorRead false) l) (some-injective e) (record { text = refl; fine = record { has = refl; valid = tt } })
 floor-taken true i l q e =
@@ -232,7 +232,7 @@ floor-taken true i l q e =
     let h = line_taken (floor_head (suc i)) l v b in
     subst (Taken _ (FloorRead true) l) (some-injective e) (record { text = h.text; fine = record { has = refl; valid = h.fine } })
 
-less-taken : (i : ℕ) (bs : List Bool) (l : List ℕ) (q : Read Sides) → read_less i bs l ≡ some q → Taken (side_lines i) (SidesRead bs) l q
+less-taken : (i : ℕ) (bs : List Bool) (l : List ℕ) (q : Read Sides) → read_less i bs l ≡ Some q → Taken (side_lines i) (SidesRead bs) l q
 unfolding read_less right_lines
 less-taken i [] l q e = subst (Taken (side_lines i) (SidesRead []) l) (some-injective e) (record { text = refl; fine = record { size = refl; has = refl; floors = tt; rights = tt } })
 less-taken i (b ∷ bs) l q e =
@@ -254,7 +254,7 @@ less-taken i (b ∷ bs) l q e =
       };
     })
 
-equal-taken : (k i : ℕ) (l : List ℕ) (q : Read (List Value)) → read_equal k i l ≡ some q → Taken (right_lines i []) (Many Valid k) l q
+equal-taken : (k i : ℕ) (l : List ℕ) (q : Read (List Value)) → read_equal k i l ≡ Some q → Taken (right_lines i []) (Many Valid k) l q
 unfolding read_equal right_lines
 equal-taken zero i l q e = subst (Taken (right_lines i []) (Many Valid 0) l) (some-injective e) (record { text = refl; fine = record { size = refl; all = tt } })
 equal-taken (suc k) i l q e =
@@ -270,18 +270,18 @@ equal-taken (suc k) i l q e =
 
 -- ---- bounds
 
-upper-taken : (j : ℕ) (l : List ℕ) (q : Read (Option Value)) → read_upper j l ≡ some q → Taken (upper_line j) ValidIfAny l q
+upper-taken : (j : ℕ) (l : List ℕ) (q : Read (Option Value)) → read_upper j l ≡ Some q → Taken (upper_line j) ValidIfAny l q
 unfolding read_upper upper_by upper_line
 upper-taken j l q e = go (strip (no_upper_line j) l) refl e
   where
-    go : (o : Option (List ℕ)) → strip (no_upper_line j) l ≡ o → upper_by j l o ≡ some q → Taken (upper_line j) ValidIfAny l q
-    go none p e =
+    go : (o : Option (List ℕ)) → strip (no_upper_line j) l ≡ o → upper_by j l o ≡ Some q → Taken (upper_line j) ValidIfAny l q
+    go None p e =
         after (line_value (upper_head j) l) _ q e λ v b e.
         let h = line_taken (upper_head j) l v b in
         subst (Taken (upper_line j) ValidIfAny l) (some-injective e) (record { text = h.text; fine = h.fine })
-    go (some r) p e = subst (Taken (upper_line j) ValidIfAny l) (some-injective e) (record { text = strip-is _ l r p; fine = tt })
+    go (Some r) p e = subst (Taken (upper_line j) ValidIfAny l) (some-injective e) (record { text = strip-is _ l r p; fine = tt })
 
-bounds-taken : (k j : ℕ) (l : List ℕ) (q : Read (List Bounds)) → read_bounds k j l ≡ some q → Taken (bound_lines j) (Many BoundsFormed k) l q
+bounds-taken : (k j : ℕ) (l : List ℕ) (q : Read (List Bounds)) → read_bounds k j l ≡ Some q → Taken (bound_lines j) (Many BoundsFormed k) l q
 unfolding read_bounds bound_lines
 bounds-taken zero j l q e = subst (Taken (bound_lines j) (Many BoundsFormed 0) l) (some-injective e) (record { text = refl; fine = record { size = refl; all = tt } })
 bounds-taken (suc k) j l q e =
@@ -304,7 +304,7 @@ record KindsTaken (l : List ℕ) (q : Read Kinds) : Type 0 where
   text : (ws : List (Option Value)) → map has_floor ws ≡ q.what.less → l ≡ less_lines 0 ws ++ (equal_lines q.what.equal (length ws) ++ q.rest)
   few : length q.what.less + q.what.equal ≤ row_limit
 
-kinds-taken : (l : List ℕ) (q : Read Kinds) → read_kinds l ≡ some q → KindsTaken l q
+kinds-taken : (l : List ℕ) (q : Read Kinds) → read_kinds l ≡ Some q → KindsTaken l q
 unfolding read_kinds
 kinds-taken l q e =
     let a = less_rows row_limit 0 l in
@@ -330,7 +330,7 @@ both-taken : (us : Read Sides) (vs : Read (List Value)) (l : List ℕ) → lengt
     → us.rest ≡ right_lines (length us.what.floors) [] vs.what ++ vs.rest → l ≡ right_lines 0 us.what.floors (us.what.rights ++ vs.what) ++ vs.rest
 both-taken us vs l h e f = rw (both-rights us.what.floors us.what.rights vs.what h) (joined (side_lines 0 us.what) _ l us.rest vs.rest e f)
 
-sheet-taken : (l : List ℕ) (q : Read Sheet) → read_sheet l ≡ some q → q.rest ≡ [] → IsExport l q.what
+sheet-taken : (l : List ℕ) (q : Read Sheet) → read_sheet l ≡ Some q → q.rest ≡ [] → IsExport l q.what
 unfolding read_sheet mps_of
 sheet-taken l q e =
     after-word (bytes "NAME MODEL\nROWS\n N OBJ\n") l _ q e λ l₁ t₁ e.
@@ -381,14 +381,14 @@ sheet-taken l q e =
           (onto (bytes "ENDATA\n") bs.rest l₀ [] t₀ z)))))))))));
     }
 
-pub sound : (text : List ℕ) (s : Sheet) → sheet_in text ≡ some s → Formed s × (mps_of s ≡ text)
+pub sound : (text : List ℕ) (s : Sheet) → sheet_in text ≡ Some s → Formed s × (mps_of s ≡ text)
 unfolding sheet_in
 sound text s e = go (read_sheet text) refl e
   where
-    last : (q : Read Sheet) (r : List ℕ) → q.rest ≡ r → read_sheet text ≡ some q → elim r as (λ _. Option Sheet) [ [] ↦ some q.what | b ∷ t ↦ none ] ≡ some s → Formed s × (mps_of s ≡ text)
+    last : (q : Read Sheet) (r : List ℕ) → q.rest ≡ r → read_sheet text ≡ Some q → elim r as (λ _. Option Sheet) [ [] ↦ Some q.what | b ∷ t ↦ None ] ≡ Some s → Formed s × (mps_of s ≡ text)
     last q [] z p e = let h = subst (IsExport text) (some-injective e) (sheet-taken text q p z) in (h.formed, h.text)
     last q (b ∷ t) z p e = absurd (none-some e)
 
-    go : (o : Option (Read Sheet)) → read_sheet text ≡ o → alone o ≡ some s → Formed s × (mps_of s ≡ text)
-    go none p e = absurd (none-some e)
-    go (some q) p e = last q q.rest refl p e
+    go : (o : Option (Read Sheet)) → read_sheet text ≡ o → alone o ≡ Some s → Formed s × (mps_of s ≡ text)
+    go None p e = absurd (none-some e)
+    go (Some q) p e = last q q.rest refl p e

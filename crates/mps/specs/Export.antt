@@ -1,7 +1,6 @@
 -- Request #101, the export: NAME, ROWS, COLUMNS, RHS, BOUNDS, ENDATA. All six heads are always there, and a line feed ends every line
 -- (decision 45). Fields are parted by one space, data lines start with one.
-use Rattle.std.specs.Prelude.{cond, List, [], ◌∷◌, ◌++◌, ℕ, zero, suc, length}
-use Rattle.std.proofs.Math.Option.{Option, none, some}
+use Rattle.std.specs.Prelude.{cond, List, [], ◌∷◌, ◌++◌, ℕ, zero, suc, length, Option, Some, None}
 use Rattle.rules.specs.Characters.{bytes, line_feed}
 use Rattle.value.specs.declared.Value.{Value}
 use Rattle.value.specs.Decimal.{negate, is_zero}
@@ -55,8 +54,8 @@ value_line h v = h ++ (printed v ++ (line_feed ∷ []))
 
 -- what a floor adds, if there is one
 abbrev pub if_floor : Option Value → (Value → List ℕ) → List ℕ
-if_floor none f = []
-if_floor (some w) f = f w
+if_floor None f = []
+if_floor (Some w) f = f w
 
 -- ---- the sections; i and j count rows and variables from 0. A floor's line follows its row's in each of them
 
@@ -72,7 +71,7 @@ equal_lines (suc k) i = equal_line (suc i) ++ equal_lines k (suc i)
 
 -- the floor of the next row, and those of the rows that follow; none behind the last of the list
 abbrev pub first_floor : List (Option Value) → Option Value
-first_floor [] = none
+first_floor [] = None
 first_floor (w ∷ ws) = w
 
 abbrev pub later_floors : List (Option Value) → List (Option Value)
@@ -106,8 +105,8 @@ right_lines i ws (v ∷ vs) =
     value_line (right_head (suc i)) v ++ (if_floor (first_floor ws) (λ w. value_line (floor_head (suc i)) w) ++ right_lines (suc i) (later_floors ws) vs)
 
 unfoldable pub upper_line : ℕ → Option Value → List ℕ
-upper_line j none = no_upper_line j
-upper_line j (some v) = value_line (upper_head j) v
+upper_line j None = no_upper_line j
+upper_line j (Some v) = value_line (upper_head j) v
 
 unfoldable pub bound_lines : ℕ → List Bounds → List ℕ
 bound_lines j [] = []

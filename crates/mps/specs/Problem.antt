@@ -1,6 +1,5 @@
 -- The sheet of a generated problem, and the export of an accepted model.
-use Rattle.std.proofs.Math.Option.{Option}
-use Rattle.std.specs.Prelude.{List, [], ◌∷◌, map, ℕ, zero, suc, ◌-◌, length, get_or}
+use Rattle.std.specs.Prelude.{List, [], ◌∷◌, map, ℕ, zero, suc, ◌-◌, length, get_or, Option}
 use Rattle.value.specs.declared.Value.{Value}
 use Rattle.value.specs.Decimal.{zero_value}
 use Rattle.language.specs.Numbering.{Entry, Lp, less_rows, equal_rows, rows, lower_of, upper_of}

@@ -1,12 +1,9 @@
 -- A reader of exports, which goes as the code goes. Nobody has to believe it: `proofs/Sound` and `proofs/Complete` show that it finds the
 -- sheet whose export a text is, and nothing where there is none.
-use Rattle.std.specs.Prelude.{Bool, true, false, cond, List, [], ◌∷◌, ◌++◌, ℕ, zero, suc, ◌+◌, ◌-◌, eqb, length}
-use Rattle.std.proofs.Math.Option.{Option, none, some}
+use Rattle.std.specs.Prelude.{Bool, true, false, cond, List, [], ◌∷◌, ◌++◌, ℕ, zero, suc, ◌+◌, ◌-◌, eqb, length, Option, Some, None}
 use Rattle.rules.specs.Characters.{bytes, line_feed}
 use Rattle.rules.specs.Limits.{row_limit, variable_limit}
 use Rattle.value.specs.declared.Value.{Value}
-use Rattle.value.specs.declared.Fit.{Fit}
-use Rattle.value.specs.declared.Fit.TheVariants.{Fits, TooBig}
 use Rattle.value.specs.Decimal.{zero_value, negate, is_zero}
 use Rattle.value.specs.Printed.{printed}
 use Rattle.value.proofs.ReadBack.{read_back}
@@ -24,8 +21,8 @@ Reader A = List ℕ → Option (Read A)
 
 module _ {A B : Type 0} where
   abbrev pub follow : Option (Read A) → (A → Reader B) → Option (Read B)
-  follow none f = none
-  follow (some r) f = f r.what r.rest
+  follow None f = None
+  follow (Some r) f = f r.what r.rest
 
   infixl 1 ◌>>=◌
   abbrev pub ◌>>=◌ : Reader A → (A → Reader B) → Reader B
@@ -33,24 +30,24 @@ module _ {A B : Type 0} where
 
 module _ {A : Type 0} where
   abbrev pub give : A → Reader A
-  give a = λ l. some (record { what = a; rest = l })
+  give a = λ l. Some (record { what = a; rest = l })
 
   -- nothing unless a test holds
   abbrev pub unless : Bool → Reader A → Reader A
-  unless true m = λ l. none
+  unless true m = λ l. None
   unless false m = m
 
 -- ---- words and values
 
 -- what follows a word
 unfoldable pub strip : List ℕ → List ℕ → Option (List ℕ)
-strip [] l = some l
-strip (b ∷ w) [] = none
-strip (b ∷ w) (c ∷ l) = elim (eqb b c) [ true ↦ strip w l | false ↦ none ]
+strip [] l = Some l
+strip (b ∷ w) [] = None
+strip (b ∷ w) (c ∷ l) = elim (eqb b c) [ true ↦ strip w l | false ↦ None ]
 
 abbrev pub as_read : Option (List ℕ) → Option (Read (Unit {0}))
-as_read none = none
-as_read (some l) = some (record { what = tt; rest = l })
+as_read None = None
+as_read (Some l) = Some (record { what = tt; rest = l })
 
 abbrev pub expect : List ℕ → Reader (Unit {0})
 expect w = λ l. as_read (strip w l)
@@ -59,16 +56,16 @@ unfoldable pub in_line : ℕ → Bool
 in_line b = cond (eqb b line_feed) false true
 
 -- the value whose print these bytes are
-unfoldable pub print_of : List ℕ → Fit → Option Value
-print_of f (Fits v) = cond (same_bytes (printed v) f) (some v) none
-print_of f TooBig = none
+unfoldable pub print_of : List ℕ → Option Value → Option Value
+print_of f (Some v) = cond (same_bytes (printed v) f) (Some v) None
+print_of f None = None
 
 unfoldable pub value_of : List ℕ → Option Value
 value_of f = print_of f (read_back f)
 
 abbrev pub value_then : Option Value → List ℕ → Option (Read Value)
-value_then none l = none
-value_then (some v) l = follow (as_read (strip (line_feed ∷ []) l)) (λ _. give v)
+value_then None l = None
+value_then (Some v) l = follow (as_read (strip (line_feed ∷ []) l)) (λ _. give v)
 
 -- a value and the line feed that follows it
 unfoldable pub read_value : Reader Value
@@ -84,14 +81,14 @@ line_value h = do
 
 -- whether a floor's line is here
 unfoldable pub floor_here : ℕ → List ℕ → Read Bool
-floor_here i l = elim (strip (floor_line (suc i)) l) [ none ↦ record { what = false; rest = l } | some r ↦ record { what = true; rest = r } ]
+floor_here i l = elim (strip (floor_line (suc i)) l) [ None ↦ record { what = false; rest = l } | Some r ↦ record { what = true; rest = r } ]
 
 -- rows from `<=` and `>=`, at most k, from row i on: which of them have a floor
 unfoldable pub less_rows : ℕ → ℕ → List ℕ → Read (List Bool)
 less_rows zero i l = record { what = []; rest = l }
 less_rows (suc k) i l = elim (strip (less_line (suc i)) l) [
-  | none ↦ record { what = []; rest = l }
-  | some r ↦
+  | None ↦ record { what = []; rest = l }
+  | Some r ↦
       let f = floor_here i r in
       let q = less_rows k (suc i) f.rest in
       record { what = f.what ∷ q.what; rest = q.rest }
@@ -101,8 +98,8 @@ less_rows (suc k) i l = elim (strip (less_line (suc i)) l) [
 unfoldable pub equal_rows : ℕ → ℕ → List ℕ → Read ℕ
 equal_rows zero i l = record { what = 0; rest = l }
 equal_rows (suc k) i l = elim (strip (equal_line (suc i)) l) [
-  | none ↦ record { what = 0; rest = l }
-  | some r ↦
+  | None ↦ record { what = 0; rest = l }
+  | Some r ↦
       let q = equal_rows k (suc i) r in
       record { what = suc q.what; rest = q.rest }
 ]
@@ -123,8 +120,8 @@ repeated true j i v = expect (value_line (floor_cell_head (suc j) (suc i)) v)
 
 -- a coefficient, if its line is here, and those of the rows that follow; a line with a zero is none
 unfoldable pub cell_by : (Value → Reader (Unit {0})) → Reader (List Value) → List ℕ → Option (List ℕ) → Option (Read (List Value))
-cell_by again m l none = follow (m l) (λ vs. give (zero_value ∷ vs))
-cell_by again m l (some r) = follow (read_value r) (λ v. unless (is_zero v) (again v >>= λ _. m >>= λ vs. give (v ∷ vs)))
+cell_by again m l None = follow (m l) (λ vs. give (zero_value ∷ vs))
+cell_by again m l (Some r) = follow (read_value r) (λ v. unless (is_zero v) (again v >>= λ _. m >>= λ vs. give (v ∷ vs)))
 
 -- the coefficients of variable j in k rows from row i on
 unfoldable pub read_cells : ℕ → ℕ → ℕ → List Bool → Reader (List Value)
@@ -139,8 +136,8 @@ read_column bs rows j = do
 
 -- a column, if one begins here, and those that follow
 unfoldable pub columns_by : Reader Column → Reader (List Column) → List ℕ → Option (List ℕ) → Option (Read (List Column))
-columns_by m ms l none = give [] l
-columns_by m ms l (some r) = follow (m l) (λ c. ms >>= λ cs. give (c ∷ cs))
+columns_by m ms l None = give [] l
+columns_by m ms l (Some r) = follow (m l) (λ c. ms >>= λ cs. give (c ∷ cs))
 
 -- at most k variables from variable j on, as far as lines of columns go
 unfoldable pub read_columns : List Bool → ℕ → ℕ → ℕ → Reader (List Column)
@@ -152,8 +149,8 @@ is_none [] = true
 is_none (c ∷ cs) = false
 
 unfoldable pub discrete_by : List Bool → ℕ → List ℕ → Option (List ℕ) → Option (Read (List Column))
-discrete_by bs rows l none = give [] l
-discrete_by bs rows l (some r) =
+discrete_by bs rows l None = give [] l
+discrete_by bs rows l (Some r) =
     follow (read_columns bs rows variable_limit 0 r) (λ cs. unless (is_none cs) (expect (bytes " M 'MARKER' 'INTEND'\n") >>= λ _. give cs))
 
 unfoldable pub read_discrete : List Bool → ℕ → Reader (List Column)
@@ -161,10 +158,10 @@ read_discrete bs rows = λ l. discrete_by bs rows l (strip (bytes " M 'MARKER' '
 
 -- a floor, if the row has one
 unfoldable pub read_floor : Bool → ℕ → Reader (Option Value)
-read_floor false i = give none
+read_floor false i = give None
 read_floor true i = do
   w ← line_value (floor_head (suc i))
-  give (some w)
+  give (Some w)
 
 -- the right sides and floors of the rows from `<=` and `>=`, from row i on
 pub record Sides : Type 0 where
@@ -187,8 +184,8 @@ read_equal (suc k) i = do
   give (v ∷ vs)
 
 unfoldable pub upper_by : ℕ → List ℕ → Option (List ℕ) → Option (Read (Option Value))
-upper_by j l (some r) = give none r
-upper_by j l none = follow (line_value (upper_head j) l) (λ v. give (some v))
+upper_by j l (Some r) = give None r
+upper_by j l None = follow (line_value (upper_head j) l) (λ v. give (Some v))
 
 unfoldable pub read_upper : ℕ → Reader (Option Value)
 read_upper j = λ l. upper_by j l (strip (no_upper_line j) l)
@@ -212,7 +209,7 @@ unfoldable pub read_kinds : Reader Kinds
 read_kinds = λ l.
     let a = less_rows row_limit 0 l in
     let b = equal_rows (row_limit - length a.what) (length a.what) a.rest in
-    some (record { what = record { less = a.what; equal = b.what }; rest = b.rest })
+    Some (record { what = record { less = a.what; equal = b.what }; rest = b.rest })
 
 unfoldable pub read_sheet : Reader Sheet
 read_sheet = do
@@ -231,8 +228,8 @@ read_sheet = do
 
 -- nothing may follow
 abbrev pub alone : Option (Read Sheet) → Option Sheet
-alone none = none
-alone (some r) = elim r.rest [ [] ↦ some r.what | b ∷ t ↦ none ]
+alone None = None
+alone (Some r) = elim r.rest [ [] ↦ Some r.what | b ∷ t ↦ None ]
 
 -- the sheet whose export a text is
 unfoldable pub sheet_in : List ℕ → Option Sheet

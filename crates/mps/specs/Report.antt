@@ -1,6 +1,5 @@
 -- Request #101, what the reader of an export prints: a listing's `row`, `low`, `var` and `col` lines without strings, names and index values.
-use Rattle.std.specs.Prelude.{cond, List, [], ◌∷◌, ◌++◌, ℕ, suc, ltb, length}
-use Rattle.std.proofs.Math.Option.{Option}
+use Rattle.std.specs.Prelude.{cond, List, [], ◌∷◌, ◌++◌, ℕ, suc, ltb, length, Option}
 use Rattle.rules.specs.Characters.{code, bytes}
 use Rattle.value.specs.declared.Value.{Value}
 use Rattle.value.specs.Decimal.{is_zero}

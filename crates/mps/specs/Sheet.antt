@@ -1,7 +1,6 @@
 -- A problem without its strings, names and index values: what an export keeps (decision 45). Rows and variables have no numbers here, their
 -- order numbers them, so a sheet is in document 01's order and has no gaps.
-use Rattle.std.specs.Prelude.{◌≡◌, List, ◌++◌, ℕ, ◌+◌, ◌≤◌, length}
-use Rattle.std.proofs.Math.Option.{Option}
+use Rattle.std.specs.Prelude.{◌≡◌, List, ◌++◌, ℕ, ◌+◌, ◌≤◌, length, Option}
 use Rattle.rules.specs.Limits.{row_limit, variable_limit}
 use Rattle.value.specs.declared.Value.{Value}
 use Rattle.value.specs.Decimal.{Valid}

@@ -1,7 +1,7 @@
 -- Sequences of readers and of walks, and the tokens that both pass: where a reader tests a token, the walk passes over it.
+use Rattle.std.specs.Prelude.{Option, Some, None}
 use mathlib.Core.Path.{◌≡◌, refl, sym, ◌∙◌, ap}
 use mathlib.Core.Bool.{Bool, true, false}
-use mathlib.Core.Option.{Option, none, some}
 use mathlib.Core.List.{List, [], ◌∷◌}
 use Prim.Native.Nat.{ℕ, zero, suc}
 use Rattle.rules.specs.declared.Refusal.{Refusal}
@@ -154,12 +154,12 @@ bracket-is c (suc n) ts p rest e = e
 -- ---- names
 
 -- a name's number does not depend on where it is used
-found_at : (l : List ℕ) (names : List Name) (i p : ℕ) (u : Used) → find l names i p ≡ some u → (used_number (find l names i 0) ≡ u.number) × (p ≡ u.place)
+found_at : (l : List ℕ) (names : List Name) (i p : ℕ) (u : Used) → find l names i p ≡ Some u → (used_number (find l names i 0) ≡ u.number) × (p ≡ u.place)
 unfolding find
 found_at l [] i p u e = absurd (none-some e)
 found_at l (x ∷ xs) i p u e = go (same_bytes l x.spelling) refl (found_at l xs (suc i) p u)
   where
-    go : (b : Bool) → same_bytes l x.spelling ≡ b → (find l xs (suc i) p ≡ some u → (used_number (find l xs (suc i) 0) ≡ u.number) × (p ≡ u.place))
+    go : (b : Bool) → same_bytes l x.spelling ≡ b → (find l xs (suc i) p ≡ Some u → (used_number (find l xs (suc i) 0) ≡ u.number) × (p ≡ u.place))
         → (used_number (find l (x ∷ xs) i 0) ≡ u.number) × (p ≡ u.place)
     go true d ih =
         let h = some-injective (rw (d, find) at e) in
@@ -176,13 +176,13 @@ pub record Named (names : List Name) (ts : List Token) (u : Used) (rest : List T
   pub at : token.place ≡ u.place
 
 module _ (names : List Name) where
-  pub known_is : (l : List ℕ) (p : ℕ) (ts : List Token) (u : Used) (rest : List Token) → known names l p ts ≡ read u rest → (find l names 0 p ≡ some u) × (ts ≡ rest)
+  pub known_is : (l : List ℕ) (p : ℕ) (ts : List Token) (u : Used) (rest : List Token) → known names l p ts ≡ read u rest → (find l names 0 p ≡ Some u) × (ts ≡ rest)
   unfolding known found
   known_is l p ts u rest e = go (find l names 0 p) e
     where
-      go : (o : Option Used) → found o p ts ≡ read u rest → (o ≡ some u) × (ts ≡ rest)
-      go none e = absurd (refused-done e)
-      go (some v) e = (ap some (same-what e), same_rest e)
+      go : (o : Option Used) → found o p ts ≡ read u rest → (o ≡ Some u) × (ts ≡ rest)
+      go None e = absurd (refused-done e)
+      go (Some v) e = (ap Some (same-what e), same_rest e)
 
   pub read_known-is : (ts : List Token) (u : Used) (rest : List Token) → read_known names ts ≡ read u rest → Named names ts u rest
   unfolding read_known demand name_of name_number

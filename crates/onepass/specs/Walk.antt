@@ -2,8 +2,7 @@
 -- before, so a sign that must stand there is passed over and not tested again. The body of a sum is walked anew for each
 -- number of its run; where it ends is found by its brackets. One theorem (proofs/Walked.antt) joins this to the trees: where
 -- a reader gives a tree, the walk of the same tokens gives the tree's value or refusal, and the same rest.
-use Rattle.std.specs.Prelude.{Bool, true, false, cond, ◌&&◌, ◌||◌, List, [], ◌∷◌, ℕ, zero, suc, eqb, ℤ}
-use Rattle.std.proofs.Math.Option.{Option, none, some}
+use Rattle.std.specs.Prelude.{Bool, true, false, cond, ◌&&◌, ◌||◌, List, [], ◌∷◌, ℕ, zero, suc, eqb, Option, Some, None, ℤ}
 use Rattle.std.specs.Int.Signed.{le_z}
 use Rattle.rules.specs.declared.Refusal.TheVariants.{Misplaced, BadName, Full, Outside, Missing}
 use Rattle.rules.specs.Limits.{token_limit, nesting_limit}
@@ -30,8 +29,8 @@ skip [] = done (record { what = tt; rest = [] })
 skip (t ∷ ts) = done (record { what = tt; rest = ts })
 
 abbrev pub used_number : Option Used → ℕ
-used_number none = 0
-used_number (some u) = u.number
+used_number None = 0
+used_number (Some u) = u.number
 
 -- the number of the name that a token spells
 unfoldable pub name_number : List Name → Kind → ℕ
@@ -164,8 +163,8 @@ walk_named F i p (Syntax.discrete d) s = refuse Misplaced p
 walk_named F i p (Syntax.continuous d) s = refuse Misplaced p
 
 unfoldable pub walk_found : Walk → ℕ → Option Used → Walk
-walk_found F p none s = refuse BadName p
-walk_found F p (some u) s = walk_named F u.number p u.sort s
+walk_found F p None s = refuse BadName p
+walk_found F p (Some u) s = walk_named F u.number p u.sort s
 
 -- the primary that a token at p begins
 unfoldable pub walk_primary_by : List Name → Walk → ℕ → Kind → Walk

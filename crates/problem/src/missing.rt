@@ -6,7 +6,7 @@ use elements::Step;
 use evaluator::steps::names;
 use evaluator::steps::scope::Scope;
 use evaluator::{Context, Passed};
-use store::{Element, Found};
+use store::Element;
 use tokens::sorts;
 
 // Does the table have a value of name i at an element?
@@ -15,8 +15,8 @@ fn is_given(table: &[u64], given: usize, i: usize, e: Element) -> bool
 {
     let key = store::key_of(i, e);
     match store::find(table, given, key) {
-        Found::At(_) => true,
-        Found::Nothing => false,
+        Some(_) => true,
+        None => false,
     }
 }
 

@@ -1,7 +1,7 @@
 -- The two ends of a row enclose its value at all numbers within the bounds.
+use Rattle.std.specs.Prelude.{Option, Some, None}
 use mathlib.Core.Path.{◌≡◌, refl, sym, ◌∙◌, ap, subst, subst₂}
 use mathlib.Core.Bool.{Bool, true, false, cond}
-use mathlib.Core.Option.{Option, none, some}
 use mathlib.Core.List.{List, [], ◌∷◌}
 use Prim.Native.Nat.{ℕ, suc, ◌+◌, ◌^◌, ◌<◌}
 use native.Mathlib.Omega.{arith}
@@ -12,8 +12,6 @@ use lib.IntN.{ℤ, pos, negsuc, ◌*ℤ◌, zero-*ℤ}
 use lib.Signed.{lt_z, le_z}
 use Rattle.rational.proofs.Integer.{*ℤ-id}
 use Rattle.value.specs.declared.Value.{Value}
-use Rattle.value.specs.declared.Fit.{Fit}
-use Rattle.value.specs.declared.Fit.TheVariants.{Fits, TooBig}
 use Rattle.value.specs.Rational.{ℚ, 𝟎, ◌⊕◌, ◌⊗◌, neg, ◌⊑◌}
 use Rattle.value.proofs.Rational.{⊑_refl, ⊑_trans, add_assoc, add-zero, zero-add, add_comm, add-mono-left, mul_comm, zero-mul, neg-mul, neg-neg, neg-zero, neg-mono, mul_mono}
 use Rattle.value.specs.Number.{exactly}
@@ -26,7 +24,7 @@ use Rattle.language.specs.Demand3.{BelowUpper}
 use Rattle.language.proofs.Outcome.{some-injective, none-some}
 use Rattle.language.proofs.Numbered.{true-false}
 use Rattle.language.proofs.Gathered.{dot}
-use Rattle.reach.specs.Reach.{is_negative, takes, if_fits, added, product, reach_from, reach}
+use Rattle.reach.specs.Reach.{is_negative, takes, added, product, reach_from, reach}
 
 -- q is beyond p: not below it on the way to the greatest, not above it on the way to the least
 abbrev pub Beyond : Bool → ℚ → ℚ → Type 0
@@ -88,39 +86,38 @@ sign c = go (lt_z c.m (pos 0)) refl
 
 -- ---- one column
 
-fits-some : (f : Fit) (v : Value) → if_fits f ≡ some v → f ≡ Fits v
-unfolding if_fits
-fits-some (Fits w) v e = ap Fits (some-injective e)
-fits-some TooBig v e = absurd (none-some e)
+fits-some : (f : Option Value) (v : Value) → f ≡ Some v → f ≡ Some v
+fits-some (Some w) v e = ap Some (some-injective e)
+fits-some None v e = absurd (none-some e)
 
 -- the bound that is taken is beyond every number within the bounds
-taken : (t : Bool) (l : Value) (u : Option Value) (b : Value) (q : ℚ) → exactly l ⊑ q → BelowUpper u q → cond t u (some l) ≡ some b → Beyond t q (exactly b)
+taken : (t : Bool) (l : Value) (u : Option Value) (b : Value) (q : ℚ) → exactly l ⊑ q → BelowUpper u q → cond t u (Some l) ≡ Some b → Beyond t q (exactly b)
 taken true l u b q h k e = subst (λ o. BelowUpper o q) e k
 taken false l u b q h k e = subst (λ v. exactly v ⊑ q) (some-injective e) h
 
 module _ (greatest : Bool) (c : Value) (q : ℚ) where
-  by_product : (o : Option Value) → ((b : Value) → o ≡ some b → Beyond (xor greatest (is_negative c)) q (exactly b)) → (w : Value) → product c o ≡ some w
+  by_product : (o : Option Value) → ((b : Value) → o ≡ Some b → Beyond (xor greatest (is_negative c)) q (exactly b)) → (w : Value) → product c o ≡ Some w
       → Beyond greatest (exactly c ⊗ q) (exactly w)
   unfolding product
-  by_product none h w e = absurd (none-some e)
-  by_product (some b) h w e =
+  by_product None h w e = absurd (none-some e)
+  by_product (Some b) h w e =
       subst (Beyond greatest (exactly c ⊗ q)) (sym (exactly-mul c b w (fits-some (product_of c b) w e)))
       (beyond-times greatest (is_negative c) (exactly c) q (exactly b) (sign c) (h b refl))
 
-  by-sum : (t : Value) (o : Option Value) → ((w : Value) → o ≡ some w → Beyond greatest (exactly c ⊗ q) (exactly w)) → (s : Value) → added t o ≡ some s
+  by-sum : (t : Value) (o : Option Value) → ((w : Value) → o ≡ Some w → Beyond greatest (exactly c ⊗ q) (exactly w)) → (s : Value) → added t o ≡ Some s
       → Beyond greatest (exactly t ⊕ exactly c ⊗ q) (exactly s)
   unfolding added
-  by-sum t none h s e = absurd (none-some e)
-  by-sum t (some w) h s e =
+  by-sum t None h s e = absurd (none-some e)
+  by-sum t (Some w) h s e =
       subst₂ (Beyond greatest) (add_comm (exactly c ⊗ q) (exactly t)) (add_comm (exactly w) (exactly t) ∙ sym (exactly-add t w s (fits-some (sum_of t w) s e)))
       (beyond-add greatest _ (exactly w) (exactly t) (h w refl))
 
   by-column : (t l : Value) (u : Option Value) → exactly l ⊑ q → BelowUpper u q
-      → (s : Value) → cond (is_zero c) (some t) (added t (product c (takes greatest c l u))) ≡ some s → Beyond greatest (exactly t ⊕ exactly c ⊗ q) (exactly s)
+      → (s : Value) → cond (is_zero c) (Some t) (added t (product c (takes greatest c l u))) ≡ Some s → Beyond greatest (exactly t ⊕ exactly c ⊗ q) (exactly s)
   unfolding takes
   by-column t l u low high s = go (is_zero c) refl
     where
-      go : (z : Bool) → is_zero c ≡ z → cond z (some t) (added t (product c (takes greatest c l u))) ≡ some s → Beyond greatest (exactly t ⊕ exactly c ⊗ q) (exactly s)
+      go : (z : Bool) → is_zero c ≡ z → cond z (Some t) (added t (product c (takes greatest c l u))) ≡ Some s → Beyond greatest (exactly t ⊕ exactly c ⊗ q) (exactly s)
       go true z e =
           subst₂ (Beyond greatest) (sym (add-zero _) ∙ ap (λ r. exactly t ⊕ r) (sym (zero-mul q) ∙ ap (λ r. r ⊗ q) (sym (exactly-is_zero c z)))) (ap exactly (some-injective e))
           (beyond-itself greatest (exactly t))
@@ -129,7 +126,7 @@ module _ (greatest : Bool) (c : Value) (q : ℚ) where
 -- ---- all columns
 
 module _ (greatest : Bool) (lower : ℕ → Value) (upper : ℕ → Option Value) where
-  open-end : (j : ℕ) (cs : Row) → reach_from greatest lower upper j cs none ≡ none
+  open-end : (j : ℕ) (cs : Row) → reach_from greatest lower upper j cs None ≡ None
   unfolding reach_from
   open-end j [] = refl
   open-end j (c ∷ cs) = refl
@@ -140,7 +137,7 @@ module _ (greatest : Bool) (lower : ℕ → Value) (upper : ℕ → Option Value
 
   pub enclosed-from : (j : ℕ) (cs : Row) (xs : List ℚ) → length cs ≡ length xs
       → ((k : ℕ) (q : ℚ) → At xs k q → InBounds (j + k) q)
-      → (t v : Value) → reach_from greatest lower upper j cs (some t) ≡ some v → Beyond greatest (exactly t ⊕ dot cs xs) (exactly v)
+      → (t v : Value) → reach_from greatest lower upper j cs (Some t) ≡ Some v → Beyond greatest (exactly t ⊕ dot cs xs) (exactly v)
   unfolding reach_from dot
   enclosed-from j [] xs long h t v e = subst₂ (Beyond greatest) (sym (add-zero _)) (ap exactly (some-injective e)) (beyond-itself greatest (exactly t))
   enclosed-from j (c ∷ cs) [] long h t v e = absurd (omega arith)
@@ -151,11 +148,11 @@ module _ (greatest : Bool) (lower : ℕ → Value) (upper : ℕ → Option Value
       here : InBounds j x
       here = let n : j + 0 ≡ j = omega arith in subst (λ i. InBounds i x) n (h 0 x refl)
 
-      go : (o : Option Value) → cond (is_zero c) (some t) (added t (product c (takes greatest c (lower j) (upper j)))) ≡ o → reach_from greatest lower upper (suc j) cs o ≡ some v
-          → ((t v : Value) → reach_from greatest lower upper (suc j) cs (some t) ≡ some v → Beyond greatest (exactly t ⊕ dot cs xs) (exactly v))
+      go : (o : Option Value) → cond (is_zero c) (Some t) (added t (product c (takes greatest c (lower j) (upper j)))) ≡ o → reach_from greatest lower upper (suc j) cs o ≡ Some v
+          → ((t v : Value) → reach_from greatest lower upper (suc j) cs (Some t) ≡ Some v → Beyond greatest (exactly t ⊕ dot cs xs) (exactly v))
           → Beyond greatest (exactly t ⊕ (exactly c ⊗ x ⊕ dot cs xs)) (exactly v)
-      go none d e ih = absurd (none-some (sym (open-end (suc j) cs) ∙ e))
-      go (some s) d e ih =
+      go None d e ih = absurd (none-some (sym (open-end (suc j) cs) ∙ e))
+      go (Some s) d e ih =
           subst (λ p. Beyond greatest p (exactly v)) (add_assoc _ _ _)
           (beyond-trans greatest _ (exactly s ⊕ dot cs xs) _
           (beyond-add greatest _ (exactly s) (dot cs xs) (by-column greatest c x t (lower j) (upper j) here.0 here.1 s d)) (ih s v e))
@@ -163,7 +160,7 @@ module _ (greatest : Bool) (lower : ℕ → Value) (upper : ℕ → Option Value
 -- an end of a row is beyond its value at all numbers within the bounds of the variables
 pub enclosed : (greatest : Bool) (p : Lp) (e : Entry) (xs : List ℚ) → length (coefficients_of e.fact) ≡ length xs
     → ((k : ℕ) (q : ℚ) → At xs k q → exactly (lower_of p.entries k) ⊑ q) → ((k : ℕ) (q : ℚ) → At xs k q → BelowUpper (upper_of p.entries k) q)
-    → (v : Value) → reach greatest p e ≡ some v → Beyond greatest (dot (coefficients_of e.fact) xs) (exactly v)
+    → (v : Value) → reach greatest p e ≡ Some v → Beyond greatest (dot (coefficients_of e.fact) xs) (exactly v)
 unfolding reach
 enclosed greatest p e xs long low high v r =
     subst (λ q. Beyond greatest q (exactly v)) (ap (λ q. q ⊕ dot (coefficients_of e.fact) xs) exactly-zero ∙ zero-add _)

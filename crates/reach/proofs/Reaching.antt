@@ -1,8 +1,8 @@
 -- Laws of what code makes of the tables: the bound that is taken, one column more, all columns; and that of every problem that the
 -- tables hold it is the definition's end of a row.
+use Rattle.std.specs.Prelude.{Option, Some, None}
 use mathlib.Core.Path.{◌≡◌, refl, sym, ◌∙◌, ap}
 use mathlib.Core.Bool.{Bool, true, false, not, cond, beq}
-use mathlib.Core.Option.{Option, none, some}
 use mathlib.Core.List.{List, [], ◌∷◌}
 use Prim.Native.Nat.{ℕ, zero, suc, ◌+◌, ◌-◌, ◌<◌, ◌≤◌}
 use native.Mathlib.Omega.{arith}
@@ -11,8 +11,6 @@ use lib.ListN.{length, get_or}
 use lib.IntN.{ℤ, pos}
 use lib.Signed.{lt_z}
 use Rattle.value.specs.declared.Value.{Value}
-use Rattle.value.specs.declared.Fit.{Fit}
-use Rattle.value.specs.declared.Fit.TheVariants.{Fits, TooBig}
 use Rattle.value.specs.Decimal.{Valid, zero_value, of_whole, is_zero, if_in_range, sum_of, product_of}
 use Rattle.value.proofs.Operations.{zero-valid, sum-valid, product-valid}
 use Rattle.value.proofs.Ranges.{valid-both}
@@ -20,16 +18,13 @@ use Rattle.language.specs.Listed.{At}
 use Rattle.language.specs.Valid.{ValidIfAny}
 use Rattle.language.specs.Numbering.{Row, Entry, Lp, xor, rows, less_rows, equal_rows, lower_of, upper_of}
 use Rattle.language.specs.Listing.{coefficients_of}
-use Rattle.rows.specs.declared.End.{End}
-use Rattle.rows.specs.declared.End.TheVariants as ends
 use Rattle.rows.specs.declared.Sizes.{Sizes}
-use Rattle.rows.specs.End.{end_of}
 use Rattle.rows.specs.Bounds.{lower_word, upper_word}
 use Rattle.rows.specs.Slots.{Slot}
 use Rattle.rows.specs.Read.{slot_at, count_at, value_of, lower_in, end_in}
 use Rattle.rows.specs.Held.{Held}
 use Rattle.rows.proofs.Held.{slot_held, value-told, lower-told, upper-told, row-valid, lower-held, upper-held}
-use Rattle.reach.specs.Reach.{is_negative, takes, if_fits, added, product, reach_from, reach}
+use Rattle.reach.specs.Reach.{is_negative, takes, added, product, reach_from, reach}
 use Rattle.reach.specs.Tables.{sum_in, added_in, column_in, Reaches}
 
 -- ---- what code answers
@@ -41,40 +36,40 @@ alike false true t e = ap not e
 alike false false t e = ap not e
 
 module _ (greatest : Bool) (c l : Value) (u : Option Value) where
-  pub takes-lower : (v : Value) → beq greatest (lt_z c.m (pos 0)) ≡ true → v ≡ l → end_of (ends.At v) ≡ takes greatest c l u
-  unfolding takes is_negative end_of
-  takes-lower v e h = rw (alike greatest (lt_z c.m (pos 0)) true e) (ap some h)
+  pub takes-lower : (v : Value) → beq greatest (lt_z c.m (pos 0)) ≡ true → v ≡ l → (Some v) ≡ takes greatest c l u
+  unfolding takes is_negative
+  takes-lower v e h = rw (alike greatest (lt_z c.m (pos 0)) true e) (ap Some h)
 
-  pub takes-upper : (r : End) → beq greatest (lt_z c.m (pos 0)) ≡ false → end_of r ≡ u → end_of r ≡ takes greatest c l u
+  pub takes-upper : (r : Option Value) → beq greatest (lt_z c.m (pos 0)) ≡ false → r ≡ u → r ≡ takes greatest c l u
   unfolding takes is_negative
   takes-upper r e h = rw (alike greatest (lt_z c.m (pos 0)) false e) h
 
-module _ (t c : Value) (o : End) where
-  pub added-open : o ≡ ends.None → end_of ends.None ≡ added_in t c (end_of o)
-  unfolding added_in end_of
+module _ (t c : Value) (o : Option Value) where
+  pub added-open : o ≡ None → None ≡ added_in t c o
+  unfolding added_in
   added-open e = rw e
 
-  pub added-unfit : (b : Value) (f : Fit) → o ≡ ends.At b → f ≡ if_in_range c b (product_of c b) → f ≡ TooBig → end_of ends.None ≡ added_in t c (end_of o)
-  unfolding added_in sum_in end_of
+  pub added-unfit : (b : Value) (f : Option Value) → o ≡ Some b → f ≡ if_in_range c b (product_of c b) → f ≡ None → None ≡ added_in t c o
+  unfolding added_in sum_in
   added-unfit b f e h k = rw (e, ← h, k)
 
-  pub added-sum-unfit : (b p : Value) (f g : Fit) → o ≡ ends.At b → f ≡ if_in_range c b (product_of c b) → f ≡ Fits p → g ≡ if_in_range t p (sum_of t p) → g ≡ TooBig
-      → end_of ends.None ≡ added_in t c (end_of o)
-  unfolding added_in sum_in end_of if_fits
+  pub added-sum-unfit : (b p : Value) (f g : Option Value) → o ≡ Some b → f ≡ if_in_range c b (product_of c b) → f ≡ Some p → g ≡ if_in_range t p (sum_of t p) → g ≡ None
+      → None ≡ added_in t c o
+  unfolding added_in sum_in
   added-sum-unfit b p f g e h k i j = rw (e, ← h, k, ← i, j)
 
-  pub added-sum : (b p s : Value) (f g : Fit) → o ≡ ends.At b → f ≡ if_in_range c b (product_of c b) → f ≡ Fits p → g ≡ if_in_range t p (sum_of t p) → g ≡ Fits s
-      → end_of (ends.At s) ≡ added_in t c (end_of o)
-  unfolding added_in sum_in end_of if_fits
+  pub added-sum : (b p s : Value) (f g : Option Value) → o ≡ Some b → f ≡ if_in_range c b (product_of c b) → f ≡ Some p → g ≡ if_in_range t p (sum_of t p) → g ≡ Some s
+      → (Some s) ≡ added_in t c o
+  unfolding added_in sum_in
   added-sum b p s f g e h k i j = rw (e, ← h, k, ← i, j)
 
 module _ (bounds : List ℕ) (greatest : Bool) (j : ℕ) (t c v : Value) (z : Bool) where
-  pub column-zero : v ≡ c → z ≡ is_zero v → z ≡ true → end_of (ends.At t) ≡ column_in bounds greatest j t c
-  unfolding column_in end_of
+  pub column-zero : v ≡ c → z ≡ is_zero v → z ≡ true → (Some t) ≡ column_in bounds greatest j t c
+  unfolding column_in
   column-zero e h k = rw (← e, ← h, k)
 
-  pub column-added : (o r : End) → v ≡ c → z ≡ is_zero v → z ≡ false → end_of o ≡ takes greatest v (lower_in (lower_word bounds j)) (end_in (upper_word bounds j))
-      → end_of r ≡ added_in t v (end_of o) → end_of r ≡ column_in bounds greatest j t c
+  pub column-added : (o r : Option Value) → v ≡ c → z ≡ is_zero v → z ≡ false → o ≡ takes greatest v (lower_in (lower_word bounds j)) (end_in (upper_word bounds j))
+      → r ≡ added_in t v o → r ≡ column_in bounds greatest j t c
   unfolding column_in
   column-added o r e h k i a = rw (← e, ← h, k, ← i) a
 
@@ -83,60 +78,58 @@ module _ (bounds : List ℕ) (greatest : Bool) (j : ℕ) (t c v : Value) (z : Bo
 -- i columns more, from variable j on
 unfoldable pub columns_in : List ℤ → List ℕ → ℕ → Bool → ℕ → ℕ → Option Value → Option Value
 columns_in m bounds k greatest zero j t = t
-columns_in m bounds k greatest (suc i) j none = none
-columns_in m bounds k greatest (suc i) j (some t) = columns_in m bounds k greatest i (suc j) (column_in bounds greatest j t (value_of (count_at m k j)))
+columns_in m bounds k greatest (suc i) j None = None
+columns_in m bounds k greatest (suc i) j (Some t) = columns_in m bounds k greatest i (suc j) (column_in bounds greatest j t (value_of (count_at m k j)))
 
 module _ (m : List ℤ) (bounds : List ℕ) (k : ℕ) (greatest : Bool) where
-  open-columns : (i j : ℕ) → columns_in m bounds k greatest i j none ≡ none
+  open-columns : (i j : ℕ) → columns_in m bounds k greatest i j None ≡ None
   unfolding columns_in
   open-columns zero j = refl
   open-columns (suc i) j = refl
 
   -- what is left of n columns from variable j on, with the sum t, ends as all of them
   pub record Reaching (n j : ℕ) (t : Value) : Type 0 where
-    pub same : columns_in m bounds k greatest (n - j) j (some t) ≡ columns_in m bounds k greatest n 0 (some zero_value)
+    pub same : columns_in m bounds k greatest (n - j) j (Some t) ≡ columns_in m bounds k greatest n 0 (Some zero_value)
 
   pub reaching-first : (n : ℕ) (t : Value) → t ≡ of_whole (pos 0) → Reaching n 0 t
   unfolding of_whole
   reaching-first n t e = record { same = let x : n - 0 ≡ n = omega arith in rw (x, e) }
 
-  column-more : (n j : ℕ) (t : Value) (z : ℤ) (o : End) → Reaching n j t → j < n → z ≡ count_at m k j → end_of o ≡ column_in bounds greatest j t (value_of z)
-      → columns_in m bounds k greatest (n - suc j) (suc j) (end_of o) ≡ columns_in m bounds k greatest n 0 (some zero_value)
+  column-more : (n j : ℕ) (t : Value) (z : ℤ) (o : Option Value) → Reaching n j t → j < n → z ≡ count_at m k j → o ≡ column_in bounds greatest j t (value_of z)
+      → columns_in m bounds k greatest (n - suc j) (suc j) o ≡ columns_in m bounds k greatest n 0 (Some zero_value)
   unfolding columns_in
   column-more n j t z o r h e c =
       let x : n - j ≡ suc (n - suc j) = omega arith in
       let same = rw x at r.same in
       rw (c, e) same
 
-  pub reaching-more : (n j : ℕ) (t : Value) (z : ℤ) (o : End) (s : Value) → Reaching n j t → j < n → z ≡ count_at m k j → end_of o ≡ column_in bounds greatest j t (value_of z)
-      → o ≡ ends.At s → Reaching n (j + 1) s
-  unfolding end_of
+  pub reaching-more : (n j : ℕ) (t : Value) (z : ℤ) (o : Option Value) (s : Value) → Reaching n j t → j < n → z ≡ count_at m k j → o ≡ column_in bounds greatest j t (value_of z)
+      → o ≡ Some s → Reaching n (j + 1) s
   reaching-more n j t z o s r h e c a = record { same = rw (add-one j) (rw a at (column-more n j t z o r h e c)) }
 
 -- ---- of valid values what code makes is what the definition says
 
-fits-valid : (f : Fit) → ((v : Value) → f ≡ Fits v → Valid v) → ValidIfAny (if_fits f)
-unfolding if_fits
-fits-valid (Fits v) h = h v refl
-fits-valid TooBig h = tt
+fits-valid : (f : Option Value) → ((v : Value) → f ≡ Some v → Valid v) → ValidIfAny f
+fits-valid (Some v) h = h v refl
+fits-valid None h = tt
 
 module _ (t : Value) (ht : Valid t) where
-  sum_told : (f : Fit) → ((v : Value) → f ≡ Fits v → Valid v) → sum_in t f ≡ added t (if_fits f)
-  unfolding sum_in added if_fits
-  sum_told (Fits p) h = ap if_fits (valid-both t p (sum_of t p) ht (h p refl))
-  sum_told TooBig h = refl
+  sum_told : (f : Option Value) → ((v : Value) → f ≡ Some v → Valid v) → sum_in t f ≡ added t f
+  unfolding sum_in added
+  sum_told (Some p) h = (valid-both t p (sum_of t p) ht (h p refl))
+  sum_told None h = refl
 
   added-told : (c : Value) (o : Option Value) → Valid c → ValidIfAny o → added_in t c o ≡ added t (product c o)
   unfolding added_in product added
-  added-told c none hc ho = refl
-  added-told c (some b) hc ho = ap (sum_in t) (valid-both c b (product_of c b) hc ho) ∙ sum_told (product_of c b) (λ v e. product-valid c b v e)
+  added-told c None hc ho = refl
+  added-told c (Some b) hc ho = ap (sum_in t) (valid-both c b (product_of c b) hc ho) ∙ sum_told (product_of c b) (λ v e. product-valid c b v e)
 
   added-valid : (o : Option Value) → ValidIfAny (added t o)
   unfolding added
-  added-valid none = tt
-  added-valid (some v) = fits-valid (sum_of t v) (λ s e. sum-valid t v s e)
+  added-valid None = tt
+  added-valid (Some v) = fits-valid (sum_of t v) (λ s e. sum-valid t v s e)
 
-  column-valid : (z : Bool) (o : Option Value) → ValidIfAny (cond z (some t) (added t o))
+  column-valid : (z : Bool) (o : Option Value) → ValidIfAny (cond z (Some t) (added t o))
   column-valid true o = ht
   column-valid false o = added-valid o
 
@@ -144,7 +137,7 @@ takes-valid : (greatest : Bool) (c l : Value) (u : Option Value) → Valid l →
 unfolding takes
 takes-valid greatest c l u hl hu = go (xor greatest (is_negative c))
   where
-    go : (b : Bool) → ValidIfAny (cond b u (some l))
+    go : (b : Bool) → ValidIfAny (cond b u (Some l))
     go true = hu
     go false = hl
 
@@ -159,7 +152,7 @@ module _ (m : List ℤ) (bounds : List ℕ) (k : ℕ) (greatest : Bool) (lower :
     valid_high : ValidIfAny (upper j)
 
   column-told : (j : ℕ) (c t : Value) → ColumnTold j c → Valid t
-      → column_in bounds greatest j t (value_of (count_at m k j)) ≡ cond (is_zero c) (some t) (added t (product c (takes greatest c (lower j) (upper j))))
+      → column_in bounds greatest j t (value_of (count_at m k j)) ≡ cond (is_zero c) (Some t) (added t (product c (takes greatest c (lower j) (upper j))))
   unfolding column_in
   column-told j c t h ht =
       rw (h.coefficient, h.low, h.high, added-told t ht c (takes greatest c (lower j) (upper j)) h.valid (takes-valid greatest c (lower j) (upper j) h.valid_low h.valid_high))
@@ -168,8 +161,8 @@ module _ (m : List ℤ) (bounds : List ℕ) (k : ℕ) (greatest : Bool) (lower :
       → columns_in m bounds k greatest (length cs) j t ≡ reach_from greatest lower upper j cs t
   unfolding columns_in reach_from
   columns-told j [] t h v = refl
-  columns-told j (c ∷ cs) none h v = refl
-  columns-told j (c ∷ cs) (some t) h v =
+  columns-told j (c ∷ cs) None h v = refl
+  columns-told j (c ∷ cs) (Some t) h v =
       let x : j + 0 ≡ j = omega arith in
       let first = rw x at (h 0 (omega arith)) in
       ap (columns_in m bounds k greatest (length cs) (suc j)) (column-told j c t first v)
@@ -181,12 +174,12 @@ module _ {slots bounds : List ℕ} {m : List ℤ} {sizes : Sizes} {p : Lp} (h : 
   slot i e a = slot_held p.variables slots m sizes.less sizes.equal p.entries h.rows i e a
 
   told : (greatest : Bool) (i : ℕ) (e : Entry) → At (rows p) i e
-      → columns_in m bounds (slot_at sizes.less i) greatest (length p.variables) 0 (some zero_value) ≡ reach greatest p e
+      → columns_in m bounds (slot_at sizes.less i) greatest (length p.variables) 0 (Some zero_value) ≡ reach greatest p e
   unfolding reach
   told greatest i e a =
       let s = (slot i e a).row in
       rw (← s.count)
-      (columns-told m bounds (slot_at sizes.less i) greatest (lower_of p.entries) (upper_of p.entries) 0 (coefficients_of e.fact) (some zero_value)
+      (columns-told m bounds (slot_at sizes.less i) greatest (lower_of p.entries) (upper_of p.entries) 0 (coefficients_of e.fact) (Some zero_value)
       (λ j g.
       let x : 0 + j ≡ j = omega arith in
       let b : j < length p.variables = omega (arith, s.count) in
@@ -208,25 +201,24 @@ module _ (greatest : Bool) (lower : ℕ → Value) (upper : ℕ → Option Value
   from-valid : (j : ℕ) (cs : Row) (t : Option Value) → ValidIfAny t → ValidIfAny (reach_from greatest lower upper j cs t)
   unfolding reach_from
   from-valid j [] t h = h
-  from-valid j (c ∷ cs) none h = tt
-  from-valid j (c ∷ cs) (some t) h = from-valid (suc j) cs _ (column-valid t h (is_zero c) _)
+  from-valid j (c ∷ cs) None h = tt
+  from-valid j (c ∷ cs) (Some t) h = from-valid (suc j) cs _ (column-valid t h (is_zero c) _)
 
 pub reach-valid : (greatest : Bool) (p : Lp) (e : Entry) → ValidIfAny (reach greatest p e)
 unfolding reach
-reach-valid greatest p e = from-valid greatest (lower_of p.entries) (upper_of p.entries) 0 (coefficients_of e.fact) (some zero_value) zero-valid
+reach-valid greatest p e = from-valid greatest (lower_of p.entries) (upper_of p.entries) 0 (coefficients_of e.fact) (Some zero_value) zero-valid
 
 -- ---- what `end_of` answers
 
 module _ (m : List ℤ) (bounds : List ℕ) (k : ℕ) (greatest : Bool) (n : ℕ) where
-  reaches : (r : End) → end_of r ≡ columns_in m bounds k greatest n 0 (some zero_value) → Reaches m bounds k n greatest r
+  reaches : (r : Option Value) → r ≡ columns_in m bounds k greatest n 0 (Some zero_value) → Reaches m bounds k n greatest r
   reaches r e = record { is = λ slots sizes p h c i f a q. e ∙ rw (q, c) (told h greatest i f a) }
 
-  pub reaches-open : (j : ℕ) (t : Value) (z : ℤ) (o : End) → Reaching m bounds k greatest n j t → j < n → z ≡ count_at m k j → end_of o ≡ column_in bounds greatest j t (value_of z)
-      → o ≡ ends.None → Reaches m bounds k n greatest ends.None
-  unfolding end_of
+  pub reaches-open : (j : ℕ) (t : Value) (z : ℤ) (o : Option Value) → Reaching m bounds k greatest n j t → j < n → z ≡ count_at m k j → o ≡ column_in bounds greatest j t (value_of z)
+      → o ≡ None → Reaches m bounds k n greatest None
   reaches-open j t z o r h e c a =
-      reaches ends.None (sym (open-columns m bounds k greatest (n - suc j) (suc j)) ∙ rw a at (column-more m bounds k greatest n j t z o r h e c))
+      reaches None (sym (open-columns m bounds k greatest (n - suc j) (suc j)) ∙ rw a at (column-more m bounds k greatest n j t z o r h e c))
 
-  pub reaches_end : (j : ℕ) (t : Value) → Reaching m bounds k greatest n j t → n ≤ j → Reaches m bounds k n greatest (ends.At t)
-  unfolding columns_in end_of
-  reaches_end j t r h = reaches (ends.At t) (let x : n - j ≡ 0 = omega arith in rw x at r.same)
+  pub reaches_end : (j : ℕ) (t : Value) → Reaching m bounds k greatest n j t → n ≤ j → Reaches m bounds k n greatest (Some t)
+  unfolding columns_in
+  reaches_end j t r h = reaches (Some t) (let x : n - j ≡ 0 = omega arith in rw x at r.same)

@@ -1,34 +1,29 @@
 -- The ends of a row as the tables of a problem tell them, whatever they hold; and what code answers of every problem that they hold.
-use Rattle.std.specs.Prelude.{◌≡◌, Bool, cond, List, ℕ, length, ℤ}
-use Rattle.std.proofs.Math.Option.{Option, none, some}
+use Rattle.std.specs.Prelude.{◌≡◌, Bool, cond, List, ℕ, length, ℤ, Option, Some, None}
 use Rattle.value.specs.declared.Value.{Value}
-use Rattle.value.specs.declared.Fit.{Fit}
-use Rattle.value.specs.declared.Fit.TheVariants.{Fits, TooBig}
 use Rattle.value.specs.Decimal.{is_zero, if_in_range, sum_of, product_of}
 use Rattle.language.specs.Listed.{At}
 use Rattle.language.specs.Numbering.{Entry, Lp, rows}
-use Rattle.rows.specs.declared.End.{End}
 use Rattle.rows.specs.declared.Sizes.{Sizes}
-use Rattle.rows.specs.End.{end_of}
 use Rattle.rows.specs.Bounds.{lower_word, upper_word}
 use Rattle.rows.specs.Read.{slot_at, lower_in, end_in}
 use Rattle.rows.specs.Held.{Held}
-use Rattle.reach.specs.Reach.{takes, if_fits, reach}
+use Rattle.reach.specs.Reach.{takes, reach}
 
 -- what code makes of a product that fits: the sum, if it fits too
-unfoldable pub sum_in : Value → Fit → Option Value
-sum_in t (Fits p) = if_fits (if_in_range t p (sum_of t p))
-sum_in t TooBig = none
+unfoldable pub sum_in : Value → Option Value → Option Value
+sum_in t (Some p) = (if_in_range t p (sum_of t p))
+sum_in t None = None
 
 unfoldable pub added_in : Value → Value → Option Value → Option Value
-added_in t c none = none
-added_in t c (some b) = sum_in t (if_in_range c b (product_of c b))
+added_in t c None = None
+added_in t c (Some b) = sum_in t (if_in_range c b (product_of c b))
 
 -- one column more: the sum t, and the coefficient c of variable j
 unfoldable pub column_in : List ℕ → Bool → ℕ → Value → Value → Option Value
-column_in bounds greatest j t c = cond (is_zero c) (some t) (added_in t c (takes greatest c (lower_in (lower_word bounds j)) (end_in (upper_word bounds j))))
+column_in bounds greatest j t c = cond (is_zero c) (Some t) (added_in t c (takes greatest c (lower_in (lower_word bounds j)) (end_in (upper_word bounds j))))
 
 -- of the row in slot k of every problem that the tables hold: row i, from 0
-pub record Reaches (m : List ℤ) (bounds : List ℕ) (k n : ℕ) (greatest : Bool) (r : End) : Type 0 where
+pub record Reaches (m : List ℤ) (bounds : List ℕ) (k n : ℕ) (greatest : Bool) (r : Option Value) : Type 0 where
   pub is : (slots : List ℕ) (sizes : Sizes) (p : Lp) → Held slots bounds m sizes p → n ≡ length p.variables
-      → (i : ℕ) (e : Entry) → At (rows p) i e → k ≡ slot_at sizes.less i → end_of r ≡ reach greatest p e
+      → (i : ℕ) (e : Entry) → At (rows p) i e → k ≡ slot_at sizes.less i → r ≡ reach greatest p e

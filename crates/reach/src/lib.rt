@@ -5,63 +5,61 @@
 ghost use Rattle.std.specs.Prelude.{◌≡◌};
 ghost use Rattle.rows.specs.Bounds.{lower_word, upper_word};
 ghost use Rattle.rows.specs.Read.{lower_in, end_in, value_of};
-ghost use Rattle.rows.specs.End.{end_of};
 ghost use Rattle.reach.specs.Reach.{takes};
 ghost use Rattle.reach.specs.Tables.{added_in, column_in, Reaches};
 
-use rows::End;
-use value::{Fit, Value};
+use value::Value;
 
 // The bound of variable j that an end of a row takes where its coefficient is c.
-fn taken(bounds: &[u64], j: usize, c: Value, greatest: bool) -> End
-    ensures { end_of result ≡ takes greatest c (lower_in (lower_word bounds.now j)) (end_in (upper_word bounds.now j)) }
+fn taken(bounds: &[u64], j: usize, c: Value, greatest: bool) -> Option<Value>
+    ensures { result ≡ takes greatest c (lower_in (lower_word bounds.now j)) (end_in (upper_word bounds.now j)) }
 {
     if greatest == (c.m < 0) {
-        return End::At(rows::lower_of(bounds, j));
+        return Some(rows::lower_of(bounds, j));
     }
     rows::upper_of(bounds, j)
 }
 
 // The sum t and c times a bound, if there is a bound and both fit.
-fn added(t: Value, c: Value, bound: End) -> End
-    ensures { end_of result ≡ added_in t c (end_of bound) }
+fn added(t: Value, c: Value, bound: Option<Value>) -> Option<Value>
+    ensures { result ≡ added_in t c bound }
 {
-    let End::At(b) = bound else {
-        return End::None;
+    let Some(b) = bound else {
+        return None;
     };
-    let Fit::Fits(p) = value::mul(c, b) else {
-        return End::None;
+    let Some(p) = value::mul(c, b) else {
+        return None;
     };
     match value::add(t, p) {
-        Fit::Fits(s) => End::At(s),
-        Fit::TooBig => End::None,
+        Some(s) => Some(s),
+        None => None,
     }
 }
 
 // The sum t with the column of variable j, whose coefficient has the count z.
-fn column(t: Value, z: i64, bounds: &[u64], j: usize, greatest: bool) -> End
-    ensures { end_of result ≡ column_in bounds.now greatest j t (value_of z) }
+fn column(t: Value, z: i64, bounds: &[u64], j: usize, greatest: bool) -> Option<Value>
+    ensures { result ≡ column_in bounds.now greatest j t (value_of z) }
 {
     let c = rows::value_of(z);
     if value::is_zero(c) {
-        return End::At(t);
+        return Some(t);
     }
     added(t, c, taken(bounds, j, c, greatest))
 }
 
 // The greatest or the least value of the row in slot k, over n variables.
-pub fn end_of(counts: &[i64], bounds: &[u64], k: usize, n: usize, greatest: bool) -> End
+pub fn end_of(counts: &[i64], bounds: &[u64], k: usize, n: usize, greatest: bool) -> Option<Value>
     ensures { Reaches counts.now bounds.now k n greatest result }
 {
     let mut t = value::of_whole(0);
     let mut j = 0;
     while j < n {
         let next = column(t, rows::count_at(counts, k, j), bounds, j, greatest);
-        let End::At(s) = next else {
-            return End::None;
+        let Some(s) = next else {
+            return None;
         };
         t = s;
         j += 1;
     }
-    End::At(t)
+    Some(t)
 }

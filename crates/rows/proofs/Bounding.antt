@@ -1,7 +1,7 @@
 -- Laws of bounds: one stated more, and what is no bound changes nothing.
+use Rattle.std.specs.Prelude.{Option, Some, None}
 use mathlib.Core.Path.{◌≡◌, refl, sym, ◌∙◌, ap}
 use mathlib.Core.Bool.{Bool, true, false, cond, ◌&&◌}
-use mathlib.Core.Option.{Option, none, some}
 use mathlib.Core.List.{List, [], ◌∷◌, ◌++◌}
 use Prim.Native.Nat.{ℕ, ◌+◌, ◌*◌, ◌<◌, ◌≤◌}
 use native.Mathlib.Omega.{arith}
@@ -84,25 +84,25 @@ kept_more larger (u ∷ l) v h k =
 -- ---- what is picked
 
 module _ (f : Entry → Option Value) where
-  picked_more : (es : List Entry) (e : Entry) (v : Value) → f e ≡ some v → picked f (es ++ (e ∷ [])) ≡ picked f es ++ (v ∷ [])
+  picked_more : (es : List Entry) (e : Entry) (v : Value) → f e ≡ Some v → picked f (es ++ (e ∷ [])) ≡ picked f es ++ (v ∷ [])
   unfolding picked
-  picked_more [] e v h = ap (λ (o : Option Value). elim o [ some v ↦ v ∷ [] | none ↦ [] ]) h
+  picked_more [] e v h = ap (λ (o : Option Value). elim o [ Some v ↦ v ∷ [] | None ↦ [] ]) h
   picked_more (d ∷ es) e v h = go (f d) (picked_more es e v h)
     where
       go : (o : Option Value) → picked f (es ++ (e ∷ [])) ≡ picked f es ++ (v ∷ [])
-          → elim o [ some w ↦ w ∷ picked f (es ++ (e ∷ [])) | none ↦ picked f (es ++ (e ∷ [])) ] ≡ elim o [ some w ↦ w ∷ picked f es | none ↦ picked f es ] ++ (v ∷ [])
-      go (some w) k = ap (λ (l : List Value). w ∷ l) k
-      go none k = k
+          → elim o [ Some w ↦ w ∷ picked f (es ++ (e ∷ [])) | None ↦ picked f (es ++ (e ∷ [])) ] ≡ elim o [ Some w ↦ w ∷ picked f es | None ↦ picked f es ] ++ (v ∷ [])
+      go (Some w) k = ap (λ (l : List Value). w ∷ l) k
+      go None k = k
 
-  picked_same : (es : List Entry) (e : Entry) → f e ≡ none → picked f (es ++ (e ∷ [])) ≡ picked f es
+  picked_same : (es : List Entry) (e : Entry) → f e ≡ None → picked f (es ++ (e ∷ [])) ≡ picked f es
   unfolding picked
-  picked_same [] e h = ap (λ (o : Option Value). elim o [ some v ↦ v ∷ [] | none ↦ [] ]) h
+  picked_same [] e h = ap (λ (o : Option Value). elim o [ Some v ↦ v ∷ [] | None ↦ [] ]) h
   picked_same (d ∷ es) e h = go (f d) (picked_same es e h)
     where
       go : (o : Option Value) → picked f (es ++ (e ∷ [])) ≡ picked f es
-          → ◌≡◌ {A = List Value} (elim o [ some w ↦ w ∷ picked f (es ++ (e ∷ [])) | none ↦ picked f (es ++ (e ∷ [])) ]) (elim o [ some w ↦ w ∷ picked f es | none ↦ picked f es ])
-      go (some w) k = ap (λ (l : List Value). w ∷ l) k
-      go none k = k
+          → ◌≡◌ {A = List Value} (elim o [ Some w ↦ w ∷ picked f (es ++ (e ∷ [])) | None ↦ picked f (es ++ (e ∷ [])) ]) (elim o [ Some w ↦ w ∷ picked f es | None ↦ picked f es ])
+      go (Some w) k = ap (λ (l : List Value). w ∷ l) k
+      go None k = k
 
 -- the word of the one that is kept, after one entry more
 pub record Kept (larger : Bool) (l : List Value) (w : ℕ) : Type 0 where
@@ -111,18 +111,18 @@ pub record Kept (larger : Bool) (l : List Value) (w : ℕ) : Type 0 where
 
 -- a word after one bound more, or none
 abbrev stated_if_any : Bool → ℕ → Option Value → ℕ
-stated_if_any larger w (some v) = stated_word larger w v
-stated_if_any larger w none = w
+stated_if_any larger w (Some v) = stated_word larger w v
+stated_if_any larger w None = w
 
 kept_next : (larger : Bool) (f : Entry → Option Value) (es : List Entry) (e : Entry) (o : Option Value) (w : ℕ) → Kept larger (picked f es) w → ValidIfAny o → f e ≡ o
     → Kept larger (picked f (es ++ (e ∷ []))) (stated_if_any larger w o)
-kept_next larger f es e (some v) w h d g =
+kept_next larger f es e (Some v) w h d g =
     rw (picked_more f es e v g)
     (record {
       word = ap (λ (x : ℕ). stated_word larger x v) h.word ∙ sym (kept_more larger (picked f es) v h.valid d);
       valid = all-with Valid (picked f es) v h.valid d;
     })
-kept_next larger f es e none w h d g = rw (picked_same f es e g) h
+kept_next larger f es e None w h d g = rw (picked_same f es e g) h
 
 -- ---- words of the table
 
@@ -211,11 +211,11 @@ module _ (t : List ℕ) (j : ℕ) where
   unfolding floor_stated
   floor-in w v t' z e f = rw (ne_eqb w 0 z) (f ∙ ap (bound_stated t j true false) e)
 
-  floor-none : floor_stated t j (floor_word none) ≡ t
+  floor-none : floor_stated t j (floor_word None) ≡ t
   unfolding floor_word
   floor-none = sym (floor-out 0 refl)
 
-  floor-some : (v : Value) → Valid v → floor_stated t j (floor_word (some v)) ≡ bound_stated t j true false v
+  floor-some : (v : Value) → Valid v → floor_stated t j (floor_word (Some v)) ≡ bound_stated t j true false v
   unfolding floor_word
   floor-some v h = sym (floor-in (packed v) v _ (packed_above v h) (sym (unpacked-packed v h.small h.places)) refl)
 
@@ -224,27 +224,27 @@ module _ (t : List ℕ) (j : ℕ) (lower upper : Bool) (v : Value) (o : Option V
   abbrev stated : List ℕ
   stated = floor_stated (bound_stated t j lower upper v) j (floor_word o)
 
-  lower-both : (lower ≡ true → o ≡ none) → j * 2 < length t → lower_word stated j ≡ stated_if_any true (lower_word t j) (cond lower (some v) o)
+  lower-both : (lower ≡ true → o ≡ None) → j * 2 < length t → lower_word stated j ≡ stated_if_any true (lower_word t j) (cond lower (Some v) o)
   lower-both one h = go o d lower one
     where
-      go : (o : Option Value) → ValidIfAny o → (lower : Bool) → (lower ≡ true → o ≡ none)
-          → lower_word (floor_stated (bound_stated t j lower upper v) j (floor_word o)) j ≡ stated_if_any true (lower_word t j) (cond lower (some v) o)
-      go none d true one = ap (λ (x : List ℕ). lower_word x j) (floor-none _ j) ∙ lower-here t j true upper v h
-      go none d false one = ap (λ (x : List ℕ). lower_word x j) (floor-none _ j) ∙ lower-here t j false upper v h
-      go (some u) d true one = absurd (none-some (sym (one refl)))
-      go (some u) d false one =
+      go : (o : Option Value) → ValidIfAny o → (lower : Bool) → (lower ≡ true → o ≡ None)
+          → lower_word (floor_stated (bound_stated t j lower upper v) j (floor_word o)) j ≡ stated_if_any true (lower_word t j) (cond lower (Some v) o)
+      go None d true one = ap (λ (x : List ℕ). lower_word x j) (floor-none _ j) ∙ lower-here t j true upper v h
+      go None d false one = ap (λ (x : List ℕ). lower_word x j) (floor-none _ j) ∙ lower-here t j false upper v h
+      go (Some u) d true one = absurd (none-some (sym (one refl)))
+      go (Some u) d false one =
           ap (λ (x : List ℕ). lower_word x j) (floor-some _ j u d) ∙ lower-here (bound_stated t j false upper v) j true false u (omega (arith, bound-size t j false upper v))
           ∙ ap (λ (x : ℕ). stated_word true x u) (lower-here t j false upper v h)
 
-  upper-both : j * 2 + 1 < length t → upper_word stated j ≡ stated_if_any false (upper_word t j) (cond upper (some v) none)
+  upper-both : j * 2 + 1 < length t → upper_word stated j ≡ stated_if_any false (upper_word t j) (cond upper (Some v) None)
   upper-both h = go o d ∙ upper-here t j lower upper v h ∙ either upper
     where
       go : (o : Option Value) → ValidIfAny o → upper_word (floor_stated (bound_stated t j lower upper v) j (floor_word o)) j ≡ upper_word (bound_stated t j lower upper v) j
-      go none d = ap (λ (x : List ℕ). upper_word x j) (floor-none _ j)
-      go (some u) d =
+      go None d = ap (λ (x : List ℕ). upper_word x j) (floor-none _ j)
+      go (Some u) d =
           ap (λ (x : List ℕ). upper_word x j) (floor-some _ j u d) ∙ upper-here (bound_stated t j lower upper v) j true false u (omega (arith, bound-size t j lower upper v))
 
-      either : (b : Bool) → cond b (stated_word false (upper_word t j) v) (upper_word t j) ≡ stated_if_any false (upper_word t j) (cond b (some v) none)
+      either : (b : Bool) → cond b (stated_word false (upper_word t j) v) (upper_word t j) ≡ stated_if_any false (upper_word t j) (cond b (Some v) None)
       either true = refl
       either false = refl
 
@@ -252,40 +252,40 @@ module _ (t : List ℕ) (j : ℕ) (lower upper : Bool) (v : Value) (o : Option V
   both-other q a b = go o d ∙ word-other t j lower upper v q a b
     where
       go : (o : Option Value) → ValidIfAny o → get_or (floor_stated (bound_stated t j lower upper v) j (floor_word o)) q 0 ≡ get_or (bound_stated t j lower upper v) q 0
-      go none d = ap (λ (x : List ℕ). get_or x q 0) (floor-none _ j)
-      go (some u) d = ap (λ (x : List ℕ). get_or x q 0) (floor-some _ j u d) ∙ word-other (bound_stated t j lower upper v) j true false u q a b
+      go None d = ap (λ (x : List ℕ). get_or x q 0) (floor-none _ j)
+      go (Some u) d = ap (λ (x : List ℕ). get_or x q 0) (floor-some _ j u d) ∙ word-other (bound_stated t j lower upper v) j true false u q a b
 
 -- ---- one entry more
 
 -- what an entry states for variable i
-states-lower : (r : Relation) (s : Scope) (w : Option Value) (j : ℕ) (v : Value) → FloorIs r s w → lower_at r (bound j v) w j ≡ cond (states_lower r) (some v) w
+states-lower : (r : Relation) (s : Scope) (w : Option Value) (j : ℕ) (v : Value) → FloorIs r s w → lower_at r (bound j v) w j ≡ cond (states_lower r) (Some v) w
 states-lower at_most s w j v h = sym h
 states-lower at_least s w j v h = rw (eq-eqb j j refl)
 states-lower equal s w j v h = rw (eq-eqb j j refl)
 states-lower (between g) s w j v h = rw (eq-eqb j j refl)
 
-states-upper : (r : Relation) (j : ℕ) (v : Value) → upper_at r (bound j v) j ≡ cond (states_upper r) (some v) none
+states-upper : (r : Relation) (j : ℕ) (v : Value) → upper_at r (bound j v) j ≡ cond (states_upper r) (Some v) None
 states-upper at_most j v = rw (eq-eqb j j refl)
 states-upper at_least j v = refl
 states-upper equal j v = rw (eq-eqb j j refl)
 states-upper (between g) j v = rw (eq-eqb j j refl)
 
 -- it does not state lower bounds by both its right side and its floor
-lower-once : (r : Relation) (s : Scope) (w : Option Value) → FloorIs r s w → states_lower r ≡ true → w ≡ none
+lower-once : (r : Relation) (s : Scope) (w : Option Value) → FloorIs r s w → states_lower r ≡ true → w ≡ None
 lower-once at_most s w h e = h
 lower-once at_least s w h e = h
 lower-once equal s w h e = h
 lower-once (between g) s w h e = absurd (let u : ◌≡◌ {A = ℕ} 0 1 = cc in omega arith)
 
-no-floor : (f : Fact) (w : Option Value) (i : ℕ) → bound_at f i ≡ none → floor_for f w i ≡ none
+no-floor : (f : Fact) (w : Option Value) (i : ℕ) → bound_at f i ≡ None → floor_for f w i ≡ None
 no-floor (bound j v) w i e = go (eqb j i) e
   where
-    go : (b : Bool) → cond b (some v) none ≡ none → cond b w none ≡ none
+    go : (b : Bool) → cond b (Some v) None ≡ None → cond b w None ≡ None
     go true z = absurd (none-some (sym z))
     go false z = refl
 no-floor (row r v) w i e = refl
 
-no_bound : (f : Fact) (w : Option Value) (i : ℕ) → bound_at f i ≡ none → (r : Relation) → (lower_at r f w i ≡ none) × (upper_at r f i ≡ none)
+no_bound : (f : Fact) (w : Option Value) (i : ℕ) → bound_at f i ≡ None → (r : Relation) → (lower_at r f w i ≡ None) × (upper_at r f i ≡ None)
 no_bound f w i e at_most = (refl, e)
 no_bound f w i e at_least = (e, refl)
 no_bound f w i e equal = (e, e)
@@ -313,11 +313,11 @@ module _ (b b' : List ℕ) (n : ℕ) (es : List Entry) (e : Entry) (h : BoundsHe
   unfolding uppers_of
   upper-kept i o g d q s = rw s (kept_next false (λ e. upper_at e.source.constraint.relation e.fact i) es e o (upper_word b i) (held-upper i g) d q)
 
-  lower-same : (i : ℕ) → i < n → bound_at e.fact i ≡ none → lower_word b' i ≡ lower_word b i → Kept true (lowers_of (es ++ (e ∷ [])) i) (lower_word b' i)
-  lower-same i g q s = lower-kept i none g tt (no_bound e.fact e.floor i q e.source.constraint.relation).0 s
+  lower-same : (i : ℕ) → i < n → bound_at e.fact i ≡ None → lower_word b' i ≡ lower_word b i → Kept true (lowers_of (es ++ (e ∷ [])) i) (lower_word b' i)
+  lower-same i g q s = lower-kept i None g tt (no_bound e.fact e.floor i q e.source.constraint.relation).0 s
 
-  upper-same : (i : ℕ) → i < n → bound_at e.fact i ≡ none → upper_word b' i ≡ upper_word b i → Kept false (uppers_of (es ++ (e ∷ [])) i) (upper_word b' i)
-  upper-same i g q s = upper-kept i none g tt (no_bound e.fact e.floor i q e.source.constraint.relation).1 s
+  upper-same : (i : ℕ) → i < n → bound_at e.fact i ≡ None → upper_word b' i ≡ upper_word b i → Kept false (uppers_of (es ++ (e ∷ [])) i) (upper_word b' i)
+  upper-same i g q s = upper-kept i None g tt (no_bound e.fact e.floor i q e.source.constraint.relation).1 s
 
   -- a bound is stated
   module _ (j : ℕ) (v : Value) (lower upper : Bool) (q : e.fact ≡ bound j v) (lo : states_lower e.source.constraint.relation ≡ lower) (up : states_upper e.source.constraint.relation ≡ upper)
@@ -330,20 +330,20 @@ module _ (b b' : List ℕ) (n : ℕ) (es : List Entry) (e : Entry) (h : BoundsHe
     other : (k : ℕ) → (k ≡ j * 2 → ⊥) → (k ≡ j * 2 + 1 → ⊥) → get_or b' k 0 ≡ get_or b k 0
     other k y z = ap (λ (t : List ℕ). get_or t k 0) is ∙ both-other b j lower upper v e.floor vf k y z
 
-    nothing-else : (i : ℕ) → (i ≡ j → ⊥) → bound_at e.fact i ≡ none
+    nothing-else : (i : ℕ) → (i ≡ j → ⊥) → bound_at e.fact i ≡ None
     nothing-else i z = rw (q, ne_eqb j i (λ k. z (sym k)))
 
     lower-next : (i : ℕ) → i < n → Kept true (lowers_of (es ++ (e ∷ [])) i) (lower_word b' i)
     lower-next i g = go (ℕ_discrete i j)
       where
-        states : lower_at e.source.constraint.relation e.fact e.floor j ≡ cond lower (some v) e.floor
+        states : lower_at e.source.constraint.relation e.fact e.floor j ≡ cond lower (Some v) e.floor
         states = rw (q, sym lo) (states-lower e.source.constraint.relation c e.floor j v fl)
 
-        valid : (a : Bool) → ValidIfAny (cond a (some v) e.floor)
+        valid : (a : Bool) → ValidIfAny (cond a (Some v) e.floor)
         valid true = d
         valid false = vf
 
-        once : lower ≡ true → e.floor ≡ none
+        once : lower ≡ true → e.floor ≡ None
         once z = lower-once e.source.constraint.relation c e.floor fl (lo ∙ z)
 
         go : Dec (i ≡ j) → Kept true (lowers_of (es ++ (e ∷ [])) i) (lower_word b' i)
@@ -356,10 +356,10 @@ module _ (b b' : List ℕ) (n : ℕ) (es : List Entry) (e : Entry) (h : BoundsHe
     upper-next : (i : ℕ) → i < n → Kept false (uppers_of (es ++ (e ∷ [])) i) (upper_word b' i)
     upper-next i g = go (ℕ_discrete i j)
       where
-        states : upper_at e.source.constraint.relation e.fact j ≡ cond upper (some v) none
+        states : upper_at e.source.constraint.relation e.fact j ≡ cond upper (Some v) None
         states = rw (q, sym up) (states-upper e.source.constraint.relation j v)
 
-        valid : (a : Bool) → ValidIfAny (cond a (some v) none)
+        valid : (a : Bool) → ValidIfAny (cond a (Some v) None)
         valid true = d
         valid false = tt
 
@@ -377,11 +377,11 @@ module _ (b b' : List ℕ) (n : ℕ) (es : List Entry) (e : Entry) (h : BoundsHe
 pub row-passed : (b : List ℕ) (n : ℕ) (es : List Entry) (e : Entry) → BoundsHeld b n es → is_row e.fact ≡ true → BoundsHeld b n (es ++ (e ∷ []))
 row-passed b n es e h z = held_of b b n es e h (λ i g. lower-same b b n es e h i g (nothing i) refl) (λ i g. upper-same b b n es e h i g (nothing i) refl)
   where
-    go : (f : Fact) (i : ℕ) → is_row f ≡ true → bound_at f i ≡ none
+    go : (f : Fact) (i : ℕ) → is_row f ≡ true → bound_at f i ≡ None
     go (bound j v) i y = absurd (let u : ◌≡◌ {A = ℕ} 0 1 = cc in omega arith)
     go (row r v) i y = refl
 
-    nothing : (i : ℕ) → bound_at e.fact i ≡ none
+    nothing : (i : ℕ) → bound_at e.fact i ≡ None
     nothing i = go e.fact i z
 
 -- nothing is stated yet

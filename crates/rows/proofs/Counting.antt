@@ -1,4 +1,5 @@
 -- Laws of rows of counts: zeros, opposites, and a function at every count.
+use Rattle.std.specs.Prelude.{Some}
 use mathlib.Core.Path.{◌≡◌, refl, sym, ◌∙◌, ap}
 use mathlib.Core.Bool.{true, false}
 use mathlib.Core.List.{List, [], ◌∷◌, map}
@@ -14,7 +15,6 @@ use mir.Syntax.{w64}
 use mir.Val.{SFits}
 use Rattle.rules.specs.Limits.{scale_limit}
 use Rattle.value.specs.declared.Value.{Value}
-use Rattle.value.specs.declared.Fit.TheVariants.{Fits}
 use Rattle.rational.specs.Fraction.{opposite}
 use Rattle.rational.proofs.Fraction.{opposite-cong}
 use Rattle.value.specs.Decimal.{zero_value, tenths, negate}
@@ -64,7 +64,7 @@ map-zeros (z ∷ l) = ap (λ (m : List ℤ). pos 0 ∷ m) (map-zeros l)
 
 -- ---- zeros
 
-zero-count : of_millionths (pos 0) ≡ Fits zero_value
+zero-count : of_millionths (pos 0) ≡ Some zero_value
 unfolding millionths scale_limit
 zero-count = of_millionths-own zero_value zero-valid
 
@@ -72,7 +72,7 @@ pub row-zeros : (n : ℕ) → RowIs (replicate n (pos 0)) (replicate n zero_valu
 row-zeros n =
     record {
       size = length-replicate n (pos 0) ∙ sym (length-replicate n zero_value);
-      same = λ j h. let g : j < n = omega (arith, length-replicate n zero_value) in ap of_millionths (get_or-replicate n j (pos 0) (pos 0) g) ∙ zero-count ∙ ap Fits (sym (get_or-replicate n j zero_value zero_value g));
+      same = λ j h. let g : j < n = omega (arith, length-replicate n zero_value) in ap of_millionths (get_or-replicate n j (pos 0) (pos 0) g) ∙ zero-count ∙ ap Some (sym (get_or-replicate n j zero_value zero_value g));
     }
 
 pub zeros_of : (vs : List Variable) → RowOf vs (replicate (length vs) (pos 0)) (replicate (length vs) zero_value)
@@ -114,13 +114,13 @@ module _ (z : ℤ) where
   unfolding opposite tenths
   tenths-opposite s = refl
 
-  negated : (v : Value) → of_millionths z ≡ Fits v → of_millionths (neg_ℤ z) ≡ Fits (negate v)
+  negated : (v : Value) → of_millionths z ≡ Some v → of_millionths (neg_ℤ z) ≡ Some (negate v)
   unfolding of_millionths
   negated v e =
       fit_of-≈ _ (negate v) (negate-valid v (fit_of-valid _ v e))
       (rw (negate-exact v, tenths-opposite scale_limit) (opposite-cong _ _ (fit_of-exact _ v e)))
 
-  pub opposed-value : (v : Value) → of_millionths z ≡ Fits v → of_millionths (opposed z) ≡ Fits (negate v)
+  pub opposed-value : (v : Value) → of_millionths z ≡ Some v → of_millionths (opposed z) ≡ Some (negate v)
   opposed-value v e = ap of_millionths (opposed-count (count_small z v e)) ∙ negated v e
 
 opposed-zero : opposed (pos 0) ≡ pos 0
@@ -144,8 +144,8 @@ row-opposed l r h =
     there : (j : ℕ) → get_or (map negate r) j zero_value ≡ negate (get_or r j zero_value)
     there j = ap (λ (d : Value). get_or (map negate r) j d) (sym negate_zero) ∙ get_or-map negate r j zero_value
 
-    at : (j : ℕ) → j < length r → of_millionths (get_or (map opposed l) j (pos 0)) ≡ Fits (get_or (map negate r) j zero_value)
-    at j g = ap of_millionths (here j) ∙ opposed-value _ _ (h.same j g) ∙ ap Fits (sym (there j))
+    at : (j : ℕ) → j < length r → of_millionths (get_or (map opposed l) j (pos 0)) ≡ Some (get_or (map negate r) j zero_value)
+    at j g = ap of_millionths (here j) ∙ opposed-value _ _ (h.same j g) ∙ ap Some (sym (there j))
 
 -- under a sign
 pub row-negated : (l : List ℤ) (r : Row) → RowIs l r → RowIs (map opposed l) (map (signed true) r)

@@ -1,8 +1,8 @@
 -- Laws of what the tables of a problem tell: the row of a number, its coefficients, right side and floor, the bounds of a
 -- variable; and that each of these values is valid.
+use Rattle.std.specs.Prelude.{Option, Some, None}
 use mathlib.Core.Path.{◌≡◌, refl, sym, ◌∙◌, ap}
 use mathlib.Core.Logic.{inl, inr}
-use mathlib.Core.Option.{Option, none, some}
 use mathlib.Core.List.{List, [], ◌∷◌, ◌++◌}
 use Prim.Native.Nat.{ℕ, ◌-◌, ◌*◌, ◌<◌, ◌≤◌}
 use native.Mathlib.Omega.{arith}
@@ -77,7 +77,7 @@ unfolding end_in kept_word smallest
 upper-back [] h = refl
 upper-back (v ∷ l) h =
     let x = extreme-valid is_at_least v l h.0 h.1 in
-    rw (ne_eqb (packed (extreme is_at_least v l)) 0 (packed_above _ x)) (ap some (word_back _ x))
+    rw (ne_eqb (packed (extreme is_at_least v l)) 0 (packed_above _ x)) (ap Some (word_back _ x))
 
 module _ (es : List Entry) (j w : ℕ) where
   pub lower-told : w ≡ kept_word is_at_most (lowers_of es j) → All Valid (lowers_of es j) → lower_in w ≡ lower_of es j
@@ -92,8 +92,8 @@ module _ (es : List Entry) (j w : ℕ) where
 
 end_back : (o : Option Value) → ValidIfAny o → end_in (floor_word o) ≡ o
 unfolding end_in floor_word
-end_back none h = refl
-end_back (some v) h = rw (ne_eqb (packed v) 0 (packed_above v h)) (ap some (word_back v h))
+end_back None h = refl
+end_back (Some v) h = rw (ne_eqb (packed v) 0 (packed_above v h)) (ap Some (word_back v h))
 
 pub floor-told : (vs : List Variable) (t : List ℕ) (m : List ℤ) (k : ℕ) (e : Entry) → Slot vs t m k e → end_in (word_at t (floor_slot k)) ≡ e.floor
 floor-told vs t m k e h = ap end_in h.floor ∙ end_back e.floor h.valid_floor

@@ -1,7 +1,7 @@
 -- Laws of what is read of the tables: sizes, slots, counts, values and bounds.
+use Rattle.std.specs.Prelude.{Option, Some, None}
 use mathlib.Core.Path.{◌≡◌, refl, sym, ◌∙◌, ap}
 use mathlib.Core.Bool.{Bool, true, false, ◌&&◌}
-use mathlib.Core.Option.{some}
 use mathlib.Core.List.{List}
 use Prim.Native.Nat.{ℕ, ◌+◌, ◌-◌, ◌*◌, ◌<◌, ◌≤◌}
 use native.Mathlib.Omega.{arith}
@@ -11,8 +11,6 @@ use lib.ListN.{length, get_or, get_or-eq_default}
 use lib.IntN.{ℤ, pos}
 use Rattle.rules.specs.Limits.{variable_limit, row_limit, scale_limit}
 use Rattle.value.specs.declared.Value.{Value}
-use Rattle.value.specs.declared.Fit.{Fit}
-use Rattle.value.specs.declared.Fit.TheVariants.{Fits, TooBig}
 use Rattle.value.specs.Decimal.{zero_value, of_whole}
 use Rattle.value.specs.Gathering.{millionths, of_millionths}
 use Rattle.value.proofs.Gathering.{of_millionths-own}
@@ -21,8 +19,6 @@ use Rattle.value.proofs.Ranges.{and-false, and_left, and_right}
 use Rattle.store.specs.Table.{word_at}
 use Rattle.store.specs.Packed.{unpacked}
 use Rattle.rows.specs.declared.Sizes.{Sizes}
-use Rattle.rows.specs.declared.End.TheVariants.{None, At}
-use Rattle.rows.specs.End.{end_of}
 use Rattle.rows.specs.Slots.{floor_slot, less_slot, equal_slot}
 use Rattle.rows.specs.Bounds.{lower_word, upper_word}
 use Rattle.rows.specs.Read.{within, slot_at, count_at, fitted, value_of, lower_in, end_in}
@@ -82,11 +78,11 @@ pub count_none : (m : List ℤ) (k j : ℕ) → length m ≤ k * 512 + j → pos
 unfolding count_at
 count_none m k j h = sym (get_or-eq_default m (pos 0) h)
 
-pub value-fits : (z : ℤ) (f : Fit) (v : Value) → f ≡ of_millionths z → f ≡ Fits v → v ≡ value_of z
+pub value-fits : (z : ℤ) (f : Option Value) (v : Value) → f ≡ of_millionths z → f ≡ Some v → v ≡ value_of z
 unfolding value_of fitted
 value-fits z f v e g = rw (← e, g)
 
-pub value_none : (z : ℤ) (f : Fit) (v : Value) → f ≡ of_millionths z → f ≡ TooBig → v ≡ of_whole (pos 0) → v ≡ value_of z
+pub value_none : (z : ℤ) (f : Option Value) (v : Value) → f ≡ of_millionths z → f ≡ None → v ≡ of_whole (pos 0) → v ≡ value_of z
 unfolding value_of fitted of_whole
 value_none z f v e g h = h ∙ rw (← e, g)
 
@@ -106,13 +102,13 @@ module _ (w : ℕ) where
   unfolding lower_in
   lower-some v e h = rw (ne_eqb w 0 e) h
 
-  end_none : w ≡ 0 → end_of None ≡ end_in w
-  unfolding end_in end_of
+  end_none : w ≡ 0 → None ≡ end_in w
+  unfolding end_in
   end_none e = rw (eq-eqb w 0 e)
 
-  end-some : (v : Value) → (w ≡ 0 → ⊥) → v ≡ unpacked w → end_of (At v) ≡ end_in w
-  unfolding end_in end_of
-  end-some v e h = rw (ne_eqb w 0 e) (ap some h)
+  end-some : (v : Value) → (w ≡ 0 → ⊥) → v ≡ unpacked w → (Some v) ≡ end_in w
+  unfolding end_in
+  end-some v e h = rw (ne_eqb w 0 e) (ap Some h)
 
 module _ (b : List ℕ) (j : ℕ) where
   pub lower-past : (v : Value) → length b ≤ j → v ≡ of_whole (pos 0) → v ≡ lower_in (lower_word b j)
@@ -124,13 +120,13 @@ module _ (b : List ℕ) (j : ℕ) where
   pub lower-read : (w : ℕ) (v : Value) → w ≡ get_or b (j * 2) 0 → (w ≡ 0 → ⊥) → v ≡ unpacked w → v ≡ lower_in (lower_word b j)
   lower-read w v e z h = lower-some (lower_word b j) v (λ n. z (e ∙ n)) (h ∙ ap unpacked e)
 
-  pub upper-past : length b ≤ j → end_of None ≡ end_in (upper_word b j)
+  pub upper-past : length b ≤ j → None ≡ end_in (upper_word b j)
   upper-past h = end_none (upper_word b j) (get_or-eq_default b 0 (omega arith))
 
-  pub upper-zero : (w : ℕ) → w ≡ get_or b (j * 2 + 1) 0 → w ≡ 0 → end_of None ≡ end_in (upper_word b j)
+  pub upper-zero : (w : ℕ) → w ≡ get_or b (j * 2 + 1) 0 → w ≡ 0 → None ≡ end_in (upper_word b j)
   upper-zero w e z = end_none (upper_word b j) (sym e ∙ z)
 
-  pub upper-read : (w : ℕ) (v : Value) → w ≡ get_or b (j * 2 + 1) 0 → (w ≡ 0 → ⊥) → v ≡ unpacked w → end_of (At v) ≡ end_in (upper_word b j)
+  pub upper-read : (w : ℕ) (v : Value) → w ≡ get_or b (j * 2 + 1) 0 → (w ≡ 0 → ⊥) → v ≡ unpacked w → (Some v) ≡ end_in (upper_word b j)
   upper-read w v e z h = end-some (upper_word b j) v (λ n. z (e ∙ n)) (h ∙ ap unpacked e)
 
 -- ---- floors
@@ -139,8 +135,8 @@ module _ (t : List ℕ) (k q w : ℕ) (a : q ≡ floor_slot k) (b : w ≡ word_a
   same_word : w ≡ word_at t (floor_slot k)
   same_word = b ∙ ap (word_at t) a
 
-  pub no-floor : w ≡ 0 → end_of None ≡ end_in (word_at t (floor_slot k))
+  pub no-floor : w ≡ 0 → None ≡ end_in (word_at t (floor_slot k))
   no-floor z = end_none _ (sym same_word ∙ z)
 
-  pub floor-read : (v : Value) → (w ≡ 0 → ⊥) → v ≡ unpacked w → end_of (At v) ≡ end_in (word_at t (floor_slot k))
+  pub floor-read : (v : Value) → (w ≡ 0 → ⊥) → v ≡ unpacked w → (Some v) ≡ end_in (word_at t (floor_slot k))
   floor-read v z h = end-some _ v (λ n. z (same_word ∙ n)) (h ∙ ap unpacked same_word)

@@ -2,6 +2,5 @@ pub mod Counts
 pub mod Slots
 pub mod Bounds
 pub mod Problems
-pub mod End
 pub mod Read
 pub mod Held

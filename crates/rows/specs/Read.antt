@@ -1,10 +1,7 @@
 -- What is read of the tables of a problem.
-use Rattle.std.specs.Prelude.{Bool, cond, ◌&&◌, List, ℕ, ◌+◌, ◌-◌, ◌*◌, eqb, ltb, leb, get_or, ℤ, pos}
-use Rattle.std.proofs.Math.Option.{Option, none, some}
+use Rattle.std.specs.Prelude.{Bool, cond, ◌&&◌, List, ℕ, ◌+◌, ◌-◌, ◌*◌, eqb, ltb, leb, get_or, ℤ, pos, Option, Some, None}
 use Rattle.rules.specs.Limits.{variable_limit, row_limit}
 use Rattle.value.specs.declared.Value.{Value}
-use Rattle.value.specs.declared.Fit.{Fit}
-use Rattle.value.specs.declared.Fit.TheVariants.{Fits, TooBig}
 use Rattle.value.specs.Decimal.{zero_value}
 use Rattle.value.specs.Gathering.{of_millionths}
 use Rattle.store.specs.Packed.{unpacked}
@@ -24,9 +21,9 @@ unfoldable pub count_at : List ℤ → ℕ → ℕ → ℤ
 count_at m k j = get_or m (k * 512 + j) (pos 0)
 
 -- a value that fits; 0 for one that does not
-unfoldable pub fitted : Fit → Value
-fitted (Fits v) = v
-fitted TooBig = zero_value
+unfoldable pub fitted : Option Value → Value
+fitted (Some v) = v
+fitted None = zero_value
 
 unfoldable pub value_of : ℤ → Value
 value_of z = fitted (of_millionths z)
@@ -36,4 +33,4 @@ unfoldable pub lower_in : ℕ → Value
 lower_in w = cond (eqb w 0) zero_value (unpacked w)
 
 unfoldable pub end_in : ℕ → Option Value
-end_in w = cond (eqb w 0) none (some (unpacked w))
+end_in w = cond (eqb w 0) None (Some (unpacked w))

@@ -2,8 +2,7 @@
 -- text order; so a row keeps its slot while others come. A slot has two rows of the table (the constraint's number and element as
 -- their key; the right side as the word of one, the floor as that of the other, 0 where there is none) and a row of counts. The
 -- objective has a row of counts behind the slots, and one row more is spare; the rows of floors follow these.
-use Rattle.std.specs.Prelude.{◌≡◌, Bool, true, false, cond, List, ℕ, suc, ◌+◌, ◌-◌, ◌*◌, ◌≤◌, ltb, length, take, drop, ℤ}
-use Rattle.std.proofs.Math.Option.{Option, none, some}
+use Rattle.std.specs.Prelude.{◌≡◌, Bool, true, false, cond, List, ℕ, suc, ◌+◌, ◌-◌, ◌*◌, ◌≤◌, ltb, length, take, drop, ℤ, Option, Some, None}
 use Rattle.rules.specs.Limits.{row_limit, variable_limit}
 use Rattle.value.specs.declared.Value.{Value}
 use Rattle.value.specs.Decimal.{Valid}
@@ -43,8 +42,8 @@ floor_slot k = cond (ltb k (row_limit + 2)) (k + row_limit + 2) 0
 
 -- a floor's word
 unfoldable pub floor_word : Option Value → ℕ
-floor_word none = 0
-floor_word (some v) = packed v
+floor_word None = 0
+floor_word (Some v) = packed v
 
 -- what slot k holds
 pub record Slot (vs : List Variable) (t : List ℕ) (m : List ℤ) (k : ℕ) (e : Entry) : Type 0 where

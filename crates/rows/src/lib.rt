@@ -9,7 +9,6 @@ ghost use Rattle.store.specs.Table.{word_at};
 ghost use Rattle.rows.specs.Counts.{opposed};
 ghost use Rattle.rows.specs.Slots.{next_slot, floor_slot, one_more, counted_as, Wrote};
 ghost use Rattle.rows.specs.Bounds.{lower_word, upper_word, gives_way, stated_word, state_word, bound_stated, floor_stated};
-ghost use Rattle.rows.specs.End.{end_of};
 ghost use Rattle.rows.specs.Read.{within, slot_at, count_at, value_of, lower_in, end_in};
 
 // ---- rows of counts
@@ -267,27 +266,20 @@ pub fn value_of(z: i64) -> value::Value
     ensures { result ≡ value_of z }
 {
     match value::of_millionths(z) {
-        value::Fit::Fits(v) => v,
-        value::Fit::TooBig => value::of_whole(0),
+        Some(v) => v,
+        None => value::of_whole(0),
     }
-}
-
-// A variable's upper bound or a row's floor, which may be absent.
-#[derive(Clone, Copy)]
-pub enum End {
-    None,
-    At(value::Value),
 }
 
 // The floor of a slot, if it has one.
-pub fn floor_of(rows: &[u64], k: usize) -> End
-    ensures { end_of result ≡ end_in (word_at rows.now (floor_slot k)) }
+pub fn floor_of(rows: &[u64], k: usize) -> Option<value::Value>
+    ensures { result ≡ end_in (word_at rows.now (floor_slot k)) }
 {
     let w = store::word_at(rows, floor_slot(k));
     if w == 0 {
-        return End::None;
+        return None;
     }
-    End::At(store::unpack(w))
+    Some(store::unpack(w))
 }
 
 // The lower bound of variable j, from 0: that which is stated, or 0.
@@ -305,15 +297,15 @@ pub fn lower_of(bounds: &[u64], j: usize) -> value::Value
 }
 
 // The upper bound of variable j, from 0: that which is stated, or none.
-pub fn upper_of(bounds: &[u64], j: usize) -> End
-    ensures { end_of result ≡ end_in (upper_word bounds.now j) }
+pub fn upper_of(bounds: &[u64], j: usize) -> Option<value::Value>
+    ensures { result ≡ end_in (upper_word bounds.now j) }
 {
     if bounds.len() <= j {
-        return End::None;
+        return None;
     }
     let w = word(bounds, j * 2 + 1);
     if w == 0 {
-        return End::None;
+        return None;
     }
-    End::At(store::unpack(w))
+    Some(store::unpack(w))
 }

@@ -1,8 +1,8 @@
 -- A row's value at any numbers, one for each printed number of a variable, is that of its coefficients at an assignment to the
 -- variables.
+use Rattle.std.specs.Prelude.{Option, Some, None}
 use mathlib.Core.Path.{◌≡◌, refl, sym, ◌∙◌, ap, subst}
 use mathlib.Core.Bool.{true, cond}
-use mathlib.Core.Option.{Option, none, some}
 use mathlib.Core.List.{List, [], ◌∷◌, map}
 use Prim.Native.Nat.{ℕ, suc}
 use lib.Dec.{eqb}
@@ -56,8 +56,8 @@ rows_long m p e =
 
 module _ (vs : List Variable) (y : ℕ → ℚ) where
   abbrev number_at : Option ℕ → ℚ
-  number_at none = 𝟎
-  number_at (some j) = y (suc j)
+  number_at None = 𝟎
+  number_at (Some j) = y (suc j)
 
   unfoldable pub assigned : Variable → ℚ
   assigned v = number_at (number_of v.name v.element vs)

@@ -1,9 +1,9 @@
 -- The report of a generated problem says what it must: one line for each `L` and `E` row, in order, with ends that enclose the
 -- row's value, and `idle` where every assignment within the bounds meets the row.
+use Rattle.std.specs.Prelude.{Option, Some, None}
 use mathlib.Core.Path.{◌≡◌, refl, sym, ◌∙◌, ap, subst, subst₂}
 use mathlib.Core.Logic.{◌↔◌}
 use mathlib.Core.Bool.{Bool, true, false}
-use mathlib.Core.Option.{Option, none, some}
 use mathlib.Core.List.{List, [], ◌∷◌, ◌++◌, map}
 use Prim.Native.Nat.{ℕ, zero, suc, ◌+◌, ◌≤◌}
 use native.Mathlib.Omega.{arith}
@@ -35,14 +35,14 @@ use Rattle.spans.proofs.Assigned.{assigned, assigned-is, rows_long, row-value}
 
 -- ---- idle
 
-idle-means : (q : Kind) (o : Option Value) (v : Value) → is_idle q o v ≡ true → (q ≡ less) × (h : Value) × (o ≡ some h) × (exactly h ⊑ exactly v)
+idle-means : (q : Kind) (o : Option Value) (v : Value) → is_idle q o v ≡ true → (q ≡ less) × (h : Value) × (o ≡ Some h) × (exactly h ⊑ exactly v)
 unfolding is_idle
-idle-means less none v e = true-false (sym e)
-idle-means less (some h) v e = (refl, h, refl, is_at_most-yes h v e)
+idle-means less None v e = true-false (sym e)
+idle-means less (Some h) v e = (refl, h, refl, is_at_most-yes h v e)
 idle-means Listing.equal o v e = true-false (sym e)
 idle-means range o v e = true-false (sym e)
 
-means-idle : (h v : Value) → exactly h ⊑ exactly v → is_idle less (some h) v ≡ true
+means-idle : (h v : Value) → exactly h ⊑ exactly v → is_idle less (Some h) v ≡ true
 unfolding is_idle
 means-idle h v k = ⊑-isAtMost h v k
 
@@ -204,19 +204,19 @@ module _ (m : Model) (p : Lp) (made : generate m ≡ done p) where
         subst (λ q. (exactly (lower_of p.entries k) ⊑ q) × BelowUpper (upper_of p.entries k) q) same
         (h.above_lower (suc k) _ _ _ _ _ listed, h.below-upper (suc k) _ _ _ _ _ listed)
 
-    beyond : (greatest : Bool) (n i : ℕ) (e : Entry) → n ≡ suc i → At (rows p) i e → (v : Value) → some v ≡ reach greatest p e → Beyond greatest (row_value n y ls) (exactly v)
+    beyond : (greatest : Bool) (n i : ℕ) (e : Entry) → n ≡ suc i → At (rows p) i e → (v : Value) → Some v ≡ reach greatest p e → Beyond greatest (row_value n y ls) (exactly v)
     beyond greatest n i e same at v r =
         subst (λ q. Beyond greatest q (exactly v)) (sym (ap (λ k. row_value k y ls) same ∙ row-value m p made y i e at))
         (enclosed greatest p e (map (assigned p.variables y) p.variables) (rows_long m p made i e at ∙ sym (length-map p.variables (assigned p.variables y)))
         (λ k q at. (within k q at).0) (λ k q at. (within k q at).1) v (sym r))
 
     above-least : (n : ℕ) (l g : Option Value) (b : Bool) → OfRow p n l g b → AboveLeast l (row_value n y ls)
-    above-least n none g b o = tt
-    above-least n (some v) g b o = beyond false n o.number o.entry o.number_is o.at v o.least-is
+    above-least n None g b o = tt
+    above-least n (Some v) g b o = beyond false n o.number o.entry o.number_is o.at v o.least-is
 
     below-greatest : (n : ℕ) (l g : Option Value) (b : Bool) → OfRow p n l g b → BelowUpper g (row_value n y ls)
-    below-greatest n l none b o = tt
-    below-greatest n l (some v) b o = beyond true n o.number o.entry o.number_is o.at v o.greatest-is
+    below-greatest n l None b o = tt
+    below-greatest n l (Some v) b o = beyond true n o.number o.entry o.number_is o.at v o.greatest-is
 
   -- each such row has a line
   has-each : (n : ℕ) (q : Kind) (v : Value) → RowOf ls n q v → Spanned q → (l : Option Value) × (g : Option Value) × (b : Bool) × In (spans_of p) (span_line n l g b)
@@ -232,7 +232,7 @@ module _ (m : Model) (p : Lp) (made : generate m ≡ done p) where
 
   -- what makes a row idle
   abbrev Idle : ℕ → Option Value → Type 0
-  Idle n g = (h : Value) × (v : Value) × (g ≡ some h) × RowOf ls n less v × (exactly h ⊑ exactly v)
+  Idle n g = (h : Value) × (v : Value) × (g ≡ Some h) × RowOf ls n less v × (exactly h ⊑ exactly v)
 
   idle-is : (n : ℕ) (l g : Option Value) (b : Bool) → OfRow p n l g b → (b ≡ true) ↔ Idle n g
   idle-is n l g b o = (

@@ -1,7 +1,7 @@
 -- Laws of the report's lines, row after row; and that of every problem that the tables hold they are the definition's.
+use Rattle.std.specs.Prelude.{Option, Some, None}
 use mathlib.Core.Path.{◌≡◌, refl, sym, ◌∙◌, ap, subst}
 use mathlib.Core.Bool.{Bool, true, false, not, cond, ◌&&◌}
-use mathlib.Core.Option.{Option, none, some}
 use mathlib.Core.List.{List, [], ◌∷◌, ◌++◌, append_assoc, append-nil}
 use Prim.Native.Nat.{ℕ, zero, suc, ◌+◌, ◌*◌, ◌<◌, ◌≤◌}
 use native.Mathlib.Omega.{arith}
@@ -23,10 +23,7 @@ use Rattle.language.specs.Listing.{Kind, less, range, ending_line, right_of, kin
 use Rattle.language.specs.Listing as Listing
 use Rattle.store.specs.Table.{word_at}
 use Rattle.store.specs.Packed.{unpacked}
-use Rattle.rows.specs.declared.End.{End}
-use Rattle.rows.specs.declared.End.TheVariants as ends
 use Rattle.rows.specs.declared.Sizes.{Sizes}
-use Rattle.rows.specs.End.{end_of}
 use Rattle.rows.specs.Slots.{floor_slot, Slot}
 use Rattle.rows.specs.Read.{within, slot_at, end_in}
 use Rattle.rows.specs.Held.{Held}
@@ -48,13 +45,13 @@ use Rattle.spans.specs.Told.{idle_in, span_text, Holds, RowWritten, RowsWritten,
 
 -- ---- what code answers
 
-module _ (o : End) (v : Value) where
-  pub idle-none : o ≡ ends.None → false ≡ idle_in (end_of o) v
-  unfolding idle_in end_of
+module _ (o : Option Value) (v : Value) where
+  pub idle-none : o ≡ None → false ≡ idle_in o v
+  unfolding idle_in
   idle-none e = rw e
 
-  pub idle-at : (h : Value) (b : Bool) → o ≡ ends.At h → b ≡ cond (in_range h && in_range v) (is_at_most h v) false → b ≡ idle_in (end_of o) v
-  unfolding idle_in end_of
+  pub idle-at : (h : Value) (b : Bool) → o ≡ Some h → b ≡ cond (in_range h && in_range v) (is_at_most h v) false → b ≡ idle_in o v
+  unfolding idle_in
   idle-at h b e i = rw e i
 
 module _ (q : code.Kind) (n : ℕ) (a g : Option Value) (v : Value) {l : List ℕ} {at : ℕ} where
@@ -74,8 +71,8 @@ module _ (q : code.Kind) (n : ℕ) (a g : Option Value) (v : Value) {l : List �
 
 end-shown : (o : Option Value) → ValidIfAny o → shown_end o ≡ end_field o
 unfolding shown_end end_field
-end-shown none h = refl
-end-shown (some v) h = shown-valid v h
+end-shown None h = refl
+end-shown (Some v) h = shown-valid v h
 
 span-shown : (n : ℕ) (a g : Option Value) (b : Bool) → n ≤ 512 → ValidIfAny a → ValidIfAny g → shown_span n a g b ≡ span_bytes (span_line n a g b)
 unfolding shown_span span_bytes idle_field mantissa_limit
@@ -83,8 +80,8 @@ span-shown n a g b h ha hg = rw (natural-shown n (omega arith), end-shown a ha, 
 
 idle-told : (o : Option Value) (v : Value) → ValidIfAny o → Valid v → idle_in o v ≡ is_idle less o v
 unfolding idle_in is_idle
-idle-told none v ho hv = refl
-idle-told (some h) v ho hv = rw (valid-in-range h ho, valid-in-range v hv)
+idle-told None v ho hv = refl
+idle-told (Some h) v ho hv = rw (valid-in-range h ho, valid-in-range v hv)
 
 one_line : (k : SpanLine) → all_span_bytes (k ∷ []) ≡ span_bytes k
 unfolding all_span_bytes
@@ -132,18 +129,18 @@ module _ {t b : List ℕ} {m : List ℤ} {first n : ℕ} {p : Lp} (h : Holds t b
   right-told : unpacked (word_at t (slot_at first i)) ≡ right_of e.fact
   right-told = ap unpacked here.right ∙ word_back _ here.valid
 
-  end-told : (greatest : Bool) (k : ℕ) (r : End) → Reaches m b k n greatest r → k ≡ slot_at first i → end_of r ≡ reach greatest p e
+  end-told : (greatest : Bool) (k : ℕ) (r : Option Value) → Reaches m b k n greatest r → k ≡ slot_at first i → r ≡ reach greatest p e
   end-told greatest k r w q = w.is t h.sizes p h.held h.variables i e a (q ∙ ap (λ x. slot_at x i) h.lesses)
 
-pub row_written : (t b : List ℕ) (m : List ℤ) (first n i k : ℕ) (o : End) (q : code.Kind) (u g : End) (w : ℕ) (v : Value) {l : List ℕ} {at r : ℕ} {l' : List ℕ}
-    → i < 512 → k ≡ slot_at first i → end_of o ≡ end_in (word_at t (floor_slot k)) → kind_in q ≡ cond (leb first i) Listing.equal (kind_by (end_of o))
+pub row_written : (t b : List ℕ) (m : List ℤ) (first n i k : ℕ) (o : Option Value) (q : code.Kind) (u g : Option Value) (w : ℕ) (v : Value) {l : List ℕ} {at r : ℕ} {l' : List ℕ}
+    → i < 512 → k ≡ slot_at first i → o ≡ end_in (word_at t (floor_slot k)) → kind_in q ≡ cond (leb first i) Listing.equal (kind_by o)
     → Reaches m b k n false u → Reaches m b k n true g → w ≡ word_at t k → v ≡ unpacked w
-    → (Written l at (span_text (kind_in q) (i + 1) (end_of u) (end_of g) v) r l') × (r ≤ at + 128) → RowWritten t b m first n i l at r l'
+    → (Written l at (span_text (kind_in q) (i + 1) u g v) r l') × (r ≤ at + 128) → RowWritten t b m first n i l at r l'
 row_written t b m first n i k o q u g w v {l} {at} {r} {l'} few slot_is floor-is kind-is least greatest word-is right_is x =
     record {
       short = x.1;
       line = λ p h e a.
-          let kind = kind-is ∙ kind-told h i e a (end_of o) (floor-is ∙ ap (λ k. end_in (word_at t (floor_slot k))) slot_is) in
+          let kind = kind-is ∙ kind-told h i e a o (floor-is ∙ ap (λ k. end_in (word_at t (floor_slot k))) slot_is) in
           let low = end-told h i e a false k u least slot_is in
           let high = end-told h i e a true k g greatest slot_is in
           let right = right_is ∙ ap unpacked (word-is ∙ ap (word_at t) slot_is) ∙ right-told h i e a in

@@ -1,8 +1,7 @@
 -- Request #106, what the report says of a problem: one line for each `L` and `E` row and no other, in the order of the numbers; for
 -- every assignment within the listed bounds the row's value lies between the two printed ends; and `idle` means that every such
 -- assignment meets the row. y is the number assigned to the variable of a printed number: any rational.
-use Rattle.std.specs.Prelude.{◌≡◌, ◌↔◌, Bool, true, List, ℕ, ◌<◌, ℤ}
-use Rattle.std.proofs.Math.Option.{Option, none, some}
+use Rattle.std.specs.Prelude.{◌≡◌, ◌↔◌, Bool, true, List, ℕ, ◌<◌, ℤ, Option, Some, None}
 use Rattle.value.specs.declared.Value.{Value}
 use Rattle.value.specs.Number.{exactly}
 use Rattle.value.specs.Rational.{ℚ, ◌⊑◌}
@@ -21,8 +20,8 @@ pub record Bounded (ls : List Line) (y : ℕ → ℚ) : Type 0 where
 
 -- `-` sets no limit
 abbrev pub AboveLeast : Option Value → ℚ → Type 0
-AboveLeast none q = Unit
-AboveLeast (some v) q = exactly v ⊑ q
+AboveLeast None q = Unit
+AboveLeast (Some v) q = exactly v ⊑ q
 
 -- every kind but `R`
 abbrev pub Spanned : Kind → Type 0
@@ -56,6 +55,6 @@ pub record Encloses (m : Model) (p : Lp) : Type 0 where
       → BelowUpper g (row_value n y (lines_of m p))
   -- idle: an `L` row whose greatest is printed and at most its right side; then every assignment within the bounds meets it
   pub idle : (n : ℕ) (l g : Option Value) (b : Bool) → In (spans_of p) (span_line n l g b)
-      → (b ≡ true) ↔ ((h : Value) × (v : Value) × (g ≡ some h) × RowOf (lines_of m p) n less v × (exactly h ⊑ exactly v))
+      → (b ≡ true) ↔ ((h : Value) × (v : Value) × (g ≡ Some h) × RowOf (lines_of m p) n less v × (exactly h ⊑ exactly v))
   pub meets : (n : ℕ) (l g : Option Value) → In (spans_of p) (span_line n l g true) → (v : Value) → RowOf (lines_of m p) n less v
       → (y : ℕ → ℚ) → Bounded (lines_of m p) y → RowMet less (row_value n y (lines_of m p)) (exactly v)

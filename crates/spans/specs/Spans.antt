@@ -1,7 +1,6 @@
 -- Request #106, the report: a line `span` for each `L` and `E` row by number, with the number, least, greatest and `idle` or `-`,
 -- then `end`. `-` stands for an end that is open.
-use Rattle.std.specs.Prelude.{Bool, true, false, cond, List, [], ◌∷◌, ◌++◌, ℕ, suc}
-use Rattle.std.proofs.Math.Option.{Option, none, some}
+use Rattle.std.specs.Prelude.{Bool, true, false, cond, List, [], ◌∷◌, ◌++◌, ℕ, suc, Option, Some, None}
 use Rattle.rules.specs.Characters.{bytes}
 use Rattle.value.specs.declared.Value.{Value}
 use Rattle.value.specs.Decimal.{is_at_most}
@@ -18,8 +17,8 @@ pub data SpanLine : Type 0 where
 
 -- An `L` row is called idle if its greatest is printed and no more than its right side, and only then
 unfoldable pub is_idle : Kind → Option Value → Value → Bool
-is_idle less none v = false
-is_idle less (some h) v = is_at_most h v
+is_idle less None v = false
+is_idle less (Some h) v = is_at_most h v
 is_idle Listing.equal o v = false
 is_idle range o v = false
 
@@ -39,8 +38,8 @@ spans_of p = spans_from p 1 (rows p) ++ (last_line ∷ [])
 -- ---- the bytes
 
 unfoldable pub end_field : Option Value → List ℕ
-end_field none = bytes "-"
-end_field (some v) = printed v
+end_field None = bytes "-"
+end_field (Some v) = printed v
 
 unfoldable pub span_bytes : SpanLine → List ℕ
 span_bytes (span_line n l g b) = bytes "span" ++ fields (natural n ∷ end_field l ∷ end_field g ∷ cond b (bytes "idle") (bytes "-") ∷ [])

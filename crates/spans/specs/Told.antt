@@ -1,7 +1,6 @@
 -- What is written of the tables of a problem: the line of a row, whatever they hold; of every problem that they hold, the lines of its
 -- rows and its report.
-use Rattle.std.specs.Prelude.{◌≡◌, Bool, false, cond, ◌&&◌, List, [], ℕ, ◌+◌, ◌*◌, ◌≤◌, length, ℤ}
-use Rattle.std.proofs.Math.Option.{Option, none, some}
+use Rattle.std.specs.Prelude.{◌≡◌, Bool, false, cond, ◌&&◌, List, [], ℕ, ◌+◌, ◌*◌, ◌≤◌, length, ℤ, Option, Some, None}
 use Rattle.value.specs.declared.Value.{Value}
 use Rattle.value.specs.Decimal.{is_at_most, in_range}
 use Rattle.value.specs.Printed.{Written}
@@ -18,8 +17,8 @@ use Rattle.spans.specs.Spans.{span_of, spans_from, spans_of, all_span_bytes}
 
 -- is the greatest value of a row no more than its right side?
 unfoldable pub idle_in : Option Value → Value → Bool
-idle_in none v = false
-idle_in (some h) v = cond (in_range h && in_range v) (is_at_most h v) false
+idle_in None v = false
+idle_in (Some h) v = cond (in_range h && in_range v) (is_at_most h v) false
 
 -- the line of a row of a kind and a number, with its least and greatest value and its right side
 unfoldable pub span_text : Kind → ℕ → Option Value → Option Value → Value → List ℕ

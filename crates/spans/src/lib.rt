@@ -5,35 +5,33 @@
 ghost use Rattle.std.specs.Prelude.{◌≡◌, ◌+◌, ◌<◌, ◌≤◌, ◌^◌};
 ghost use Rattle.value.specs.Printed.{Written};
 ghost use Rattle.language.specs.Listing.{ending_line};
-ghost use Rattle.rows.specs.End.{end_of};
 ghost use Rattle.listing.specs.Shown.{shown_line};
 ghost use Rattle.listing.specs.Kinds.{kind_in};
 ghost use Rattle.listing.specs.Spans.{shown_span};
 ghost use Rattle.spans.specs.Told.{idle_in, span_text, RowWritten, RowsWritten, Reports};
 
 use listing::Kind;
-use rows::End;
 
 // Is the greatest value of a row no more than its right side?
-fn is_idle(greatest: End, right: value::Value) -> bool
-    ensures { result ≡ idle_in (end_of greatest) right }
+fn is_idle(greatest: Option<value::Value>, right: value::Value) -> bool
+    ensures { result ≡ idle_in greatest right }
 {
     match greatest {
-        End::None => false,
-        End::At(v) => value::at_most(v, right),
+        None => false,
+        Some(v) => value::at_most(v, right),
     }
 }
 
 fn put_span(
     number: usize,
-    least: End,
-    greatest: End,
+    least: Option<value::Value>,
+    greatest: Option<value::Value>,
     idle: bool,
     out: &mut [u8],
     at: usize,
 ) -> usize
     requires { at < 2 ^ 40 }
-    ensures { (Written out.old at (shown_span number (end_of least) (end_of greatest) idle) result out.new) × (result ≤ at + 128) }
+    ensures { (Written out.old at (shown_span number least greatest idle) result out.new) × (result ≤ at + 128) }
 {
     let from = listing::rest_from(out.len(), at);
     at + listing::span(number, least, greatest, idle, &mut out[from..])
@@ -43,14 +41,14 @@ fn put_span(
 fn span_line(
     kind: Kind,
     number: usize,
-    least: End,
-    greatest: End,
+    least: Option<value::Value>,
+    greatest: Option<value::Value>,
     right: value::Value,
     out: &mut [u8],
     at: usize,
 ) -> usize
     requires { at < 2 ^ 40 }
-    ensures { (Written out.old at (span_text (kind_in kind) number (end_of least) (end_of greatest) right) result out.new) × (result ≤ at + 128) }
+    ensures { (Written out.old at (span_text (kind_in kind) number least greatest right) result out.new) × (result ≤ at + 128) }
 {
     match kind {
         Kind::Less => put_span(number, least, greatest, is_idle(greatest, right), out, at),

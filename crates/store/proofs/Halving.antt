@@ -1,8 +1,8 @@
 -- Laws of the search by halving: keys are compared word by word; a key bracketed in a sorted table; the row that a search from
 -- the front finds; where halving ends, in any table.
+use Rattle.std.specs.Prelude.{Option, Some, None}
 use mathlib.Core.Path.{◌≡◌, refl, sym, ◌∙◌, ap}
 use mathlib.Core.Bool.{Bool, true, false, cond}
-use mathlib.Core.Option.{none, some}
 use mathlib.Core.List.{List}
 use mathlib.Core.Logic.{◌⊎◌, inl, inr, ⊎_elim}
 use Prim.Native.Nat.{ℕ, zero, suc, ◌+◌, ◌-◌, ◌*◌, ◌<◌, ◌≤◌}
@@ -14,8 +14,6 @@ use lib.ListN.{get_or}
 use mir.Syntax.{w64}
 use mir.Val.{Fits}
 use Rattle.store.specs.declared.Key.{Key}
-use Rattle.store.specs.declared.Found.{Found}
-use Rattle.store.specs.declared.Found.TheVariants.{At, Nothing}
 use Rattle.store.specs.declared.Place.{Place}
 use Rattle.store.specs.declared.Place.TheVariants.{Taken, Free}
 use Rattle.store.specs.Key.{three_words, key_number}
@@ -179,15 +177,15 @@ module _ (t : List ℕ) (n k at : ℕ) (s : Sorted t n) (b : Between t n k at at
 -- ---- the row that a search from the front finds
 
 module _ (t : List ℕ) (k : ℕ) where
-  from_at : (n i j : ℕ) → i ≤ j → j < i + n → ((p : ℕ) → i ≤ p → p < j → key_at t p ≡ k → ⊥) → key_at t j ≡ k → row_from t k i n ≡ At j
+  from_at : (n i j : ℕ) → i ≤ j → j < i + n → ((p : ℕ) → i ≤ p → p < j → key_at t p ≡ k → ⊥) → key_at t j ≡ k → row_from t k i n ≡ Some j
   unfolding row_from
   from_at zero i j a b h e = absurd (omega arith)
   from_at (suc n) i j a b h e = ⊎_elim
-      (λ w. rw (eq-eqb (key_at t i) k (rw w e)) (ap At w))
+      (λ w. rw (eq-eqb (key_at t i) k (rw w e)) (ap Some w))
       (λ w. rw (ne_eqb (key_at t i) k (h i (omega arith) w)) (from_at n (i + 1) j (omega arith) (omega arith) (λ p y z. h p (omega arith) z) e))
       (eq-or-lt_of_le {n = i} {m = j} a)
 
-  from-none : (n i : ℕ) → ((p : ℕ) → i ≤ p → p < i + n → key_at t p ≡ k → ⊥) → row_from t k i n ≡ Nothing
+  from-none : (n i : ℕ) → ((p : ℕ) → i ≤ p → p < i + n → key_at t p ≡ k → ⊥) → row_from t k i n ≡ None
   unfolding row_from
   from-none zero i h = refl
   from-none (suc n) i h = rw (ne_eqb (key_at t i) k (h i (omega arith) (omega arith))) (from-none n (i + 1) (λ p y z. h p (omega arith) (omega arith)))
@@ -204,19 +202,19 @@ module _ (t : List ℕ) (k : ℕ) where
       go false e (inr r) = inr (λ p h f. ⊎_elim (λ w. eqb-false (key_at t n) k e (rw w at f)) (λ w. r p w f) (eq-or-lt_of_le {n = p} {m = n} (omega arith)))
 
 module _ (t : List ℕ) (n k : ℕ) where
-  pub row_at : Sorted t n → (i : ℕ) → i < n → key_at t i ≡ k → row_of t n k ≡ At i
+  pub row_at : Sorted t n → (i : ℕ) → i < n → key_at t i ≡ k → row_of t n k ≡ Some i
   unfolding row_of
   row_at s i h e = from_at t k n 0 i (omega arith) (omega arith) (λ p y z w. omega (arith, s.rising p i z h)) e
 
-  pub row-none : ((p : ℕ) → p < n → key_at t p ≡ k → ⊥) → row_of t n k ≡ Nothing
+  pub row-none : ((p : ℕ) → p < n → key_at t p ≡ k → ⊥) → row_of t n k ≡ None
   unfolding row_of
   row-none f = from-none t k n 0 (λ p y z. f p (omega arith))
 
-  pub lookup-at : Sorted t n → (i : ℕ) → i < n → key_at t i ≡ k → lookup t n k ≡ some (word_at t i)
+  pub lookup-at : Sorted t n → (i : ℕ) → i < n → key_at t i ≡ k → lookup t n k ≡ Some (word_at t i)
   unfolding lookup word_in
   lookup-at s i h e = rw (row_at s i h e)
 
-  pub lookup-none : ((p : ℕ) → p < n → key_at t p ≡ k → ⊥) → lookup t n k ≡ none
+  pub lookup-none : ((p : ℕ) → p < n → key_at t p ≡ k → ⊥) → lookup t n k ≡ None
   unfolding lookup word_in
   lookup-none f = rw (row-none f)
 
@@ -325,15 +323,15 @@ module _ (t : List ℕ) (n k : ℕ) where
       go false false e = cc
 
   -- the answers of `find`
-  pub found-taken : (r : Place) (i : ℕ) → r ≡ place_of t n k → r ≡ Taken i → At i ≡ found_row t n k
+  pub found-taken : (r : Place) (i : ℕ) → r ≡ place_of t n k → r ≡ Taken i → Some i ≡ found_row t n k
   unfolding found_row
   found-taken r i h e = rw (← h, e) refl
 
-  pub found-free : (r : Place) (at : ℕ) → r ≡ place_of t n k → r ≡ Free at → Nothing ≡ found_row t n k
+  pub found-free : (r : Place) (at : ℕ) → r ≡ place_of t n k → r ≡ Free at → None ≡ found_row t n k
   unfolding found_row
   found-free r at h e = rw (← h, e) refl
 
-  pub finds-row : (f : Found) → f ≡ found_row t n k → Finds t n k f
+  pub finds-row : (f : Option ℕ) → f ≡ found_row t n k → Finds t n k f
   unfolding found_row
   finds-row f e = rw e (go (place_of t n k) place_is)
     where
@@ -342,10 +340,10 @@ module _ (t : List ℕ) (n k : ℕ) where
       go (Free at) g = record { within = λ j f. absurd (let w : ◌≡◌ {A = ℕ} 0 1 = cc in omega arith); is_row = λ s. sym (row-none t n k (free-none t n k at s g.0 g.1)) }
 
   -- the answers of `find_early`: a row that has the key, in a sorted table the only one
-  pub finds-early : (i : ℕ) → i < n → (r : Bool) → r ≡ eqb (key_at t i) k → r ≡ true → Finds t n k (At i)
+  pub finds-early : (i : ℕ) → i < n → (r : Bool) → r ≡ eqb (key_at t i) k → r ≡ true → Finds t n k (Some i)
   finds-early i h r e f = record { within = λ j g. let w : i ≡ j = cc in omega arith; is_row = λ s. sym (row_at t n k s i h (eqb-true (key_at t i) k (sym e ∙ f))) }
 
-  pub finds-sorted : (f : Found) → Finds t n k f → Sorted t n → f ≡ found_row t n k
+  pub finds-sorted : (f : Option ℕ) → Finds t n k f → Sorted t n → f ≡ found_row t n k
   finds-sorted f g s = g.is_row s ∙ sym ((finds-row (found_row t n k) refl).is_row s)
 
   -- in a sorted table the word there is the one that the search from the front finds

@@ -1,8 +1,8 @@
 -- What a table holds: data as a list searched from the front, which an insertion extends by one entry, and variables by their
 -- number, which a row appended extends by one variable.
+use Rattle.std.specs.Prelude.{Option, Some, None}
 use mathlib.Core.Path.{◌≡◌, refl, sym, ◌∙◌, ap}
 use mathlib.Core.Bool.{Bool, true, false, cond, ◌&&◌}
-use mathlib.Core.Option.{Option, none, some}
 use mathlib.Core.List.{List, [], ◌∷◌, ◌++◌}
 use mathlib.Core.Logic.{⊎_elim}
 use Prim.Native.Nat.{ℕ, suc, ◌+◌, ◌-◌, ◌<◌}
@@ -14,15 +14,13 @@ use lib.ListN.{length, get_or, length-append, get_or-append}
 use lib.Seq.{get_or_at}
 use lib.IntN.{ℤ}
 use Rattle.store.specs.declared.Key.{Key}
-use Rattle.store.specs.declared.Found.{Found}
-use Rattle.store.specs.declared.Found.TheVariants.{At, Nothing}
 use Rattle.store.specs.declared.Insertion.{Insertion}
 use Rattle.store.specs.declared.Insertion.TheVariants.{Done}
 use Rattle.language.specs.Scope.{same_element}
 use Rattle.language.specs.Numbering.{Variable, same_variable, later, number_of}
 use Rattle.store.specs.Key.{key_number, key_of}
 use Rattle.store.specs.Table.{key_at, word_at, has_room, Sorted, row_of, word_in, lookup, found_row, appended, Grown, Says, entered, Inserted}
-use Rattle.store.specs.Entries.{Keyed, Entry, word_of, Holds, variable_key, at_row, Numbered}
+use Rattle.store.specs.Entries.{Keyed, Entry, word_of, Holds, variable_key, Numbered}
 use Rattle.store.proofs.Keys.{key-same}
 use Rattle.store.proofs.Halving.{row-none, lookup-none, finds-row}
 use Rattle.store.proofs.Inserting.{inserted-says, inserted-sorted, inserted-lookup}
@@ -35,12 +33,12 @@ sorted_none t = record { rising = λ p q h g. absurd (omega arith) }
 
 -- a search of one entry more, by the test of its key
 entry_first : (x : Entry) (es : List Entry) (i : ℕ) (l : List ℤ) → Keyed x.name x.element → Keyed i l
-    → word_of (x ∷ es) i l ≡ cond (eqb (key_of i l) (key_of x.name x.element)) (some x.word) (word_of es i l)
+    → word_of (x ∷ es) i l ≡ cond (eqb (key_of i l) (key_of x.name x.element)) (Some x.word) (word_of es i l)
 unfolding word_of
 entry_first x es i l a b = go (eqb x.name i && same_element x.element l) (key-same a b)
   where
     go : (u : Bool) → u ≡ eqb (key_of i l) (key_of x.name x.element)
-        → elim u as (λ _. Option ℕ) [ true ↦ some x.word | false ↦ word_of es i l ] ≡ cond (eqb (key_of i l) (key_of x.name x.element)) (some x.word) (word_of es i l)
+        → elim u as (λ _. Option ℕ) [ true ↦ Some x.word | false ↦ word_of es i l ] ≡ cond (eqb (key_of i l) (key_of x.name x.element)) (Some x.word) (word_of es i l)
     go true e = rw (← e)
     go false e = rw (← e)
 
@@ -53,11 +51,11 @@ module _ (t : List ℕ) (n : ℕ) (es : List Entry) (i : ℕ) (l : List ℤ) (k 
   held : lookup t n k ≡ word_of es i l
   held = rw e (h.agrees i l a)
 
-  pub holds_at : (f : Found) (j w : ℕ) → f ≡ found_row t n k → f ≡ At j → w ≡ word_at t j → word_of es i l ≡ some w
+  pub holds_at : (f : Option ℕ) (j w : ℕ) → f ≡ found_row t n k → f ≡ Some j → w ≡ word_at t j → word_of es i l ≡ Some w
   unfolding lookup word_in
   holds_at f j w g p q = sym held ∙ rw (← ((finds-row t n k f g).is_row h.sorted), p, q)
 
-  pub holds-nothing : (f : Found) → f ≡ found_row t n k → f ≡ Nothing → word_of es i l ≡ none
+  pub holds-nothing : (f : Option ℕ) → f ≡ found_row t n k → f ≡ None → word_of es i l ≡ None
   unfolding lookup word_in
   holds-nothing f g p = sym held ∙ rw (← ((finds-row t n k f g).is_row h.sorted), p)
 
@@ -79,35 +77,35 @@ module _ (t : List ℕ) (n : ℕ) (es : List Entry) (i : ℕ) (l : List ℤ) (k 
 -- ---- variables
 
 variable-first : (v : Variable) (vs : List Variable) (i : ℕ) (l : List ℤ) → Keyed v.name v.element → Keyed i l
-    → number_of i l (v ∷ vs) ≡ cond (eqb (key_of i l) (variable_key v)) (some 0) (later (number_of i l vs))
+    → number_of i l (v ∷ vs) ≡ cond (eqb (key_of i l) (variable_key v)) (Some 0) (later (number_of i l vs))
 unfolding number_of same_variable
 variable-first v vs i l a b = go (eqb v.name i && same_element v.element l) (key-same a b)
   where
     go : (u : Bool) → u ≡ eqb (key_of i l) (variable_key v)
-        → elim u as (λ _. Option ℕ) [ true ↦ some 0 | false ↦ later (number_of i l vs) ] ≡ cond (eqb (key_of i l) (variable_key v)) (some 0) (later (number_of i l vs))
+        → elim u as (λ _. Option ℕ) [ true ↦ Some 0 | false ↦ later (number_of i l vs) ] ≡ cond (eqb (key_of i l) (variable_key v)) (Some 0) (later (number_of i l vs))
     go true e = rw (← e)
     go false e = rw (← e)
 
 -- one variable more, behind the others: found there where it is not found before
 or_else : Option ℕ → Option ℕ → Option ℕ
-or_else none o = o
-or_else (some j) o = some j
+or_else None o = o
+or_else (Some j) o = Some j
 
-later-or : (b : Bool) (o : Option ℕ) (n : ℕ) → later (or_else o (cond b (some n) none)) ≡ or_else (later o) (cond b (some (suc n)) none)
+later-or : (b : Bool) (o : Option ℕ) (n : ℕ) → later (or_else o (cond b (Some n) None)) ≡ or_else (later o) (cond b (Some (suc n)) None)
 unfolding or_else
-later-or true none n = refl
-later-or false none n = refl
-later-or b (some j) n = refl
+later-or true None n = refl
+later-or false None n = refl
+later-or b (Some j) n = refl
 
 number-last : (v : Variable) (vs : List Variable) (i : ℕ) (l : List ℤ) → Keyed v.name v.element → Keyed i l
-    → number_of i l (vs ++ (v ∷ [])) ≡ or_else (number_of i l vs) (cond (eqb (key_of i l) (variable_key v)) (some (length vs)) none)
+    → number_of i l (vs ++ (v ∷ [])) ≡ or_else (number_of i l vs) (cond (eqb (key_of i l) (variable_key v)) (Some (length vs)) None)
 unfolding number_of or_else same_variable
 number-last v [] i l a b = variable-first v [] i l a b
 number-last v (u ∷ vs) i l a b = go (eqb u.name i && same_element u.element l) (number-last v vs i l a b)
   where
-    go : (x : Bool) → number_of i l (vs ++ (v ∷ [])) ≡ or_else (number_of i l vs) (cond (eqb (key_of i l) (variable_key v)) (some (length vs)) none)
-        → elim x as (λ _. Option ℕ) [ true ↦ some 0 | false ↦ later (number_of i l (vs ++ (v ∷ []))) ]
-        ≡ or_else (elim x as (λ _. Option ℕ) [ true ↦ some 0 | false ↦ later (number_of i l vs) ]) (cond (eqb (key_of i l) (variable_key v)) (some (suc (length vs))) none)
+    go : (x : Bool) → number_of i l (vs ++ (v ∷ [])) ≡ or_else (number_of i l vs) (cond (eqb (key_of i l) (variable_key v)) (Some (length vs)) None)
+        → elim x as (λ _. Option ℕ) [ true ↦ Some 0 | false ↦ later (number_of i l (vs ++ (v ∷ []))) ]
+        ≡ or_else (elim x as (λ _. Option ℕ) [ true ↦ Some 0 | false ↦ later (number_of i l vs) ]) (cond (eqb (key_of i l) (variable_key v)) (Some (suc (length vs))) None)
     go true e = refl
     go false e = ap later e ∙ later-or (eqb (key_of i l) (variable_key v)) (number_of i l vs) (length vs)
 
@@ -120,33 +118,33 @@ numbered-none t = record {
   agrees = λ i l a. row-none t 0 (key_of i l) (λ p h e. omega arith);
 }
 
-row_number : (o : Option ℕ) (j : ℕ) → At j ≡ at_row o → o ≡ some j
-row_number none j e = absurd (let z : ◌≡◌ {A = ℕ} 0 1 = cc in omega arith)
-row_number (some x) j e = cc
+row_number : (o : Option ℕ) (j : ℕ) → Some j ≡ o → o ≡ Some j
+row_number None j e = absurd (let z : ◌≡◌ {A = ℕ} 0 1 = cc in omega arith)
+row_number (Some x) j e = cc
 
-no_number_lem : (o : Option ℕ) → Nothing ≡ at_row o → o ≡ none
-no_number_lem none e = refl
-no_number_lem (some x) e = absurd (let z : ◌≡◌ {A = ℕ} 0 1 = cc in omega arith)
+no_number_lem : (o : Option ℕ) → None ≡ o → o ≡ None
+no_number_lem None e = refl
+no_number_lem (Some x) e = absurd (let z : ◌≡◌ {A = ℕ} 0 1 = cc in omega arith)
 
 -- by the contracts of `key_of` and of `find`
 module _ (t : List ℕ) (n : ℕ) (vs : List Variable) (i : ℕ) (l : List ℤ) (k : ℕ) (h : Numbered t n vs) (a : Keyed i l) (e : k ≡ key_of i l) where
-  numbered : row_of t n k ≡ at_row (number_of i l vs)
+  numbered : row_of t n k ≡ (number_of i l vs)
   numbered = rw e (h.agrees i l a)
 
-  pub numbered-at : (f : Found) (j : ℕ) → f ≡ found_row t n k → f ≡ At j → number_of i l vs ≡ some j
+  pub numbered-at : (f : Option ℕ) (j : ℕ) → f ≡ found_row t n k → f ≡ Some j → number_of i l vs ≡ Some j
   numbered-at f j g p = row_number (number_of i l vs) j (sym p ∙ (finds-row t n k f g).is_row h.sorted ∙ numbered)
 
-  pub numbered-nothing : (f : Found) → f ≡ found_row t n k → f ≡ Nothing → number_of i l vs ≡ none
+  pub numbered-nothing : (f : Option ℕ) → f ≡ found_row t n k → f ≡ None → number_of i l vs ≡ None
   numbered-nothing f g p = no_number_lem (number_of i l vs) (sym p ∙ (finds-row t n k f g).is_row h.sorted ∙ numbered)
 
 -- the last variable's key
 pub numbered-last : (t : List ℕ) (vs : List Variable) (v : Variable) → Numbered t (length vs + 1) (vs ++ (v ∷ [])) → key_at t (length vs) ≡ variable_key v
 numbered-last t vs v h = h.keys (length vs) v (omega arith) ∙ ap variable_key (get_or_at vs v [] v (length vs) refl)
 
-or-none : (o : Option ℕ) → or_else o none ≡ o
+or-none : (o : Option ℕ) → or_else o None ≡ o
 unfolding or_else
-or-none none = refl
-or-none (some j) = refl
+or-none None = refl
+or-none (Some j) = refl
 
 -- a row appended whose key is above the last
 module _ (t : List ℕ) (n : ℕ) (vs : List Variable) (v : Variable) (k : Key) (w : ℕ) (h : Numbered t n vs) (a : Keyed v.name v.element)
@@ -163,17 +161,17 @@ module _ (t : List ℕ) (n : ℕ) (vs : List Variable) (v : Variable) (k : Key) 
       (λ q. key-before t n n (variable_key v) w (appended t n k w) grown j q ∙ h.keys j d q ∙ ap variable_key (sym (get_or-append vs (v ∷ []) d j (omega (arith, h.count)))))
       (eq-or-lt_of_le {n = j} {m = n} (omega arith))
 
-  row-of : (i : ℕ) (l : List ℤ) → Keyed i l → row_of (appended t n k w) (n + 1) (key_of i l) ≡ at_row (number_of i l (vs ++ (v ∷ [])))
+  row-of : (i : ℕ) (l : List ℤ) → Keyed i l → row_of (appended t n k w) (n + 1) (key_of i l) ≡ (number_of i l (vs ++ (v ∷ [])))
   unfolding or_else
   row-of i l c = rw (number-last v vs i l a c) (last_row t n (variable_key v) w (appended t n k w) grown h.sorted below (key_of i l) ∙ go (eqb (key_of i l) (variable_key v)) refl)
     where
-      unknown : key_of i l ≡ variable_key v → number_of i l vs ≡ none
+      unknown : key_of i l ≡ variable_key v → number_of i l vs ≡ None
       unknown q = no_number_lem (number_of i l vs) (sym (row-none t n (key_of i l) (λ p f g. omega (arith, below p f))) ∙ h.agrees i l c)
 
       go : (x : Bool) → eqb (key_of i l) (variable_key v) ≡ x
-          → cond x (At n) (row_of t n (key_of i l)) ≡ at_row (or_else (number_of i l vs) (cond x (some (length vs)) none))
-      go true q = rw (unknown (eqb-true (key_of i l) (variable_key v) q)) (ap At h.count)
-      go false q = h.agrees i l c ∙ ap at_row (sym (or-none (number_of i l vs)))
+          → cond x (Some n) (row_of t n (key_of i l)) ≡ (or_else (number_of i l vs) (cond x (Some (length vs)) None))
+      go true q = rw (unknown (eqb-true (key_of i l) (variable_key v) q)) (ap Some h.count)
+      go false q = h.agrees i l c ∙ (sym (or-none (number_of i l vs)))
 
   pub numbered-append : Numbered (appended t n k w) (n + 1) (vs ++ (v ∷ []))
   numbered-append = record {

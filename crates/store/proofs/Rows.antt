@@ -1,8 +1,8 @@
 -- Laws of writing: a row written, words moved up, and a table that has grown by a row at its place, which stays sorted and in
 -- which every other key is found as before.
+use Rattle.std.specs.Prelude.{Some}
 use mathlib.Core.Path.{◌≡◌, refl, sym, ◌∙◌, ap}
 use mathlib.Core.Bool.{Bool, true, false, cond}
-use mathlib.Core.Option.{some}
 use mathlib.Core.List.{List}
 use mathlib.Core.Logic.{⊎_elim}
 use Prim.Native.Nat.{ℕ, ◌+◌, ◌-◌, ◌*◌, ◌/◌, ◌<◌, ◌≤◌}
@@ -13,7 +13,6 @@ use lib.Dec.{eqb, ltb}
 use lib.ListN.{length, get_or, set, length-set}
 use lib.Seq.{get_or-set_same, get_or-set_other}
 use Rattle.store.specs.declared.Key.{Key}
-use Rattle.store.specs.declared.Found.TheVariants.{At}
 use Rattle.store.specs.Key.{key_number}
 use Rattle.store.specs.Table.{part_at, key_at, word_at, has_room, Sorted, row_of, lookup, row_set, appended, Moved, Grown, entered}
 use Rattle.store.proofs.Keys.{as-less, three}
@@ -193,11 +192,11 @@ module _ (t : List ℕ) (n at k w : ℕ) (t' : List ℕ) (g : Grown t n at k w t
     unfolding entered
     grown-lookup q = go (eqb q k) refl
       where
-        go : (x : Bool) → eqb q k ≡ x → lookup t' (n + 1) q ≡ cond x (some w) (lookup t n q)
-        go true e = lookup-at t' (n + 1) q grown-sorted at (omega (arith, g.within)) (g.key ∙ sym (eqb-true q k e)) ∙ ap some g.word
+        go : (x : Bool) → eqb q k ≡ x → lookup t' (n + 1) q ≡ cond x (Some w) (lookup t n q)
+        go true e = lookup-at t' (n + 1) q grown-sorted at (omega (arith, g.within)) (g.key ∙ sym (eqb-true q k e)) ∙ ap Some g.word
         go false e = ⊎_elim
             (λ r. three r.0 at
-            (λ y. lookup-at t' (n + 1) q grown-sorted r.0 (omega (arith, r.1)) (key-before r.0 y ∙ r.2) ∙ ap some (word-before r.0 y) ∙ sym (lookup-at t n q s r.0 r.1 r.2))
+            (λ y. lookup-at t' (n + 1) q grown-sorted r.0 (omega (arith, r.1)) (key-before r.0 y ∙ r.2) ∙ ap Some (word-before r.0 y) ∙ sym (lookup-at t n q s r.0 r.1 r.2))
             (λ y. later r (omega arith))
             (λ y. later r (omega arith)))
             (λ f. lookup-none t' (n + 1) q (grown-none q (eqb-false q k e) f) ∙ sym (lookup-none t n q f))
@@ -206,7 +205,7 @@ module _ (t : List ℕ) (n at k w : ℕ) (t' : List ℕ) (g : Grown t n at k w t
             later : (r : (i : ℕ) × (i < n) × (key_at t i ≡ q)) → at ≤ r.0 → lookup t' (n + 1) q ≡ lookup t n q
             later r y =
                 lookup-at t' (n + 1) q grown-sorted (r.0 + 1) (omega (arith, r.1)) (key-after r.0 y r.1 ∙ r.2)
-                ∙ ap some (word_after r.0 y r.1)
+                ∙ ap Some (word_after r.0 y r.1)
                 ∙ sym (lookup-at t n q s r.0 r.1 r.2)
 
 -- ---- a row behind the others
@@ -215,10 +214,10 @@ module _ (t : List ℕ) (n k w : ℕ) (t' : List ℕ) (g : Grown t n n k w t') (
   pub last-sorted : Sorted t' (n + 1)
   last-sorted = grown-sorted t n n k w t' g s b (λ p h f. absurd (omega arith))
 
-  pub last_row : (q : ℕ) → row_of t' (n + 1) q ≡ cond (eqb q k) (At n) (row_of t n q)
+  pub last_row : (q : ℕ) → row_of t' (n + 1) q ≡ cond (eqb q k) (Some n) (row_of t n q)
   last_row q = go (eqb q k) refl
     where
-      go : (x : Bool) → eqb q k ≡ x → row_of t' (n + 1) q ≡ cond x (At n) (row_of t n q)
+      go : (x : Bool) → eqb q k ≡ x → row_of t' (n + 1) q ≡ cond x (Some n) (row_of t n q)
       go true e = row_at t' (n + 1) q last-sorted n (omega arith) (g.key ∙ sym (eqb-true q k e))
       go false e = ⊎_elim
           (λ r. row_at t' (n + 1) q last-sorted r.0 (omega (arith, r.1)) (key-before t n n k w t' g r.0 r.1 ∙ r.2) ∙ sym (row_at t n q s r.0 r.1 r.2))

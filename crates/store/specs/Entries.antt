@@ -1,9 +1,6 @@
 -- What a table holds, as lists that are searched from the front by name and element: data with their words, the newest first, and
 -- variables by their number.
-use Rattle.std.specs.Prelude.{◌≡◌, true, false, ◌&&◌, List, [], ◌∷◌, ℕ, ◌<◌, eqb, length, get_or, ℤ}
-use Rattle.std.proofs.Math.Option.{Option, none, some}
-use Rattle.store.specs.declared.Found.{Found}
-use Rattle.store.specs.declared.Found.TheVariants.{At, Nothing}
+use Rattle.std.specs.Prelude.{◌≡◌, true, false, ◌&&◌, List, [], ◌∷◌, ℕ, ◌<◌, eqb, length, get_or, ℤ, Option, Some, None}
 use Rattle.language.specs.Scope.{same_element}
 use Rattle.language.specs.Numbering.{Variable, number_of}
 use Rattle.store.specs.Element.{Subscripts}
@@ -23,8 +20,8 @@ pub record Entry : Type 0 where
   pub word : ℕ
 
 unfoldable pub word_of : List Entry → ℕ → List ℤ → Option ℕ
-word_of [] i l = none
-word_of (x ∷ es) i l = elim (eqb x.name i && same_element x.element l) [ true ↦ some x.word | false ↦ word_of es i l ]
+word_of [] i l = None
+word_of (x ∷ es) i l = elim (eqb x.name i && same_element x.element l) [ true ↦ Some x.word | false ↦ word_of es i l ]
 
 -- n rows that hold the entries
 pub record Holds (t : List ℕ) (n : ℕ) (es : List Entry) : Type 0 where
@@ -37,13 +34,9 @@ pub record Holds (t : List ℕ) (n : ℕ) (es : List Entry) : Type 0 where
 abbrev pub variable_key : Variable → ℕ
 variable_key v = key_of v.name v.element
 
-abbrev pub at_row : Option ℕ → Found
-at_row none = Nothing
-at_row (some j) = At j
-
 -- n rows that hold the variables, each in the row of its number
 pub record Numbered (t : List ℕ) (n : ℕ) (vs : List Variable) : Type 0 where
   pub count : n ≡ length vs
   pub sorted : Sorted t n
   pub keys : (j : ℕ) (d : Variable) → j < n → key_at t j ≡ variable_key (get_or vs j d)
-  pub agrees : (i : ℕ) (l : List ℤ) → Keyed i l → row_of t n (key_of i l) ≡ at_row (number_of i l vs)
+  pub agrees : (i : ℕ) (l : List ℤ) → Keyed i l → row_of t n (key_of i l) ≡ (number_of i l vs)

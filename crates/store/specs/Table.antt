@@ -1,10 +1,7 @@
 -- A table is a list of rows of four words: the three words of a key, and one word that belongs to it. Its first n rows count, in
 -- rising order of their keys.
-use Rattle.std.specs.Prelude.{◌≡◌, Bool, true, false, cond, List, ℕ, zero, suc, ◌+◌, ◌-◌, ◌*◌, ◌/◌, ◌<◌, ◌≤◌, length, get_or, set, eqb, ltb, leb}
-use Rattle.std.proofs.Math.Option.{Option, none, some}
+use Rattle.std.specs.Prelude.{◌≡◌, Bool, true, false, cond, List, ℕ, zero, suc, ◌+◌, ◌-◌, ◌*◌, ◌/◌, ◌<◌, ◌≤◌, length, get_or, set, eqb, ltb, leb, Option, Some, None}
 use Rattle.store.specs.declared.Key.{Key}
-use Rattle.store.specs.declared.Found.{Found}
-use Rattle.store.specs.declared.Found.TheVariants.{At, Nothing}
 use Rattle.store.specs.declared.Place.{Place}
 use Rattle.store.specs.declared.Place.TheVariants.{Taken, Free}
 use Rattle.store.specs.declared.Insertion.{Insertion}
@@ -31,16 +28,16 @@ pub record Sorted (t : List ℕ) (n : ℕ) : Type 0 where
 -- ---- looking up
 
 -- of n rows from row i on, the first whose key is k
-unfoldable pub row_from : List ℕ → ℕ → ℕ → ℕ → Found
-row_from t k i zero = Nothing
-row_from t k i (suc n) = cond (eqb (key_at t i) k) (At i) (row_from t k (i + 1) n)
+unfoldable pub row_from : List ℕ → ℕ → ℕ → ℕ → Option ℕ
+row_from t k i zero = None
+row_from t k i (suc n) = cond (eqb (key_at t i) k) (Some i) (row_from t k (i + 1) n)
 
-unfoldable pub row_of : List ℕ → ℕ → ℕ → Found
+unfoldable pub row_of : List ℕ → ℕ → ℕ → Option ℕ
 row_of t n k = row_from t k 0 n
 
-unfoldable pub word_in : List ℕ → Found → Option ℕ
-word_in t (At i) = some (word_at t i)
-word_in t Nothing = none
+unfoldable pub word_in : List ℕ → Option ℕ → Option ℕ
+word_in t (Some i) = Some (word_at t i)
+word_in t None = None
 
 -- the word that belongs to a key
 unfoldable pub lookup : List ℕ → ℕ → ℕ → Option ℕ
@@ -67,16 +64,16 @@ place_at t n k at = cond (leb n at) (Free at) (cond (eqb (key_at t at) k) (Taken
 unfoldable pub place_of : List ℕ → ℕ → ℕ → Place
 place_of t n k = place_at t n k (rank_of t n k)
 
-abbrev pub taken_row : Place → Found
-taken_row (Taken i) = At i
-taken_row (Free at) = Nothing
+abbrev pub taken_row : Place → Option ℕ
+taken_row (Taken i) = Some i
+taken_row (Free at) = None
 
-unfoldable pub found_row : List ℕ → ℕ → ℕ → Found
+unfoldable pub found_row : List ℕ → ℕ → ℕ → Option ℕ
 found_row t n k = taken_row (place_of t n k)
 
 -- what a search by halving has found: in a sorted table what the search from the front finds
-pub record Finds (t : List ℕ) (n k : ℕ) (r : Found) : Type 0 where
-  pub within : (i : ℕ) → r ≡ At i → i < n
+pub record Finds (t : List ℕ) (n k : ℕ) (r : Option ℕ) : Type 0 where
+  pub within : (i : ℕ) → r ≡ Some i → i < n
   pub is_row : Sorted t n → r ≡ row_of t n k
 
 -- in a sorted table the rows before `from` are below k, and those from `to` on are not
@@ -126,13 +123,13 @@ insertion_of t n k = insertion_at (place_of t n k) (has_room t n)
 
 -- in a sorted table, what the answer of an insertion says of the word that its key had before, and of the room
 abbrev pub Says : Insertion → Option ℕ → Bool → Type 0
-Says Done o room = (o ≡ none) × (room ≡ true)
-Says Present o room = (w : ℕ) × (o ≡ some w)
-Says NoRoom o room = (o ≡ none) × (room ≡ false)
+Says Done o room = (o ≡ None) × (room ≡ true)
+Says Present o room = (w : ℕ) × (o ≡ Some w)
+Says NoRoom o room = (o ≡ None) × (room ≡ false)
 
 -- the word w entered at the key k
 unfoldable pub entered : ℕ → ℕ → (ℕ → Option ℕ) → ℕ → Option ℕ
-entered k w f q = cond (eqb q k) (some w) (f q)
+entered k w f q = cond (eqb q k) (Some w) (f q)
 
 -- an insertion: its answer, and where it is done the table with one row more
 pub record Inserted (t : List ℕ) (n k w : ℕ) (r : Insertion) (t' : List ℕ) : Type 0 where

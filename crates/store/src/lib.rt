@@ -27,13 +27,6 @@ pub struct Key {
     pub low: u64,
 }
 
-// The row that has a key.
-#[derive(Clone, Copy)]
-pub enum Found {
-    At(usize),
-    Nothing,
-}
-
 // The row that has a key, or the row that it would have.
 #[derive(Clone, Copy)]
 enum Place {
@@ -269,12 +262,12 @@ fn locate(table: &[u64], n: usize, key: Key) -> Place
 }
 
 // The row among the first n that has the key.
-pub fn find(table: &[u64], n: usize, key: Key) -> Found
+pub fn find(table: &[u64], n: usize, key: Key) -> Option<usize>
     ensures { result ≡ found_row table.now n (key_number key) }
 {
     match locate(table, n, key) {
-        Place::Taken(i) => Found::At(i),
-        Place::Free(_) => Found::Nothing,
+        Place::Taken(i) => Some(i),
+        Place::Free(_) => None,
     }
 }
 
@@ -282,7 +275,7 @@ pub fn find(table: &[u64], n: usize, key: Key) -> Found
 const EARLY: usize = 8;
 
 // The same in a sorted table, for a key that is likely to have one of the first rows: these are tried one by one.
-pub fn find_early(table: &[u64], n: usize, key: Key) -> Found
+pub fn find_early(table: &[u64], n: usize, key: Key) -> Option<usize>
     ensures { Finds table.now n (key_number key) result }
 {
     let mut i = 0;
@@ -291,7 +284,7 @@ pub fn find_early(table: &[u64], n: usize, key: Key) -> Found
             return find(table, n, key);
         }
         if is_at(table, i, key) {
-            return Found::At(i);
+            return Some(i);
         }
         i += 1;
     }

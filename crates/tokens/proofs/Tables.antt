@@ -1,7 +1,7 @@
 -- Laws of the token table and the name table over plain variables.
+use Rattle.std.specs.Prelude.{Option, Some, None}
 use mathlib.Core.Path.{◌≡◌, refl, sym, ◌∙◌, ap, subst}
 use mathlib.Core.Bool.{Bool, true, false}
-use mathlib.Core.Option.{Option, none, some}
 use mathlib.Core.List.{List, [], ◌∷◌, ◌++◌}
 use Prim.Native.Nat.{ℕ, zero, suc, ◌+◌, ◌-◌, ◌<◌, ◌≤◌, ◌/◌, ◌*◌}
 use native.Mathlib.Omega.{arith}
@@ -101,7 +101,7 @@ mark-same (suc (suc (suc (suc (suc zero))))) c h = ne_eqb 0 c (λ e. omega arith
 mark-same (suc (suc (suc (suc (suc (suc k)))))) c h = refl
 
 -- what is no name has none
-pub no_name_lem : (s : List ℕ) (k p x : ℕ) → (k ≡ 1 → ⊥) → name_of (kind_of s k p x) ≡ none
+pub no_name_lem : (s : List ℕ) (k p x : ℕ) → (k ≡ 1 → ⊥) → name_of (kind_of s k p x) ≡ None
 unfolding kind_of name_of
 no_name_lem s zero p x h = refl
 no_name_lem s (suc zero) p x h = absurd (h refl)
@@ -112,7 +112,7 @@ no_name_lem s (suc (suc (suc (suc (suc zero))))) p x h = refl
 no_name_lem s (suc (suc (suc (suc (suc (suc k)))))) p x h = refl
 
 -- what is no string has none
-pub no-string : (s : List ℕ) (k p x : ℕ) → (k ≡ 4 → ⊥) → string_of (kind_of s k p x) ≡ none
+pub no-string : (s : List ℕ) (k p x : ℕ) → (k ≡ 4 → ⊥) → string_of (kind_of s k p x) ≡ None
 unfolding kind_of string_of
 no-string s zero p x h = refl
 no-string s (suc zero) p x h = refl
@@ -295,12 +295,12 @@ module _ (s l ns : List ℕ) (i number : ℕ) (b : Bool) (t : Tells s l ns i num
 -- a name that the table tells of is in the names, with its number, its sort and its number of indices
 pub record Declared (l : List ℕ) (names : List Name) (i p j k c : ℕ) : Type 0 where
   pub used : Used
-  pub stands : find l names i p ≡ some used
+  pub stands : find l names i p ≡ Some used
   pub numbered : used.number ≡ j
   pub shaped : Shaped used.sort k c
   pub placed : used.place ≡ p
 
-pub not-declared : (s l ns : List ℕ) (names : List Name) (i p : ℕ) → Named s ns names → look_up s l ns i ≡ found.Nothing → find l names i p ≡ none
+pub not-declared : (s l ns : List ℕ) (names : List Name) (i p : ℕ) → Named s ns names → look_up s l ns i ≡ found.Nothing → find l names i p ≡ None
 unfolding look_up find
 not-declared s l [] [] i p h e = refl
 not-declared s l [] (y ∷ ys) i p h e = absurd h
@@ -311,9 +311,9 @@ not-declared s l (a ∷ b ∷ k ∷ c ∷ []) ys i p h e = absurd h
 not-declared s l (a ∷ b ∷ k ∷ c ∷ q ∷ ns) [] i p h e = absurd h
 not-declared s l (a ∷ b ∷ k ∷ c ∷ q ∷ ns) (y ∷ ys) i p h e = go (same_bytes l (spelling s a b)) (same_bytes l y.spelling) (ap (same_bytes l) h.0) (λ d. not-declared s l ns ys (suc i) p h.2 d) e
   where
-    go : (u v : Bool) → v ≡ u → (look_up s l ns (suc i) ≡ found.Nothing → find l ys (suc i) p ≡ none)
+    go : (u v : Bool) → v ≡ u → (look_up s l ns (suc i) ≡ found.Nothing → find l ys (suc i) p ≡ None)
         → (elim u as (λ _. Found) [ true ↦ found.Name i k c | false ↦ look_up s l ns (suc i) ]) ≡ found.Nothing
-        → ◌≡◌ {A = Option Used} (elim v as (λ _. Option Used) [ true ↦ some (record { number = i; sort = y.sort; place = p }) | false ↦ find l ys (suc i) p ]) none
+        → ◌≡◌ {A = Option Used} (elim v as (λ _. Option Used) [ true ↦ Some (record { number = i; sort = y.sort; place = p }) | false ↦ find l ys (suc i) p ]) None
     go true true x f e = absurd (name-nothing i k c e)
     go true false x f e = absurd (false-true x)
     go false true x f e = absurd (false-true (sym x))

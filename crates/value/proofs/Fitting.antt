@@ -1,5 +1,6 @@
 -- Laws of the lowest form, once for every sequence of denominators: it is exact, least, and depends on the number alone.
 -- Then those of `fit_of`: exact, valid, of the number alone, and refusing only what no value is.
+use Rattle.std.specs.Prelude.{None, Some}
 use mathlib.Core.Path.{◌≡◌, refl, sym, ◌∙◌, ap, subst}
 use mathlib.Core.Bool.{Bool, true, false, cond}
 use Prim.Native.Nat.{ℕ, zero, suc, ◌+◌, ◌-◌, ◌*◌, ◌/◌, ◌%◌, ◌^◌, ◌<◌, ◌≤◌}
@@ -11,7 +12,6 @@ use lib.Dec.{eqb, leb}
 use lib.IntN.{ℤ, pos, nat_abs, ◌*ℤ◌}
 use Rattle.rules.specs.Limits.{mantissa_limit, scale_limit}
 use Rattle.value.specs.declared.Value.{Value}
-use Rattle.value.specs.declared.Fit.TheVariants.{Fits, TooBig}
 use Rattle.rational.specs.Fraction.{Fraction, ◌≈◌}
 use Rattle.value.specs.Decimal.{Valid, tenths, frac, with_sign, Lowest, at, none, seek, choose, ten, fit_of}
 use Rattle.value.proofs.Integers.{nat_abs_mul, with_sign-scale, with_sign-own, with_sign-size, with_sign-cross}
@@ -93,11 +93,11 @@ record FoundOf (q : Fraction) (v : Value) : Type 0 where
   sign : with_sign q.num (nat_abs v.m) ≡ v.m
   small : nat_abs v.m ≤ 999999999
 
-found_of_lem : (q : Fraction) (v : Value) → fit_of q ≡ Fits v → FoundOf q v
+found_of_lem : (q : Fraction) (v : Value) → fit_of q ≡ Some v → FoundOf q v
 unfolding fit_of choose mantissa_limit scale_limit
 found_of_lem q v e = go (seek ten 7 0 (nat_abs q.num) q.den) refl e
   where
-    in-range : (m i : ℕ) → seek ten 7 0 (nat_abs q.num) q.den ≡ at m i → (t : Bool) → leb m 999999999 ≡ t → cond t (Fits (record { m = with_sign q.num m; s = i })) TooBig ≡ Fits v → FoundOf q v
+    in-range : (m i : ℕ) → seek ten 7 0 (nat_abs q.num) q.den ≡ at m i → (t : Bool) → leb m 999999999 ≡ t → cond t (Some (record { m = with_sign q.num m; s = i })) None ≡ Some v → FoundOf q v
     in-range m i p true l h =
         let r : ◌≡◌ {A = Value} (record { m = with_sign q.num m; s = i }) v = cc in
         subst (FoundOf q) r
@@ -108,18 +108,18 @@ found_of_lem q v e = go (seek ten 7 0 (nat_abs q.num) q.den) refl e
         })
     in-range m i p false l h = absurd (let w : ◌≡◌ {A = ℕ} 0 1 = cc in omega arith)
 
-    go : (f : Lowest) → seek ten 7 0 (nat_abs q.num) q.den ≡ f → choose q.num f ≡ Fits v → FoundOf q v
+    go : (f : Lowest) → seek ten 7 0 (nat_abs q.num) q.den ≡ f → choose q.num f ≡ Some v → FoundOf q v
     go (at m i) p h = in-range m i p (leb m 999999999) refl h
     go none p h = absurd (let w : ◌≡◌ {A = ℕ} 0 1 = cc in omega arith)
 
-pub fit_of-exact : (q : Fraction) (v : Value) → fit_of q ≡ Fits v → frac v ≈ q
+pub fit_of-exact : (q : Fraction) (v : Value) → fit_of q ≡ Some v → frac v ≈ q
 unfolding frac tenths ◌≈◌
 fit_of-exact q v e =
     let f = found_of_lem q v e in
     subst (λ (z : ℤ). z *ℤ pos q.den ≡ q.num *ℤ pos (10 ^ v.s)) f.sign
     (with_sign-cross q.num (nat_abs v.m) q.den (10 ^ v.s) (seek-exact ten 7 0 _ q.den _ v.s f.place))
 
-pub fit_of-valid : (q : Fraction) (v : Value) → fit_of q ≡ Fits v → Valid v
+pub fit_of-valid : (q : Fraction) (v : Value) → fit_of q ≡ Some v → Valid v
 unfolding mantissa_limit scale_limit
 fit_of-valid q v e = record { small = f.small; places = omega (arith, seek-range ten 7 0 _ q.den _ v.s f.place); least = least }
   where
@@ -164,21 +164,21 @@ sought-up x s f (suc i) g h =
     let k : s - i ≡ suc (s - suc i) = omega arith in
     rw one at (sought-next x s i (10 ^ (s - i)) (sought-up x s f i (omega arith) (omega arith)) (omega arith) refl (λ e. f (omega arith) (not-before x (s - suc i) (rw (← k) e))))
 
-pub fit_of-own : (v : Value) → Valid v → fit_of (frac v) ≡ Fits v
+pub fit_of-own : (v : Value) → Valid v → fit_of (frac v) ≡ Some v
 unfolding frac mantissa_limit scale_limit
 fit_of-own v h =
     let x = nat_abs v.m in
     let none_left : v.s - v.s ≡ 0 = omega arith in
     let power : 1 ≡ 10 ^ (v.s - v.s) = rw none_left in
     sym
-    (fit_found v.m x v.s refl v.s 1 (Fits v) (sought-up x v.s h.least v.s (omega arith) (omega (arith, h.places))) h.places power (mod-one x)
-    (rw (div-one x) (ap (λ (z : ℤ). Fits (record { m = z; s = v.s })) (sym (with_sign-own v.m)) ∙ choose-fits v.m x v.s h.small)))
+    (fit_found v.m x v.s refl v.s 1 (Some v) (sought-up x v.s h.least v.s (omega arith) (omega (arith, h.places))) h.places power (mod-one x)
+    (rw (div-one x) (ap (λ (z : ℤ). Some (record { m = z; s = v.s })) (sym (with_sign-own v.m)) ∙ choose-fits v.m x v.s h.small)))
 
-pub fit_of-≈ : (q : Fraction) (v : Value) → Valid v → frac v ≈ q → fit_of q ≡ Fits v
+pub fit_of-≈ : (q : Fraction) (v : Value) → Valid v → frac v ≈ q → fit_of q ≡ Some v
 fit_of-≈ q v h e = sym (fit_of-cong (frac v) q e) ∙ fit_of-own v h
 
 -- nothing that fits is refused
-pub fit_of-refused : (q : Fraction) (v : Value) → fit_of q ≡ TooBig → Valid v → frac v ≈ q → ⊥
+pub fit_of-refused : (q : Fraction) (v : Value) → fit_of q ≡ None → Valid v → frac v ≈ q → ⊥
 fit_of-refused q v e h s = let p = fit_of-≈ q v h s in let w : ◌≡◌ {A = ℕ} 0 1 = cc in omega arith
 
 -- a number has one value
@@ -187,8 +187,8 @@ unique v w hv hw e = let p = fit_of-≈ (frac w) v hv e in let q = fit_of-own w 
 
 -- ---- what never fits: more than six places of which the last is not 0, and a whole number that is too large
 
-pub fit_of-deep : (x s : ℕ) → 6 < s → (x % 10 ≡ 0 → ⊥) → TooBig ≡ fit_of (tenths (pos x) s)
+pub fit_of-deep : (x s : ℕ) → 6 < s → (x % 10 ≡ 0 → ⊥) → None ≡ fit_of (tenths (pos x) s)
 fit_of-deep x s h f = fit_none (pos x) x s refl 7 (sought-up x s (λ _. f) 7 (omega arith) (omega arith)) (omega arith)
 
-pub fit_of-large : (x : ℕ) → 999999999 < x → TooBig ≡ fit_of (tenths (pos x) 0)
-fit_of-large x h = fit_found (pos x) x 0 refl 0 1 TooBig (sought-first x 0) (omega arith) refl (mod-one x) (rw (div-one x) (choose-too-big (pos x) x 0 h))
+pub fit_of-large : (x : ℕ) → 999999999 < x → None ≡ fit_of (tenths (pos x) 0)
+fit_of-large x h = fit_found (pos x) x 0 refl 0 1 None (sought-first x 0) (omega arith) refl (mod-one x) (rw (div-one x) (choose-too-big (pos x) x 0 h))

@@ -1,5 +1,6 @@
 -- Laws of gathering (`specs/Gathering.antt`): what each way of `gather` gives; counts stay counts; a count gathers as values
 -- are added.
+use Rattle.std.specs.Prelude.{Option, Some, None}
 use mathlib.Core.Path.{◌≡◌, refl, sym, ◌∙◌, ap}
 use mathlib.Core.Bool.{Bool, true, false, cond, ◌&&◌}
 use mathlib.Core.List.{List}
@@ -14,8 +15,6 @@ use lib.Seq.{get_or-set_same, get_or-set_other}
 use lib.IntN.{ℤ, pos, nat_abs, ◌+ℤ◌}
 use Rattle.rules.specs.Limits.{mantissa_limit, scale_limit}
 use Rattle.value.specs.declared.Value.{Value}
-use Rattle.value.specs.declared.Fit.{Fit}
-use Rattle.value.specs.declared.Fit.TheVariants.{Fits, TooBig}
 use Rattle.rational.specs.Fraction.{◌≈◌}
 use Rattle.value.specs.Decimal.{Valid, tenths, frac, sum_of, in_range}
 use Rattle.value.specs.Gathering.{millionths, of_millionths, is_fit, count_limit, is_count, gathers, Gathered, Counts}
@@ -38,7 +37,7 @@ unfolding is_count
 is-count z h = lt-ltb _ _ h
 
 -- what fits is a count
-pub count_small : (z : ℤ) (v : Value) → of_millionths z ≡ Fits v → nat_abs z < count_limit
+pub count_small : (z : ℤ) (v : Value) → of_millionths z ≡ Some v → nat_abs z < count_limit
 unfolding of_millionths frac tenths ◌≈◌ mantissa_limit scale_limit
 count_small z v e =
     let size : nat_abs v.m * 1000000 ≡ nat_abs z * 10 ^ v.s = sym (nat_abs_mul v.m (pos 1000000)) ∙ ap nat_abs (fit_of-exact _ v e) ∙ nat_abs_mul z (pos (10 ^ v.s)) in
@@ -46,12 +45,12 @@ count_small z v e =
 
 -- ---- values and counts
 
-pub of_millionths-own : (v : Value) → Valid v → of_millionths (millionths v) ≡ Fits v
+pub of_millionths-own : (v : Value) → Valid v → of_millionths (millionths v) ≡ Some v
 unfolding of_millionths
 of_millionths-own v h = fit_of-≈ _ v h (≈-sym _ _ (millionths-≈ v (valid-in-range v h)))
 
 -- a count to which a value is added is the sum of the values
-pub of_millionths-sum : (z : ℤ) (a v : Value) → of_millionths z ≡ Fits a → Valid v → of_millionths (z +ℤ millionths v) ≡ sum_of a v
+pub of_millionths-sum : (z : ℤ) (a v : Value) → of_millionths z ≡ Some a → Valid v → of_millionths (z +ℤ millionths v) ≡ sum_of a v
 unfolding of_millionths sum_of
 of_millionths-sum z a v e h =
     fit_of-cong _ _
@@ -72,11 +71,11 @@ module _ (l : List ℤ) (k : ℕ) (v : Value) where
   unfolding gathers
   no-count e = record { answer = rw (e, and-false); sums = refl }
 
-  pub no-fit : of_millionths (get_or l k (pos 0) +ℤ millionths v) ≡ TooBig → Gathered l k v false l
+  pub no-fit : of_millionths (get_or l k (pos 0) +ℤ millionths v) ≡ None → Gathered l k v false l
   unfolding gathers is_fit
   no-fit e = record { answer = rw (e, and-false); sums = refl }
 
-  pub fits-there : (a : Value) → k < length l → in_range v ≡ true → is_count (get_or l k (pos 0)) ≡ true → of_millionths (get_or l k (pos 0) +ℤ millionths v) ≡ Fits a
+  pub fits-there : (a : Value) → k < length l → in_range v ≡ true → is_count (get_or l k (pos 0)) ≡ true → of_millionths (get_or l k (pos 0) +ℤ millionths v) ≡ Some a
       → Gathered l k v true (set l k (get_or l k (pos 0) +ℤ millionths v))
   unfolding gathers is_fit
   fits-there a h e f g = record { answer = rw (lt-ltb k (length l) h, e, f, g); sums = refl }
@@ -104,13 +103,13 @@ counts-set l k x h c g = record { small = λ i. go i (ℕ_discrete i k) }
     go i (no f) = rw (get_or-set_other l k i x (pos 0) f) (c.small i)
 
 -- a sum that fits has a value
-fit-value : (r : Fit) → is_fit r ≡ true → (v : Value) × (r ≡ Fits v)
+fit-value : (r : Option Value) → is_fit r ≡ true → (v : Value) × (r ≡ Some v)
 unfolding is_fit
-fit-value (Fits v) e = (v, refl)
-fit-value TooBig e = absurd (let w : ◌≡◌ {A = ℕ} 0 1 = cc in omega arith)
+fit-value (Some v) e = (v, refl)
+fit-value None e = absurd (let w : ◌≡◌ {A = ℕ} 0 1 = cc in omega arith)
 
 module _ (l : List ℤ) (k : ℕ) (v : Value) where
-  pub gathered-value : gathers l k v ≡ true → (a : Value) × (of_millionths (get_or l k (pos 0) +ℤ millionths v) ≡ Fits a)
+  pub gathered-value : gathers l k v ≡ true → (a : Value) × (of_millionths (get_or l k (pos 0) +ℤ millionths v) ≡ Some a)
   unfolding gathers
   gathered-value e = fit-value _ (and_right (ltb k (length l) && in_range v && is_count (get_or l k (pos 0))) _ e)
 

@@ -1,4 +1,5 @@
 -- Values as exact numbers: what fits is exact, and the order of values is that of their numbers.
+use Rattle.std.specs.Prelude.{None, Some}
 use mathlib.Core.Path.{◌≡◌, refl, sym, ◌∙◌, ap}
 use mathlib.Core.Bool.{Bool, true, false, cond}
 use Prim.Native.Nat.{ℕ, ◌^◌}
@@ -7,8 +8,6 @@ use borrow.Author.Tests.{eqb-true, eq-eqb}
 use lib.Dec.{eqb}
 use lib.IntN.{ℤ, pos, negsuc, nat_abs, ◌*ℤ◌, zero-*ℤ}
 use Rattle.value.specs.declared.Value.{Value}
-use Rattle.value.specs.declared.Fit.TheVariants.{Fits}
-use Rattle.value.specs.declared.Whole.TheVariants.{Number, NotWhole}
 use Rattle.rational.proofs.Integer.{*ℤ-id, le_z-true, le_z-false, le-le_z}
 use Rattle.rational.specs.Fraction.{Fraction, ◌≈◌, ◌≼◌, opposite, integer}
 use Rattle.rational.proofs.Fraction.{≈-same}
@@ -28,11 +27,11 @@ pub exactly-whole : (k : ℤ) → exactly (of_whole k) ≡ whole k
 unfolding of_whole
 exactly-whole k = integer-is (of_whole k) k refl refl
 
-pub exactly-whole_of : (v : Value) (k : ℤ) → whole_of v ≡ Number k → exactly v ≡ whole k
+pub exactly-whole_of : (v : Value) (k : ℤ) → whole_of v ≡ Some k → exactly v ≡ whole k
 unfolding whole_of
 exactly-whole_of v k e = go (eqb v.s 0) refl e
   where
-    go : (t : Bool) → eqb v.s 0 ≡ t → cond t (Number v.m) NotWhole ≡ Number k → exactly v ≡ whole k
+    go : (t : Bool) → eqb v.s 0 ≡ t → cond t (Some v.m) None ≡ Some k → exactly v ≡ whole k
     go true d e = integer-is v k (cc) (eqb-true v.s 0 d)
     go false d e = absurd (let w : ◌≡◌ {A = ℕ} 0 1 = cc in omega arith)
 
@@ -48,15 +47,15 @@ pub exactly-negate : (v : Value) → exactly (negate v) ≡ neg (exactly v)
 unfolding exactly frac tenths negate opposite
 exactly-negate v = rational-opposite (frac v)
 
-pub exactly-fit_of : (q : Fraction) (v : Value) → fit_of q ≡ Fits v → exactly v ≡ rational q
+pub exactly-fit_of : (q : Fraction) (v : Value) → fit_of q ≡ Some v → exactly v ≡ rational q
 unfolding exactly
 exactly-fit_of q v e = sound (frac v) q (fit_of-exact q v e)
 
-pub exactly-add : (a b v : Value) → sum_of a b ≡ Fits v → exactly v ≡ exactly a ⊕ exactly b
+pub exactly-add : (a b v : Value) → sum_of a b ≡ Some v → exactly v ≡ exactly a ⊕ exactly b
 unfolding exactly sum_of
 exactly-add a b v e = exactly-fit_of _ v e ∙ rational-⊕ (frac a) (frac b)
 
-pub exactly-mul : (a b v : Value) → product_of a b ≡ Fits v → exactly v ≡ exactly a ⊗ exactly b
+pub exactly-mul : (a b v : Value) → product_of a b ≡ Some v → exactly v ≡ exactly a ⊗ exactly b
 unfolding exactly product_of
 exactly-mul a b v e = exactly-fit_of _ v e ∙ rational-⊗ (frac a) (frac b)
 

@@ -1,5 +1,6 @@
 -- Sum, difference, product, sign, order and whole numbers: what the code computes is what the definitions say; the operations
 -- are exact, give values, and refuse only what no value is.
+use Rattle.std.specs.Prelude.{None, Some}
 use mathlib.Core.Path.{◌≡◌, refl, sym, subst}
 use mathlib.Core.Bool.{Bool, true, false, cond, ◌&&◌}
 use Prim.Native.Nat.{ℕ, zero, suc, ◌+◌, ◌-◌, ◌*◌, ◌%◌, ◌^◌, ◌<◌, ◌≤◌}
@@ -10,8 +11,6 @@ use lib.Dec.{T, eqb, lit<}
 use lib.IntN.{ℤ, pos, negsuc, neg_ℤ, nat_abs, ◌+ℤ◌, ◌-ℤ◌, ◌*ℤ◌, +ℤ_idl}
 use Rattle.rules.specs.Limits.{mantissa_limit, scale_limit}
 use Rattle.value.specs.declared.Value.{Value}
-use Rattle.value.specs.declared.Fit.TheVariants.{Fits, TooBig}
-use Rattle.value.specs.declared.Whole.TheVariants.{Number, NotWhole}
 use Rattle.rational.specs.Fraction.{◌≈◌, ◌≼◌, ◌⊕◌, ◌⊗◌, opposite}
 use Rattle.value.specs.Decimal.{Valid, tenths, frac, fit_of, sum_of, product_of, negate, is_at_most, is_zero, whole_of, of_whole, in_range, zero_value}
 use Rattle.value.specs.Gathering.{millionths, of_millionths}
@@ -54,27 +53,27 @@ product-fit a b = fit_of-cong _ _ (tenths-product _ _ _ _)
 -- ---- the operations
 
 module _ (a b c : Value) where
-  pub sum-exact : sum_of a b ≡ Fits c → frac c ≈ frac a ⊕ frac b
+  pub sum-exact : sum_of a b ≡ Some c → frac c ≈ frac a ⊕ frac b
   unfolding sum_of
   sum-exact e = fit_of-exact _ c e
 
-  pub sum-valid : sum_of a b ≡ Fits c → Valid c
+  pub sum-valid : sum_of a b ≡ Some c → Valid c
   unfolding sum_of
   sum-valid e = fit_of-valid _ c e
 
-  pub sum-refused : sum_of a b ≡ TooBig → Valid c → frac c ≈ frac a ⊕ frac b → ⊥
+  pub sum-refused : sum_of a b ≡ None → Valid c → frac c ≈ frac a ⊕ frac b → ⊥
   unfolding sum_of
   sum-refused e h q = fit_of-refused _ c e h q
 
-  pub product-exact : product_of a b ≡ Fits c → frac c ≈ frac a ⊗ frac b
+  pub product-exact : product_of a b ≡ Some c → frac c ≈ frac a ⊗ frac b
   unfolding product_of
   product-exact e = fit_of-exact _ c e
 
-  pub product-valid : product_of a b ≡ Fits c → Valid c
+  pub product-valid : product_of a b ≡ Some c → Valid c
   unfolding product_of
   product-valid e = fit_of-valid _ c e
 
-  pub product-refused : product_of a b ≡ TooBig → Valid c → frac c ≈ frac a ⊗ frac b → ⊥
+  pub product-refused : product_of a b ≡ None → Valid c → frac c ≈ frac a ⊗ frac b → ⊥
   unfolding product_of
   product-refused e h q = fit_of-refused _ c e h q
 
@@ -130,11 +129,11 @@ zero_is v h e = go v.m v.s h.least (eqb-true _ _ e)
     go (pos (suc n)) s f z = absurd (omega arith)
     go (negsuc n) s f z = absurd (omega arith)
 
-pub whole-number : (v : Value) → v.s ≡ 0 → Number v.m ≡ whole_of v
+pub whole-number : (v : Value) → v.s ≡ 0 → Some v.m ≡ whole_of v
 unfolding whole_of
 whole-number v e = rw (eq-eqb v.s 0 e)
 
-pub not-whole : (v : Value) → (v.s ≡ 0 → ⊥) → NotWhole ≡ whole_of v
+pub not-whole : (v : Value) → (v.s ≡ 0 → ⊥) → None ≡ whole_of v
 unfolding whole_of
 not-whole v f = rw (ne_eqb v.s 0 f)
 
@@ -142,15 +141,15 @@ pub of_whole-valid : (k : ℤ) → nat_abs k ≤ mantissa_limit → Valid (of_wh
 unfolding of_whole scale_limit
 of_whole-valid k h = record { small = h; places = omega arith; least = λ g. absurd (omega arith) }
 
-pub whole_of-of_whole : (k : ℤ) → whole_of (of_whole k) ≡ Number k
+pub whole_of-of_whole : (k : ℤ) → whole_of (of_whole k) ≡ Some k
 unfolding whole_of of_whole
 whole_of-of_whole k = refl
 
-pub of_whole-whole_of : (v : Value) (k : ℤ) → whole_of v ≡ Number k → of_whole k ≡ v
+pub of_whole-whole_of : (v : Value) (k : ℤ) → whole_of v ≡ Some k → of_whole k ≡ v
 unfolding whole_of of_whole
 of_whole-whole_of v k e = go (eqb v.s 0) refl e
   where
-    go : (t : Bool) → eqb v.s 0 ≡ t → cond t (Number v.m) NotWhole ≡ Number k → ◌≡◌ {A = Value} (record { m = k; s = 0 }) v
+    go : (t : Bool) → eqb v.s 0 ≡ t → cond t (Some v.m) None ≡ Some k → ◌≡◌ {A = Value} (record { m = k; s = 0 }) v
     go true p h =
         let m : v.m ≡ k = cc in
         let s : v.s ≡ 0 = eqb-true _ _ p in

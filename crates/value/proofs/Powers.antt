@@ -1,8 +1,8 @@
 -- Laws of powers of ten (`specs/Literal.antt`): a number times one, the first `E`, the power behind it, and what a literal is.
+use Rattle.std.specs.Prelude.{Option, Some, None}
 use mathlib.Core.Path.{◌≡◌, refl, sym, ◌∙◌, ap}
 use mathlib.Core.Bool.{Bool, true, false, cond, ◌&&◌}
 use mathlib.Core.List.{List, [], ◌∷◌, ◌++◌, append-nil}
-use mathlib.Core.Option.{Option, some}
 use Prim.Native.Nat.{ℕ, zero, suc, ◌+◌, ◌-◌, ◌*◌, ◌/◌, ◌%◌, ◌^◌, ◌<◌, ◌≤◌}
 use native.Mathlib.Omega.{arith}
 use native.Mathlib.Nat.{mul-one, mul_assoc, mul-le-mul, div-add-mod', pow-le-pow_right, le-mul_of_pos_right}
@@ -14,11 +14,7 @@ use lib.Seq.{drop-cons}
 use lib.Pow.{pow-add}
 use lib.IntN.{ℤ, pos, negsuc, neg_ℤ, ◌*ℤ◌}
 use Rattle.rules.specs.Limits.{power_digits}
-use Rattle.value.specs.declared.Fit.{Fit}
-use Rattle.value.specs.declared.Fit.TheVariants.{Fits, TooBig}
 use Rattle.value.specs.declared.Value.{Value}
-use Rattle.value.specs.declared.Exponent.{Exponent}
-use Rattle.value.specs.declared.Exponent.TheVariants.{Of, Nothing}
 use Rattle.rational.specs.Fraction.{Fraction, ◌≈◌, ◌⊗◌, integer}
 use Rattle.rational.proofs.Integer.{*ℤ-id}
 use Rattle.rational.proofs.Fraction.{≈-sym, ≈-trans, ⊗-one}
@@ -73,7 +69,7 @@ module _ (x f k : ℕ) where
 
 -- ---- the outcomes of `raised`
 
-module _ (x f k : ℕ) (minus : Bool) (r : Fit) where
+module _ (x f k : ℕ) (minus : Bool) (r : Option Value) where
   pub raise-over : minus ≡ true → r ≡ fit_of (tenths (pos x) (f + k)) → r ≡ fit_of (scaled_by (signed_power minus k) (tenths (pos x) f))
   raise-over e q = rw e (q ∙ lowered-fit x f k)
 
@@ -102,7 +98,7 @@ module _ (x s y i : ℕ) (w : Fewer x s y i) (h : 18 < i) where
         same = fit_of-cong _ _ (≈-sym _ _ (rw (n, p) at (tenths-scale (pos (y / 10)) (i - 1) 1))) ∙ w.same;
       }
 
-  pub fewer-none : (y % 10 ≡ 0 → ⊥) → TooBig ≡ fit_of (tenths (pos x) s)
+  pub fewer-none : (y % 10 ≡ 0 → ⊥) → None ≡ fit_of (tenths (pos x) s)
   fewer-none f = fit_of-deep y i (omega arith) f ∙ w.same
 
 -- ---- the outcomes of `lifted`
@@ -111,10 +107,10 @@ module _ (x k : ℕ) where
   pub lift-zero : x ≡ 0 → fit_of (tenths (pos 0) 0) ≡ fit_of (tenths (pos (x * 10 ^ k)) 0)
   lift-zero e = let p : x * 10 ^ k ≡ 0 = rw e (omega arith) in rw p
 
-  pub lift-large : 999999999 < x → TooBig ≡ fit_of (tenths (pos (x * 10 ^ k)) 0)
+  pub lift-large : 999999999 < x → None ≡ fit_of (tenths (pos (x * 10 ^ k)) 0)
   lift-large h = fit_of-large (x * 10 ^ k) (omega (arith, le-mul_of_pos_right x (ten-pos k)))
 
-  pub lift-high : (x ≡ 0 → ⊥) → 8 < k → TooBig ≡ fit_of (tenths (pos (x * 10 ^ k)) 0)
+  pub lift-high : (x ≡ 0 → ⊥) → 8 < k → None ≡ fit_of (tenths (pos (x * 10 ^ k)) 0)
   lift-high f h =
       let one : 1 ≤ x = omega (arith, f) in
       fit_of-large (x * 10 ^ k) (omega (arith, mul-le-mul one (pow-le-pow_right {n = 10} (lit< tt) {i = 9} {j = k} h)))
@@ -158,21 +154,21 @@ exponent-drop (b ∷ t) = go (exponent-drop t) (eqb b 69)
 
 -- ---- the power that digits write
 
-pub power-none : (minus : Bool) (t : List ℕ) → length t ≡ 0 → IsPower (power_by minus t) Nothing
+pub power-none : (minus : Bool) (t : List ℕ) → length t ≡ 0 → IsPower (power_by minus t) None
 unfolding power_by all_digits
 power-none minus [] e = record { same = refl; small = tt }
 power-none minus (b ∷ t) e = absurd (omega arith)
 
 module _ (minus : Bool) (t : List ℕ) where
-  pub power-long : 2 < length t → IsPower (power_by minus t) Nothing
+  pub power-long : 2 < length t → IsPower (power_by minus t) None
   unfolding power_by power_digits
   power-long h = record { same = rw (lt-leb (length t) 2 h, and-false); small = tt }
 
-  pub power-strange : false ≡ all_digits t → IsPower (power_by minus t) Nothing
+  pub power-strange : false ≡ all_digits t → IsPower (power_by minus t) None
   unfolding power_by
   power-strange e = record { same = rw (← e); small = tt }
 
-  pub power-digits : (k : ℕ) → (length t ≡ 0 → ⊥) → length t ≤ 2 → true ≡ all_digits t → k ≡ number_from 0 t → IsPower (power_by minus t) (Of minus k)
+  pub power-digits : (k : ℕ) → (length t ≡ 0 → ⊥) → length t ≤ 2 → true ≡ all_digits t → k ≡ number_from 0 t → IsPower (power_by minus t) (Some (minus, k))
   unfolding power_by power_digits signed_power
   power-digits k f h e n =
       record {
@@ -181,22 +177,22 @@ module _ (minus : Bool) (t : List ℕ) where
       }
 
 -- an optional sign before it
-pub power-empty : (t : List ℕ) → length t ≡ 0 → IsPower (power_of t) Nothing
+pub power-empty : (t : List ℕ) → length t ≡ 0 → IsPower (power_of t) None
 unfolding power_of
 power-empty [] e = record { same = refl; small = tt }
 power-empty (b ∷ t) e = absurd (omega arith)
 
-pub power-minus : (t : List ℕ) (r : Exponent) → (length t ≡ 0 → ⊥) → get_or t 0 0 ≡ 45 → IsPower (power_by true (take (length t - 1) (drop 1 t))) r → IsPower (power_of t) r
+pub power-minus : (t : List ℕ) (r : Option (Bool × ℕ)) → (length t ≡ 0 → ⊥) → get_or t 0 0 ≡ 45 → IsPower (power_by true (take (length t - 1) (drop 1 t))) r → IsPower (power_of t) r
 unfolding power_of
 power-minus [] r h e i = absurd (h refl)
 power-minus (b ∷ t) r h e i = rw (eq-eqb b 45 e) (rw (part-rest (b ∷ t) 1) at i)
 
-pub power-plus : (t : List ℕ) (r : Exponent) → (length t ≡ 0 → ⊥) → (get_or t 0 0 ≡ 45 → ⊥) → get_or t 0 0 ≡ 43 → IsPower (power_by false (take (length t - 1) (drop 1 t))) r → IsPower (power_of t) r
+pub power-plus : (t : List ℕ) (r : Option (Bool × ℕ)) → (length t ≡ 0 → ⊥) → (get_or t 0 0 ≡ 45 → ⊥) → get_or t 0 0 ≡ 43 → IsPower (power_by false (take (length t - 1) (drop 1 t))) r → IsPower (power_of t) r
 unfolding power_of
 power-plus [] r h f e i = absurd (h refl)
 power-plus (b ∷ t) r h f e i = rw (ne_eqb b 45 f, eq-eqb b 43 e) (rw (part-rest (b ∷ t) 1) at i)
 
-pub power-plain : (t : List ℕ) (r : Exponent) → (length t ≡ 0 → ⊥) → (get_or t 0 0 ≡ 45 → ⊥) → (get_or t 0 0 ≡ 43 → ⊥) → IsPower (power_by false t) r → IsPower (power_of t) r
+pub power-plain : (t : List ℕ) (r : Option (Bool × ℕ)) → (length t ≡ 0 → ⊥) → (get_or t 0 0 ≡ 45 → ⊥) → (get_or t 0 0 ≡ 43 → ⊥) → IsPower (power_by false t) r → IsPower (power_of t) r
 unfolding power_of
 power-plain [] r h f g i = absurd (h refl)
 power-plain (b ∷ t) r h f g i = rw (ne_eqb b 45 f, ne_eqb b 43 g) i
@@ -204,12 +200,12 @@ power-plain (b ∷ t) r h f g i = rw (ne_eqb b 45 f, ne_eqb b 43 g) i
 -- ---- a literal, by the place p of its `E`
 
 -- without a power a decimal is what it is
-raised-none : (t : List ℕ) → raised_by (some (signed_power false 0)) t ≡ decimal_of t
+raised-none : (t : List ℕ) → raised_by (Some (signed_power false 0)) t ≡ decimal_of t
 unfolding raised_by decimal_of signed_power
-raised-none t = ap (λ (v : Fit). cond (is_decimal t) v TooBig) (fit_of-cong _ _ (scaled-none (decimal_number t)))
+raised-none t = ap (λ (v : Option Value). cond (is_decimal t) v None) (fit_of-cong _ _ (scaled-none (decimal_number t)))
 
-module _ (t : List ℕ) (p : ℕ) (r : Fit) (at : p ≡ length (significand t)) where
-  pub literal-alone : length t ≤ p → r ≡ raised_by (some (signed_power false 0)) t → r ≡ literal_of t
+module _ (t : List ℕ) (p : ℕ) (r : Option Value) (at : p ≡ length (significand t)) where
+  pub literal-alone : length t ≤ p → r ≡ raised_by (Some (signed_power false 0)) t → r ≡ literal_of t
   unfolding literal_of
   literal-alone h e =
       rw (eq-eqb (length (significand t)) (length t) (omega (arith, at, ap length (significand-take t), length-take (length (significand t)) t))) (e ∙ raised-none t)
@@ -221,16 +217,16 @@ module _ (t : List ℕ) (p : ℕ) (r : Fit) (at : p ≡ length (significand t)) 
       let b : exponent t ≡ drop (p + 1) t = rw (add-one, at) (exponent-drop t) in
       rw (part-rest t (p + 1), ne_eqb (length (significand t)) (length t) (λ e. omega (arith, at)), a, b)
 
-  pub literal-raised : (i : Exponent) (minus : Bool) (k : ℕ) → p < length t → IsPower (power_of (take (length t - (p + 1)) (drop (p + 1) t))) i → i ≡ Of minus k
-      → r ≡ raised_by (some (signed_power minus k)) (take p t) → r ≡ literal_of t
+  pub literal-raised : (i : Option (Bool × ℕ)) (minus : Bool) (k : ℕ) → p < length t → IsPower (power_of (take (length t - (p + 1)) (drop (p + 1) t))) i → i ≡ Some (minus, k)
+      → r ≡ raised_by (Some (signed_power minus k)) (take p t) → r ≡ literal_of t
   literal-raised i minus k h q e f = f ∙ rw (is-raised h, ← q.same, e)
 
-  pub literal-none : (i : Exponent) → p < length t → IsPower (power_of (take (length t - (p + 1)) (drop (p + 1) t))) i → i ≡ Nothing → r ≡ TooBig → r ≡ literal_of t
+  pub literal-none : (i : Option (Bool × ℕ)) → p < length t → IsPower (power_of (take (length t - (p + 1)) (drop (p + 1) t))) i → i ≡ None → r ≡ None → r ≡ literal_of t
   unfolding raised_by
   literal-none i h q e f = f ∙ rw (is-raised h, ← q.same, e)
 
 -- a power that is read has at most two digits
-pub power_small : (o : Option ℤ) (i : Exponent) (minus : Bool) (k : ℕ) → IsPower o i → i ≡ Of minus k → k < 100
+pub power_small : (o : Option ℤ) (i : Option (Bool × ℕ)) (minus : Bool) (k : ℕ) → IsPower o i → i ≡ Some (minus, k) → k < 100
 power_small o i minus k q e = rw e at q.small
 
 -- ---- what a literal is worth, for every spelling
@@ -266,11 +262,11 @@ unfolding literal_of decimal_of
 literal-decimal t e = rw (eq-eqb (length (significand t)) (length t) (ap length (decimal-plain t e)), e)
 
 -- digits are a whole number
-pub literal-number : (t : List ℕ) (v : Value) → all_digits t ≡ true → literal_of t ≡ Fits v → fit_of (tenths (pos (number_from 0 t)) 0) ≡ Fits v
+pub literal-number : (t : List ℕ) (v : Value) → all_digits t ≡ true → literal_of t ≡ Some v → fit_of (tenths (pos (number_from 0 t)) 0) ≡ Some v
 unfolding literal_of decimal_of decimal_number
 literal-number t v e = rw (eq-eqb (length (significand t)) (length t) (ap length (digits-plain t e)), before-all t e, after-all t e, append-nil t) (go (is_decimal t))
   where
-    go : (u : Bool) → cond u (fit_of (tenths (pos (number_from 0 t)) 0)) TooBig ≡ Fits v → fit_of (tenths (pos (number_from 0 t)) 0) ≡ Fits v
+    go : (u : Bool) → cond u (fit_of (tenths (pos (number_from 0 t)) 0)) None ≡ Some v → fit_of (tenths (pos (number_from 0 t)) 0) ≡ Some v
     go true h = h
     go false h = absurd (let w : ◌≡◌ {A = ℕ} 0 1 = cc in omega arith)
 
@@ -299,7 +295,7 @@ module _ (p : List ℕ) where
       go r false h = r (omega arith)
 
   -- a decimal and a power: the decimal times it
-  pub literal-power : (d : List ℕ) (e : ℤ) → is_decimal d ≡ true → power_of p ≡ some e → literal_of (d ++ 69 ∷ p) ≡ fit_of (scaled_by e (decimal_number d))
+  pub literal-power : (d : List ℕ) (e : ℤ) → is_decimal d ≡ true → power_of p ≡ Some e → literal_of (d ++ 69 ∷ p) ≡ fit_of (scaled_by e (decimal_number d))
   unfolding literal_of raised_by
   literal-power d e h q =
       let n = ap length (decimal-plain d h) in

@@ -1,4 +1,5 @@
 -- Laws of `inRange`: what the code tests of its operands.
+use Rattle.std.specs.Prelude.{None, Option}
 use mathlib.Core.Path.{◌≡◌, refl, sym, ◌∙◌}
 use mathlib.Core.Bool.{Bool, true, false, ◌&&◌}
 use Prim.Native.Nat.{ℕ, ◌<◌, ◌≤◌}
@@ -8,8 +9,6 @@ use lib.Dec.{leb}
 use lib.IntN.{nat_abs}
 use Rattle.rules.specs.Limits.{mantissa_limit, scale_limit}
 use Rattle.value.specs.declared.Value.{Value}
-use Rattle.value.specs.declared.Fit.{Fit}
-use Rattle.value.specs.declared.Fit.TheVariants.{TooBig}
 use Rattle.value.specs.Decimal.{Valid, in_range, if_in_range}
 
 pub and-true : (t : Bool) → (t && true) ≡ t
@@ -57,12 +56,12 @@ pub record Both (a b : Value) : Type 0 where
 pub both_of : (a b : Value) (r : Bool) → r ≡ (in_range a && in_range b) → r ≡ true → Both a b
 both_of a b r e h = record { left = and_left _ _ (sym e ∙ h); right = and_right (in_range a) _ (sym e ∙ h) }
 
-module _ (a b : Value) (r : Fit) where
+module _ (a b : Value) (r : Option Value) where
   pub both-in-range : Both a b → r ≡ if_in_range a b r
   unfolding if_in_range
   both-in-range w = rw (w.left, w.right)
 
-  pub not-in-range : false ≡ (in_range a && in_range b) → TooBig ≡ if_in_range a b r
+  pub not-in-range : false ≡ (in_range a && in_range b) → None ≡ if_in_range a b r
   unfolding if_in_range
   not-in-range e = rw (← e)
 

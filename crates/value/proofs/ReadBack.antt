@@ -1,4 +1,5 @@
 -- What is printed reads back as the same value, so that two values never print alike; and how long a printed value is.
+use Rattle.std.specs.Prelude.{Option, Some, None}
 use mathlib.Core.Path.{◌≡◌, refl, sym, ◌∙◌, ap}
 use mathlib.Core.Bool.{Bool, true, false, cond}
 use mathlib.Core.List.{List, [], ◌∷◌, ◌++◌, append-nil}
@@ -15,8 +16,6 @@ use lib.IntN.{ℤ, pos, negsuc, neg_ℤ, nat_abs}
 use Rattle.rules.specs.Characters.{code}
 use Rattle.rules.specs.Limits.{mantissa_limit, scale_limit, digit_limit}
 use Rattle.value.specs.declared.Value.{Value}
-use Rattle.value.specs.declared.Fit.{Fit}
-use Rattle.value.specs.declared.Fit.TheVariants.{Fits, TooBig}
 use Rattle.value.specs.Decimal.{Valid, tenths, frac, fit_of, negate}
 use Rattle.value.specs.Literal.{is_digit, all_digits, digit_of, number_from, before, after, is_decimal, decimal_number, literal_of}
 use Rattle.value.specs.Printed.{digits, width_from, natural, minus_sign, places, printed}
@@ -28,16 +27,16 @@ use Rattle.value.proofs.Writing.{length_digits, digits-none, places-none, places
 
 -- ---- reading: a `-` and a literal, or a literal
 
-unfoldable pub opposite : Fit → Fit
-opposite (Fits v) = Fits (negate v)
-opposite TooBig = TooBig
+unfoldable pub opposite : Option Value → Option Value
+opposite (Some v) = Some (negate v)
+opposite None = None
 
-unfoldable pub read_back : List ℕ → Fit
+unfoldable pub read_back : List ℕ → Option Value
 read_back [] = literal_of []
 read_back (b ∷ t) = cond (eqb b (code "-")) (opposite (literal_of t)) (literal_of (b ∷ t))
 
 -- what is empty is no literal
-pub read-empty : read_back [] ≡ TooBig
+pub read-empty : read_back [] ≡ None
 unfolding read_back
 read-empty = sym (literal-empty [] refl)
 
@@ -223,7 +222,7 @@ module _ (v : Value) (h : Valid v) where
   unsigned : List ℕ
   unsigned = text (nat_abs v.m) v.s size scale
 
-  unsigned-value : literal_of unsigned ≡ Fits (record { m = pos (nat_abs v.m); s = v.s })
+  unsigned-value : literal_of unsigned ≡ Some (record { m = pos (nat_abs v.m); s = v.s })
   unfolding unsigned frac
   unsigned-value =
       text-value (nat_abs v.m) v.s size scale
@@ -233,17 +232,17 @@ module _ (v : Value) (h : Valid v) where
   unfolding printed unsigned text whole
   printed-is = refl
 
-  pub read_back_lem : read_back (printed v) ≡ Fits v
+  pub read_back_lem : read_back (printed v) ≡ Some v
   unfolding read_back opposite negate minus_sign unsigned
   read_back_lem = rw printed-is (go v.m refl)
     where
-      go : (z : ℤ) → v.m ≡ z → read_back (minus_sign z ++ unsigned) ≡ Fits v
+      go : (z : ℤ) → v.m ≡ z → read_back (minus_sign z ++ unsigned) ≡ Some v
       go (pos n) e =
           let m : pos (nat_abs v.m) ≡ v.m = rw e in
-          read-text (nat_abs v.m) v.s size scale ∙ unsigned-value ∙ ap (λ (z : ℤ). Fits (record { m = z; s = v.s })) m
+          read-text (nat_abs v.m) v.s size scale ∙ unsigned-value ∙ ap (λ (z : ℤ). Some (record { m = z; s = v.s })) m
       go (negsuc n) e =
           let m : neg_ℤ (pos (nat_abs v.m)) ≡ v.m = rw e in
-          ap opposite unsigned-value ∙ ap (λ (z : ℤ). Fits (record { m = z; s = v.s })) m
+          ap opposite unsigned-value ∙ ap (λ (z : ℤ). Some (record { m = z; s = v.s })) m
 
   pub printed-short : length (printed v) ≤ 11
   unfolding unsigned
@@ -254,5 +253,5 @@ module _ (v : Value) (h : Valid v) where
 -- two values print alike only if they are the same
 pub printed-unique : (v w : Value) → Valid v → Valid w → printed v ≡ printed w → v ≡ w
 printed-unique v w hv hw e =
-    let p : Fits v ≡ Fits w = sym (read_back_lem v hv) ∙ ap read_back e ∙ read_back_lem w hw in
+    let p : Some v ≡ Some w = sym (read_back_lem v hv) ∙ ap read_back e ∙ read_back_lem w hw in
     cc

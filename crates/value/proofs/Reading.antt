@@ -1,8 +1,8 @@
 -- Laws of digits and decimals (`specs/Literal.antt`); `Powers` has those of powers of ten.
+use Rattle.std.specs.Prelude.{Option, Some, None}
 use mathlib.Core.Path.{◌≡◌, refl, ◌∙◌, ap, subst}
 use mathlib.Core.Bool.{Bool, true, false, cond, ◌&&◌}
 use mathlib.Core.List.{List, [], ◌∷◌, ◌++◌, append-nil}
-use mathlib.Core.Option.{Option, none, some}
 use Prim.Native.Nat.{ℕ, suc, ◌+◌, ◌-◌, ◌*◌, ◌^◌, ◌<◌, ◌≤◌}
 use native.Mathlib.Omega.{arith}
 use native.Mathlib.Nat.{mul_assoc, mul_comm, mul_left_comm, mul-le-mul_right, pow-suc, one-le-pow, pow-le-pow_right, le-mul_of_pos_right}
@@ -14,7 +14,6 @@ use lib.Seq.{drop-cons, take_all, drop-length}
 use lib.IntN.{ℤ, pos, negsuc, nat_abs}
 use Rattle.rules.specs.Limits.{digit_limit, mantissa_limit}
 use Rattle.rational.specs.Fraction.{Fraction, ◌⊗◌, integer}
-use Rattle.value.specs.declared.Fit.TheVariants.{Fits, TooBig}
 use Rattle.value.specs.declared.Value.{Value}
 use Rattle.value.specs.Decimal.{Valid, Lowest, at, none as nowhere, with_sign, choose, tenths, fit_of}
 use Rattle.value.specs.Literal.{is_digit, all_digits, digit_of, number_from, before, after, is_decimal, decimal_number, decimal_of, significand, exponent, power_of, scaled_by, raised_by, literal_of}
@@ -153,19 +152,19 @@ module _ (a b : List ℕ) (ha : length a ≤ 18) (hb : length b ≤ 18 - length 
   parts-value j x f p q = rw (le-leb (length a + length b) 18 (omega arith), ← p, ← q, number_append 0 a b, ← e, ← f)
 
 module _ (e : ℤ) (a b : List ℕ) where
-  pub parts-long : 18 < length a → TooBig ≡ parts_value e a b
+  pub parts-long : 18 < length a → None ≡ parts_value e a b
   unfolding parts_value digit_limit
   parts-long h = rw (lt-leb (length a + length b) 18 (omega arith), and-false)
 
-  pub parts-longer : length a ≤ 18 → 18 - length a < length b → TooBig ≡ parts_value e a b
+  pub parts-longer : length a ≤ 18 → 18 - length a < length b → None ≡ parts_value e a b
   unfolding parts_value digit_limit
   parts-longer h g = rw (lt-leb (length a + length b) 18 (omega arith), and-false)
 
-  pub parts-strange : false ≡ all_digits a → TooBig ≡ parts_value e a b
+  pub parts-strange : false ≡ all_digits a → None ≡ parts_value e a b
   unfolding parts_value
   parts-strange h = rw (← h)
 
-  pub parts-strange-after : false ≡ all_digits b → TooBig ≡ parts_value e a b
+  pub parts-strange-after : false ≡ all_digits b → None ≡ parts_value e a b
   unfolding parts_value
   parts-strange-after h = rw (← h, and-false)
 
@@ -222,7 +221,7 @@ part_none t = part-rest t (length t) ∙ drop-length t
 
 -- ---- a decimal times the power e: the outcomes, by the place p of the point
 
-pub raised-empty : (e : ℤ) (t : List ℕ) → length t ≡ 0 → TooBig ≡ raised_by (some e) t
+pub raised-empty : (e : ℤ) (t : List ℕ) → length t ≡ 0 → None ≡ raised_by (Some e) t
 unfolding raised_by is_decimal before after all_digits
 raised-empty e [] h = refl
 raised-empty e (b ∷ t) h = absurd (omega arith)
@@ -238,17 +237,17 @@ module _ (e : ℤ) (t : List ℕ) (p : ℕ) (at : p ≡ length (before t)) where
   long_after = ap length is-after ∙ length-drop (p + 1) t
 
   -- no point, a point at the end, a point elsewhere
-  pub raised-whole : 0 < length t → length t ≤ p → parts_value e t [] ≡ raised_by (some e) t
+  pub raised-whole : 0 < length t → length t ≤ p → parts_value e t [] ≡ raised_by (Some e) t
   unfolding parts_value raised_by is_decimal decimal_number
   raised-whole g h =
       rw (is-before ∙ take_all p t h, is-after ∙ drop_of_length-le t {i = p + 1} (omega arith), append-nil t, eq-eqb (length t) (length t) refl, le-leb 1 (length t) g, and-true)
 
-  pub raised-ends : p < length t → length t ≤ p + 1 → TooBig ≡ raised_by (some e) t
+  pub raised-ends : p < length t → length t ≤ p + 1 → None ≡ raised_by (Some e) t
   unfolding raised_by is_decimal
   raised-ends g h =
       rw (ne_eqb (length t) (length (before t)) (λ e. omega (arith, at)), lt-leb 1 (length (after t)) (omega (arith, long_after)), and-false)
 
-  pub raised-parts : p + 1 < length t → parts_value e (take p t) (drop (p + 1) t) ≡ raised_by (some e) t
+  pub raised-parts : p + 1 < length t → parts_value e (take p t) (drop (p + 1) t) ≡ raised_by (Some e) t
   unfolding parts_value raised_by is_decimal decimal_number
   raised-parts h =
       rw (ne_eqb (length t) (length (before t)) (λ e. omega (arith, at)), le-leb 1 (length (after t)) (omega (arith, long_after)), and-true, is-before, is-after)
@@ -259,42 +258,42 @@ record Good (v : Value) : Type 0 where
   valid : Valid v
   plain : v.m ≡ pos (nat_abs v.m)
 
-choose-plain : (z : ℤ) (n : ℕ) (l : Lowest) (v : Value) → z ≡ pos n → choose z l ≡ Fits v → v.m ≡ pos (nat_abs v.m)
+choose-plain : (z : ℤ) (n : ℕ) (l : Lowest) (v : Value) → z ≡ pos n → choose z l ≡ Some v → v.m ≡ pos (nat_abs v.m)
 unfolding choose with_sign
 choose-plain z n nowhere v p e = absurd (let w : ◌≡◌ {A = ℕ} 0 1 = cc in omega arith)
 choose-plain z n (at m i) v p e = go (leb m mantissa_limit) (rw p at e)
   where
-    go : (u : Bool) → cond u (Fits (record { m = pos m; s = i })) TooBig ≡ Fits v → v.m ≡ pos (nat_abs v.m)
+    go : (u : Bool) → cond u (Some (record { m = pos m; s = i })) None ≡ Some v → v.m ≡ pos (nat_abs v.m)
     go true e = let q : ◌≡◌ {A = Value} (record { m = pos m; s = i }) v = cc in subst (λ (x : Value). x.m ≡ pos (nat_abs x.m)) q refl
     go false e = absurd (let w : ◌≡◌ {A = ℕ} 0 1 = cc in omega arith)
 
 -- where a test holds, the value of a fraction that is not negative
-tested-good : (u : Bool) (n : ℕ) (q : Fraction) (v : Value) → q.num ≡ pos n → cond u (fit_of q) TooBig ≡ Fits v → Good v
+tested-good : (u : Bool) (n : ℕ) (q : Fraction) (v : Value) → q.num ≡ pos n → cond u (fit_of q) None ≡ Some v → Good v
 unfolding fit_of
 tested-good true n q v e h = record { valid = fit_of-valid q v h; plain = choose-plain q.num n _ v e h }
 tested-good false n q v e h = absurd (let w : ◌≡◌ {A = ℕ} 0 1 = cc in omega arith)
 
-raised-good : (o : Option ℤ) (t : List ℕ) (v : Value) → raised_by o t ≡ Fits v → Good v
+raised-good : (o : Option ℤ) (t : List ℕ) (v : Value) → raised_by o t ≡ Some v → Good v
 unfolding raised_by scaled_by decimal_number tenths integer ◌⊗◌
-raised-good none t v e = absurd (let w : ◌≡◌ {A = ℕ} 0 1 = cc in omega arith)
-raised-good (some (pos k)) t v e = tested-good (is_decimal t) _ _ v refl e
-raised-good (some (negsuc k)) t v e = tested-good (is_decimal t) _ _ v refl e
+raised-good None t v e = absurd (let w : ◌≡◌ {A = ℕ} 0 1 = cc in omega arith)
+raised-good (Some (pos k)) t v e = tested-good (is_decimal t) _ _ v refl e
+raised-good (Some (negsuc k)) t v e = tested-good (is_decimal t) _ _ v refl e
 
-literal-good : (t : List ℕ) (v : Value) → literal_of t ≡ Fits v → Good v
+literal-good : (t : List ℕ) (v : Value) → literal_of t ≡ Some v → Good v
 unfolding literal_of decimal_of decimal_number tenths
 literal-good t v e = go (eqb (length (significand t)) (length t)) e
   where
-    go : (u : Bool) → cond u (decimal_of t) (raised_by (power_of (exponent t)) (significand t)) ≡ Fits v → Good v
+    go : (u : Bool) → cond u (decimal_of t) (raised_by (power_of (exponent t)) (significand t)) ≡ Some v → Good v
     go true h = tested-good (is_decimal t) _ _ v refl h
     go false h = raised-good (power_of (exponent t)) (significand t) v h
 
-pub literal-empty : (t : List ℕ) → length t ≡ 0 → TooBig ≡ literal_of t
+pub literal-empty : (t : List ℕ) → length t ≡ 0 → None ≡ literal_of t
 unfolding literal_of significand decimal_of is_decimal before after all_digits
 literal-empty [] e = refl
 literal-empty (b ∷ t) e = absurd (omega arith)
 
-pub literal-valid : (t : List ℕ) (v : Value) → literal_of t ≡ Fits v → Valid v
+pub literal-valid : (t : List ℕ) (v : Value) → literal_of t ≡ Some v → Valid v
 literal-valid t v e = (literal-good t v e).valid
 
-pub literal-plain : (t : List ℕ) (v : Value) → literal_of t ≡ Fits v → v.m ≡ pos (nat_abs v.m)
+pub literal-plain : (t : List ℕ) (v : Value) → literal_of t ≡ Some v → v.m ≡ pos (nat_abs v.m)
 literal-plain t v e = (literal-good t v e).plain

@@ -1,4 +1,6 @@
 -- Steps of `seek` over powers of ten: where x / 10^s can be written over 10^i, by a test on x alone.
+use Rattle.std.specs.Prelude.{Option, Some, None}
+use Rattle.value.specs.declared.Value.{Value}
 use mathlib.Core.Path.{◌≡◌, refl, sym, ◌∙◌, ap}
 use Prim.Native.Nat.{ℕ, zero, suc, ◌+◌, ◌-◌, ◌*◌, ◌/◌, ◌%◌, ◌^◌, ◌<◌, ◌≤◌}
 use native.Mathlib.Omega.{arith}
@@ -8,8 +10,6 @@ use lib.Dec.{lit<}
 use lib.Pow.{pow-add}
 use lib.IntN.{ℤ, nat_abs}
 use Rattle.rules.specs.Limits.{mantissa_limit, scale_limit}
-use Rattle.value.specs.declared.Fit.{Fit}
-use Rattle.value.specs.declared.Fit.TheVariants.{Fits, TooBig}
 use Rattle.value.specs.Decimal.{tenths, at, with_sign, seek, ten, choose, fit_of}
 
 pub ten-pos : (k : ℕ) → 0 < 10 ^ k
@@ -86,13 +86,13 @@ module _ (z : ℤ) (x s : ℕ) (size : x ≡ nat_abs z) where
   unfolding fit_of tenths scale_limit
   fit-sought = rw size
 
-  pub fit_found : (i d : ℕ) (r : Fit) → Sought x s i → i ≤ 6 → d ≡ 10 ^ (s - i) → x % d ≡ 0 → r ≡ choose z (at (x / d) i) → r ≡ fit_of (tenths z s)
+  pub fit_found : (i d : ℕ) (r : Option Value) → Sought x s i → i ≤ 6 → d ≡ 10 ^ (s - i) → x % d ≡ 0 → r ≡ choose z (at (x / d) i) → r ≡ fit_of (tenths z s)
   fit_found i d r w h e p q =
       let n : 7 - i ≡ suc (6 - i) = omega arith in
       let f = seek_found x s i w.low (6 - i) (rw (← e) p) in
       q ∙ ap (choose z) (rw e (sym f) ∙ ap (λ (j : ℕ). seek ten j i x (10 ^ s)) (sym n) ∙ w.same) ∙ sym fit-sought
 
-  pub fit_none : (i : ℕ) → Sought x s i → 6 < i → TooBig ≡ fit_of (tenths z s)
+  pub fit_none : (i : ℕ) → Sought x s i → 6 < i → None ≡ fit_of (tenths z s)
   unfolding seek choose
   fit_none i w h =
       let m : 7 - i ≡ 0 = omega arith in
@@ -100,10 +100,10 @@ module _ (z : ℤ) (x s : ℕ) (size : x ≡ nat_abs z) where
 
 -- ---- what is chosen of a place
 
-pub choose-fits : (z : ℤ) (m i : ℕ) → m ≤ 999999999 → Fits (record { m = with_sign z m; s = i }) ≡ choose z (at m i)
+pub choose-fits : (z : ℤ) (m i : ℕ) → m ≤ 999999999 → Some (record { m = with_sign z m; s = i }) ≡ choose z (at m i)
 unfolding choose mantissa_limit
 choose-fits z m i h = rw (le-leb m 999999999 h)
 
-pub choose-too-big : (z : ℤ) (m i : ℕ) → 999999999 < m → TooBig ≡ choose z (at m i)
+pub choose-too-big : (z : ℤ) (m i : ℕ) → 999999999 < m → None ≡ choose z (at m i)
 unfolding choose mantissa_limit
 choose-too-big z m i h = rw (lt-leb m 999999999 h)

@@ -1,15 +1,11 @@
 -- Document 01, "Values": a value is m / 10^s, s from 0 to 6, m whole, at most 999,999,999 either side of zero, with s as
 -- small as it can be; such a value fits. Sums, differences (the sum with the opposite) and products are exact.
-use Rattle.std.specs.Prelude.{◌≡◌, Bool, true, false, cond, ◌&&◌, ℕ, zero, suc, ◌*◌, ◌/◌, ◌%◌, ◌^◌, ◌<◌, ◌≤◌, eqb, leb, ℤ, pos, negsuc, neg_ℤ, nat_abs, ◌*ℤ◌}
+use Rattle.std.specs.Prelude.{◌≡◌, Bool, true, false, cond, ◌&&◌, ℕ, zero, suc, ◌*◌, ◌/◌, ◌%◌, ◌^◌, ◌<◌, ◌≤◌, eqb, leb, ℤ, pos, negsuc, neg_ℤ, nat_abs, ◌*ℤ◌, Option, Some, None}
 use Rattle.std.proofs.Math.Nat.{one-le-pow}
 use Rattle.std.proofs.Common.{lit<}
 use Rattle.std.specs.Int.Signed.{le_z, shr_z}
 use Rattle.rules.specs.Limits.{mantissa_limit, scale_limit}
 use Rattle.value.specs.declared.Value.{Value}
-use Rattle.value.specs.declared.Fit.{Fit}
-use Rattle.value.specs.declared.Fit.TheVariants.{Fits, TooBig}
-use Rattle.value.specs.declared.Whole.{Whole}
-use Rattle.value.specs.declared.Whole.TheVariants.{Number, NotWhole}
 use Rattle.rational.specs.Fraction.{Fraction, ◌⊕◌, ◌⊗◌}
 
 -- the number that z / 10^s is, as a fraction
@@ -44,23 +40,23 @@ seek den zero i x D = none
 seek den (suc k) i x D = elim (eqb (x * den i % D) 0) [ true ↦ at (x * den i / D) i | false ↦ seek den k (suc i) x D ]
 
 -- with the sign of z, if the numerator is small enough
-unfoldable pub choose : ℤ → Lowest → Fit
-choose z (at m i) = cond (leb m mantissa_limit) (Fits (record { m = with_sign z m; s = i })) TooBig
-choose z none = TooBig
+unfoldable pub choose : ℤ → Lowest → Option Value
+choose z (at m i) = cond (leb m mantissa_limit) (Some (record { m = with_sign z m; s = i })) None
+choose z none = None
 
 abbrev pub ten : ℕ → ℕ
 ten i = 10 ^ i
 
 -- the value that a fraction is, where it fits
-unfoldable pub fit_of : Fraction → Fit
+unfoldable pub fit_of : Fraction → Option Value
 fit_of q = choose q.num (seek ten (suc scale_limit) 0 (nat_abs q.num) q.den)
 
 -- ---- operations
 
-unfoldable pub sum_of : Value → Value → Fit
+unfoldable pub sum_of : Value → Value → Option Value
 sum_of a b = fit_of (frac a ⊕ frac b)
 
-unfoldable pub product_of : Value → Value → Fit
+unfoldable pub product_of : Value → Value → Option Value
 product_of a b = fit_of (frac a ⊗ frac b)
 
 unfoldable pub negate : Value → Value
@@ -80,8 +76,8 @@ abbrev pub one_value : Value
 one_value = record { m = pos 1; s = 0 }
 
 -- the whole number that a value is, if it is one; and a whole number as a value
-unfoldable pub whole_of : Value → Whole
-whole_of v = cond (eqb v.s 0) (Number v.m) NotWhole
+unfoldable pub whole_of : Value → Option ℤ
+whole_of v = cond (eqb v.s 0) (Some v.m) None
 
 unfoldable pub of_whole : ℤ → Value
 of_whole k = record { m = k; s = 0 }
@@ -100,5 +96,5 @@ unfoldable pub in_range : Value → Bool
 in_range v = leb (nat_abs v.m) mantissa_limit && leb v.s scale_limit
 
 -- an operation on values, and `TooBig` where an operand is none
-unfoldable pub if_in_range : Value → Value → Fit → Fit
-if_in_range a b r = cond (in_range a && in_range b) r TooBig
+unfoldable pub if_in_range : Value → Value → Option Value → Option Value
+if_in_range a b r = cond (in_range a && in_range b) r None

@@ -1,22 +1,20 @@
 -- Document 01, "Numbering and bounds": the coefficients of one row are gathered in a lent run of wide numbers, one per
 -- variable; each partial sum must fit. A wide number is a count of millionths.
-use Rattle.std.specs.Prelude.{◌≡◌, Bool, true, false, cond, ◌&&◌, List, ℕ, ◌-◌, ◌^◌, ◌<◌, ltb, length, get_or, set, ℤ, pos, nat_abs, ◌+ℤ◌, ◌*ℤ◌}
+use Rattle.std.specs.Prelude.{◌≡◌, Bool, true, false, cond, ◌&&◌, List, ℕ, ◌-◌, ◌^◌, ◌<◌, ltb, length, get_or, set, ℤ, pos, nat_abs, ◌+ℤ◌, ◌*ℤ◌, Option, Some, None}
 use Rattle.rules.specs.Limits.{scale_limit}
 use Rattle.value.specs.declared.Value.{Value}
-use Rattle.value.specs.declared.Fit.{Fit}
-use Rattle.value.specs.declared.Fit.TheVariants.{Fits, TooBig}
 use Rattle.value.specs.Decimal.{tenths, fit_of, in_range}
 
 -- a value as a count of millionths, and the value of such a count
 unfoldable pub millionths : Value → ℤ
 millionths v = v.m *ℤ pos (10 ^ (scale_limit - v.s))
 
-unfoldable pub of_millionths : ℤ → Fit
+unfoldable pub of_millionths : ℤ → Option Value
 of_millionths z = fit_of (tenths z scale_limit)
 
-unfoldable pub is_fit : Fit → Bool
-is_fit (Fits v) = true
-is_fit TooBig = false
+unfoldable pub is_fit : Option Value → Bool
+is_fit (Some v) = true
+is_fit None = false
 
 -- a count that a value has is below this, so that a sum of two is far from the end of i64
 abbrev pub count_limit : ℕ

@@ -1,13 +1,11 @@
 -- Document 01, "Values": a decimal is digits, digits.digits or .digits, at most 18 digits in all. Document 02, #102: a literal is a
 -- decimal, or a decimal followed by `E`, an optional sign and one or two digits, and is then the decimal times that power of ten
 -- (decision 50; the numbers are those of docs/DECISIONS.md). What is no literal, has more digits, or doesn't fit, is too big.
-use Rattle.std.specs.Prelude.{Bool, true, false, cond, ◌&&◌, List, [], ◌∷◌, ◌++◌, ℕ, suc, ◌+◌, ◌-◌, ◌*◌, ◌^◌, leb, eqb, length, ℤ, pos, negsuc, neg_ℤ}
-use Rattle.std.proofs.Math.Option.{Option, none, some}
+use Rattle.std.specs.Prelude.{Bool, true, false, cond, ◌&&◌, List, [], ◌∷◌, ◌++◌, ℕ, suc, ◌+◌, ◌-◌, ◌*◌, ◌^◌, leb, eqb, length, ℤ, pos, negsuc, neg_ℤ, Option, Some, None}
+use Rattle.value.specs.declared.Value.{Value}
 use Rattle.rules.specs.Characters.{code}
 use Rattle.rules.specs.Limits.{digit_limit, power_digits}
 use Rattle.rational.specs.Fraction.{Fraction, ◌⊗◌, integer}
-use Rattle.value.specs.declared.Fit.{Fit}
-use Rattle.value.specs.declared.Fit.TheVariants.{TooBig}
 use Rattle.value.specs.Decimal.{tenths, fit_of}
 
 unfoldable pub is_digit : ℕ → Bool
@@ -45,8 +43,8 @@ unfoldable pub decimal_number : List ℕ → Fraction
 decimal_number t = tenths (pos (number_from 0 (before t ++ after t))) (length (after t))
 
 -- the value of a decimal; what is no decimal has none
-unfoldable pub decimal_of : List ℕ → Fit
-decimal_of t = cond (is_decimal t) (fit_of (decimal_number t)) TooBig
+unfoldable pub decimal_of : List ℕ → Option Value
+decimal_of t = cond (is_decimal t) (fit_of (decimal_number t)) None
 
 -- the bytes before the first `E`, and those after it
 unfoldable pub significand : List ℕ → List ℕ
@@ -61,11 +59,11 @@ exponent (b ∷ t) = elim (eqb b (code "E")) [ true ↦ t | false ↦ exponent t
 unfoldable pub power_by : Bool → List ℕ → Option ℤ
 power_by minus t =
     let k = pos (number_from 0 t) in
-    cond (all_digits t && leb 1 (length t) && leb (length t) power_digits) (some (cond minus (neg_ℤ k) k)) none
+    cond (all_digits t && leb 1 (length t) && leb (length t) power_digits) (Some (cond minus (neg_ℤ k) k)) None
 
 -- the power that an optional sign and one or two digits write; anything else writes none
 unfoldable pub power_of : List ℕ → Option ℤ
-power_of [] = none
+power_of [] = None
 power_of (b ∷ t) = cond (eqb b (code "-")) (power_by true t) (cond (eqb b (code "+")) (power_by false t) (power_by false (b ∷ t)))
 
 -- a number times 10^k, or divided by it
@@ -74,10 +72,10 @@ scaled_by (pos k) q = q ⊗ integer (pos (10 ^ k))
 scaled_by (negsuc k) q = q ⊗ tenths (pos 1) (suc k)
 
 -- the value of a decimal times a power of ten: only the product must fit
-unfoldable pub raised_by : Option ℤ → List ℕ → Fit
-raised_by none t = TooBig
-raised_by (some e) t = cond (is_decimal t) (fit_of (scaled_by e (decimal_number t))) TooBig
+unfoldable pub raised_by : Option ℤ → List ℕ → Option Value
+raised_by None t = None
+raised_by (Some e) t = cond (is_decimal t) (fit_of (scaled_by e (decimal_number t))) None
 
 -- the value of a literal; what is no literal has none
-unfoldable pub literal_of : List ℕ → Fit
+unfoldable pub literal_of : List ℕ → Option Value
 literal_of t = cond (eqb (length (significand t)) (length t)) (decimal_of t) (raised_by (power_of (exponent t)) (significand t))

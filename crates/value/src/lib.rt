@@ -2,8 +2,7 @@
 // Every public function is total: it answers for any numbers m and s, also those that are no value.
 #![tactic(auto)]
 
-ghost use Rattle.std.specs.Prelude.{◌≡◌, true, false, cond, ◌&&◌, [], ◌∷◌, ◌+◌, ◌-◌, ◌*◌, ◌/◌, ◌%◌, ◌^◌, ◌<◌, ◌≤◌, length, pos, nat_abs, ◌+ℤ◌, ◌-ℤ◌, ◌*ℤ◌};
-ghost use Rattle.std.proofs.Math.Option.{some};
+ghost use Rattle.std.specs.Prelude.{◌≡◌, true, false, cond, ◌&&◌, [], ◌∷◌, ◌+◌, ◌-◌, ◌*◌, ◌/◌, ◌%◌, ◌^◌, ◌<◌, ◌≤◌, length, pos, nat_abs, ◌+ℤ◌, ◌-ℤ◌, ◌*ℤ◌, Some};
 ghost use Rattle.rules.specs.Characters.{code};
 ghost use Rattle.rules.specs.Limits.{mantissa_limit, scale_limit};
 ghost use Rattle.value.specs.Decimal.{tenths, with_sign, at, choose, fit_of, in_range, if_in_range, sum_of, product_of, negate, is_at_most, is_zero, whole_of, of_whole, floor_of, ceiling_of};
@@ -16,27 +15,6 @@ ghost use Rattle.value.specs.Parts.{parts_value, signed_power, IsPower};
 pub struct Value {
     pub m: i64,
     pub s: usize,
-}
-
-// What an operation answers: a value that fits, or that there is none.
-#[derive(Clone, Copy)]
-pub enum Fit {
-    Fits(Value),
-    TooBig,
-}
-
-// The whole number that a value is, or that it is none.
-#[derive(Clone, Copy)]
-pub enum Whole {
-    Number(i64),
-    NotWhole,
-}
-
-// The power of ten of a literal, whether it is behind a minus and its digits, or that there is none.
-#[derive(Clone, Copy)]
-enum Exponent {
-    Of(bool, usize),
-    Nothing,
 }
 
 // ---- powers of ten
@@ -115,20 +93,20 @@ fn with_sign(a: i64, x: u64) -> i64
 // ---- the lowest form
 
 // m / 10^i with the sign of z, if m is small enough.
-fn chosen(z: i64, m: u64, i: usize) -> Fit
+fn chosen(z: i64, m: u64, i: usize) -> Option<Value>
     ensures { result ≡ choose z (at m i) }
 {
     if m <= rules::MANTISSA_LIMIT {
-        return Fit::Fits(Value {
+        return Some(Value {
             m: with_sign(z, m),
             s: i,
         });
     }
-    Fit::TooBig
+    None
 }
 
 // z / 10^s over the lowest power of ten over which it can be written.
-fn normalise(z: i64, s: usize) -> Fit
+fn normalise(z: i64, s: usize) -> Option<Value>
     requires { s < 19 }
     ensures { result ≡ fit_of (tenths z s) }
 {
@@ -141,7 +119,7 @@ fn normalise(z: i64, s: usize) -> Fit
         }
         i = i + 1;
     }
-    Fit::TooBig
+    None
 }
 
 // ---- operations
@@ -183,23 +161,23 @@ fn aligned(v: Value) -> i64
 }
 
 // The value of a count of millionths, if it fits.
-pub fn of_millionths(z: i64) -> Fit
+pub fn of_millionths(z: i64) -> Option<Value>
     ensures { result ≡ of_millionths z }
 {
     normalise(z, rules::SCALE_LIMIT)
 }
 
 // Sum and product, exact, if they fit; too big where an operand is out of range. A difference is the sum with the opposite.
-pub fn add(a: Value, b: Value) -> Fit
+pub fn add(a: Value, b: Value) -> Option<Value>
     ensures { result ≡ if_in_range a b (sum_of a b) }
 {
     if both_in_range(a, b) {
         return of_millionths(plus(aligned(a), aligned(b)));
     }
-    Fit::TooBig
+    None
 }
 
-pub fn mul(a: Value, b: Value) -> Fit
+pub fn mul(a: Value, b: Value) -> Option<Value>
     ensures { result ≡ if_in_range a b (product_of a b) }
 {
     if both_in_range(a, b) {
@@ -207,7 +185,7 @@ pub fn mul(a: Value, b: Value) -> Fit
         let s = a.s + b.s;
         return normalise(m, s);
     }
-    Fit::TooBig
+    None
 }
 
 // The opposite; what is out of range stays as it is.
@@ -239,13 +217,13 @@ pub fn is_zero(v: Value) -> bool
     magnitude(v.m) == 0
 }
 
-pub fn whole_of(v: Value) -> Whole
+pub fn whole_of(v: Value) -> Option<i64>
     ensures { result ≡ whole_of v }
 {
     if v.s == 0 {
-        return Whole::Number(v.m);
+        return Some(v.m);
     }
-    Whole::NotWhole
+    None
 }
 
 pub fn of_whole(k: i64) -> Value
@@ -326,11 +304,11 @@ pub fn gather(sums: &mut [i64], k: usize, v: Value) -> bool
     }
     let sum = plus(old, aligned(v));
     match of_millionths(sum) {
-        Fit::Fits(_) => {
+        Some(_) => {
             sums[k] = sum;
             true
         }
-        Fit::TooBig => false,
+        None => false,
     }
 }
 
@@ -399,7 +377,7 @@ fn point(t: &[u8]) -> usize
 }
 
 // x / 10^s: a spare zero of x is taken off where the power is too large for `normalise`.
-fn lowered(x: u64, s: usize) -> Fit
+fn lowered(x: u64, s: usize) -> Option<Value>
     requires { x < 2 ^ 63 }
     ensures { result ≡ fit_of (tenths (pos x) s) }
 {
@@ -407,7 +385,7 @@ fn lowered(x: u64, s: usize) -> Fit
     let mut i = s;
     while rules::DIGIT_LIMIT < i {
         if y % 10 != 0 {
-            return Fit::TooBig;
+            return None;
         }
         y = y / 10;
         i = i - 1;
@@ -416,23 +394,23 @@ fn lowered(x: u64, s: usize) -> Fit
 }
 
 // x * 10^k
-fn lifted(x: u64, k: usize) -> Fit
+fn lifted(x: u64, k: usize) -> Option<Value>
     ensures { result ≡ fit_of (tenths (pos (x * 10 ^ k)) 0) }
 {
     if x == 0 {
         return normalise(0, 0);
     }
     if rules::MANTISSA_LIMIT < x {
-        return Fit::TooBig;
+        return None;
     }
     if LARGEST_POWER < k {
-        return Fit::TooBig;
+        return None;
     }
     normalise((x * power(k)) as i64, 0)
 }
 
 // x / 10^f times a power of ten.
-fn raised(x: u64, f: usize, minus: bool, k: usize) -> Fit
+fn raised(x: u64, f: usize, minus: bool, k: usize) -> Option<Value>
     requires { (x < 2 ^ 63) × (f < 19) × (k < 100) }
     ensures { result ≡ fit_of (scaled_by (signed_power minus k) (tenths (pos x) f)) }
 {
@@ -446,23 +424,23 @@ fn raised(x: u64, f: usize, minus: bool, k: usize) -> Fit
 }
 
 // The value of the digits a before the point and b after it, times a power of ten.
-fn read_parts(a: &[u8], b: &[u8], minus: bool, k: usize) -> Fit
+fn read_parts(a: &[u8], b: &[u8], minus: bool, k: usize) -> Option<Value>
     requires { k < 100 }
     ensures { result ≡ parts_value (signed_power minus k) a.now b.now }
 {
     let w = a.len();
     let f = b.len();
     if rules::DIGIT_LIMIT < w {
-        return Fit::TooBig;
+        return None;
     }
     if rules::DIGIT_LIMIT - w < f {
-        return Fit::TooBig;
+        return None;
     }
     if !all_digits(a) {
-        return Fit::TooBig;
+        return None;
     }
     if !all_digits(b) {
-        return Fit::TooBig;
+        return None;
     }
     let m = number(a, 0);
     let x = number(b, m);
@@ -470,13 +448,13 @@ fn read_parts(a: &[u8], b: &[u8], minus: bool, k: usize) -> Fit
 }
 
 // The value of digits, digits.digits or .digits, at most 18 digits, times a power of ten.
-fn decimal(t: &[u8], minus: bool, k: usize) -> Fit
+fn decimal(t: &[u8], minus: bool, k: usize) -> Option<Value>
     requires { k < 100 }
-    ensures { result ≡ raised_by (some (signed_power minus k)) t.now }
+    ensures { result ≡ raised_by (Some (signed_power minus k)) t.now }
 {
     let n = t.len();
     if n == 0 {
-        return Fit::TooBig;
+        return None;
     }
     let p = point(t);
     if n <= p {
@@ -484,35 +462,35 @@ fn decimal(t: &[u8], minus: bool, k: usize) -> Fit
     }
     let q = p + 1;
     if n <= q {
-        return Fit::TooBig;
+        return None;
     }
     read_parts(&t[..p], &t[q..], minus, k)
 }
 
 // The power that one or two digits write.
-fn power_by(minus: bool, t: &[u8]) -> Exponent
+fn power_by(minus: bool, t: &[u8]) -> Option<(bool, usize)>
     ensures { IsPower (power_by minus t.now) result }
 {
     let n = t.len();
     if n == 0 {
-        return Exponent::Nothing;
+        return None;
     }
     if rules::POWER_DIGITS < n {
-        return Exponent::Nothing;
+        return None;
     }
     if !all_digits(t) {
-        return Exponent::Nothing;
+        return None;
     }
     let k = number(t, 0);
-    Exponent::Of(minus, k as usize)
+    Some((minus, k as usize))
 }
 
 // The power that an optional sign and one or two digits write.
-fn power_of(t: &[u8]) -> Exponent
+fn power_of(t: &[u8]) -> Option<(bool, usize)>
     ensures { IsPower (power_of t.now) result }
 {
     if t.len() == 0 {
-        return Exponent::Nothing;
+        return None;
     }
     let b = t[0];
     if b == b'-' {
@@ -540,7 +518,7 @@ fn letter(t: &[u8]) -> usize
 
 // The value of a literal: a decimal of at most 18 digits, which may be followed by `E`, an optional sign and one or two digits. Too
 // big if t is none, or doesn't fit.
-pub fn literal(t: &[u8]) -> Fit
+pub fn literal(t: &[u8]) -> Option<Value>
     ensures { result ≡ literal_of t.now }
 {
     let n = t.len();
@@ -550,8 +528,8 @@ pub fn literal(t: &[u8]) -> Fit
     }
     let from = e + 1;
     match power_of(&t[from..]) {
-        Exponent::Of(minus, k) => decimal(&t[..e], minus, k),
-        Exponent::Nothing => Fit::TooBig,
+        Some((minus, k)) => decimal(&t[..e], minus, k),
+        None => None,
     }
 }
 

@@ -1,7 +1,7 @@
 -- Laws of a portion's entries over plain variables.
+use Rattle.std.specs.Prelude.{None, Some}
 use mathlib.Core.Path.{◌≡◌, refl, sym, ◌∙◌, ap}
 use mathlib.Core.Bool.{Bool, true, false}
-use mathlib.Core.Option.{none, some}
 use mathlib.Core.List.{List, [], ◌∷◌, ◌++◌, append_assoc, append-nil}
 use Prim.Native.Nat.{ℕ, zero, suc, ◌+◌, ◌<◌, ◌≤◌}
 use native.Mathlib.Omega.{arith}
@@ -139,8 +139,8 @@ unfolding bound_of set_at
 bound-set [] j k = refl
 bound-set (fixed x ∷ l) zero k = refl
 bound-set (marked i ∷ l) zero k = refl
-bound-set (fixed x ∷ l) (suc j) k = ap (λ m. some x ∷ m) (bound-set l j k)
-bound-set (marked i ∷ l) (suc j) k = ap (λ m. none ∷ m) (bound-set l j k)
+bound-set (fixed x ∷ l) (suc j) k = ap (λ m. Some x ∷ m) (bound-set l j k)
+bound-set (marked i ∷ l) (suc j) k = ap (λ m. None ∷ m) (bound-set l j k)
 
 -- k is read back from its bits
 pub fix-bound : (e r : Entries) (j : ℕ) (k : ℤ) → SFits w64 k → entries_of r ≡ set (entries_of e) j (fixed (to_z w64 (of_z w64 k))) → bound_of (entries_of r) ≡ set_at j k (bound_of (entries_of e))

@@ -1,7 +1,7 @@
 -- Laws of the readers of one token over plain variables: an index, an entry, a number, the data section's ends.
+use Rattle.std.specs.Prelude.{Option, Some, None}
 use mathlib.Core.Path.{◌≡◌, refl, sym, ◌∙◌, ap, subst}
 use mathlib.Core.Bool.{Bool, true, false, ◌||◌}
-use mathlib.Core.Option.{Option, none, some}
 use mathlib.Core.List.{List, [], ◌∷◌}
 use Prim.Native.Nat.{ℕ, zero, suc, ◌/◌, ◌%◌, ◌^◌, ◌<◌}
 use native.Mathlib.Omega.{arith}
@@ -51,7 +51,7 @@ no_end s (suc (suc (suc (suc zero)))) p x h = refl
 no_end s (suc (suc (suc (suc (suc zero))))) p x h = refl
 no_end s (suc (suc (suc (suc (suc (suc k)))))) p x h = refl
 
-no-digits : (s : List ℕ) (k p x : ℕ) → (k ≡ 2 → ⊥) → digits_of (kind_of s k p x) ≡ none
+no-digits : (s : List ℕ) (k p x : ℕ) → (k ≡ 2 → ⊥) → digits_of (kind_of s k p x) ≡ None
 unfolding kind_of digits_of
 no-digits s zero p x h = refl
 no-digits s (suc zero) p x h = refl
@@ -61,7 +61,7 @@ no-digits s (suc (suc (suc (suc zero)))) p x h = refl
 no-digits s (suc (suc (suc (suc (suc zero))))) p x h = refl
 no-digits s (suc (suc (suc (suc (suc (suc k)))))) p x h = refl
 
-some-value : (s : List ℕ) (k p x : ℕ) → (eqb k 2 || eqb k 3) ≡ true → value_of (kind_of s k p x) ≡ some (record { m = pos (x / 8); s = x % 8 })
+some-value : (s : List ℕ) (k p x : ℕ) → (eqb k 2 || eqb k 3) ≡ true → value_of (kind_of s k p x) ≡ Some (record { m = pos (x / 8); s = x % 8 })
 unfolding kind_of value_of
 some-value s zero p x h = absurd (let w : ◌≡◌ {A = ℕ} 0 1 = cc in omega arith)
 some-value s (suc zero) p x h = absurd (let w : ◌≡◌ {A = ℕ} 0 1 = cc in omega arith)
@@ -71,7 +71,7 @@ some-value s (suc (suc (suc (suc zero)))) p x h = absurd (let w : ◌≡◌ {A =
 some-value s (suc (suc (suc (suc (suc zero))))) p x h = absurd (let w : ◌≡◌ {A = ℕ} 0 1 = cc in omega arith)
 some-value s (suc (suc (suc (suc (suc (suc k)))))) p x h = absurd (false-true (rw (ne_eqb (suc (suc (suc (suc (suc (suc k)))))) 2 (λ e. omega arith), ne_eqb (suc (suc (suc (suc (suc (suc k)))))) 3 (λ e. omega arith)) at h))
 
-no_value : (s : List ℕ) (k p x : ℕ) → (eqb k 2 || eqb k 3) ≡ false → value_of (kind_of s k p x) ≡ none
+no_value : (s : List ℕ) (k p x : ℕ) → (eqb k 2 || eqb k 3) ≡ false → value_of (kind_of s k p x) ≡ None
 unfolding kind_of value_of
 no_value s zero p x h = refl
 no_value s (suc zero) p x h = refl
@@ -257,13 +257,13 @@ module _ (s ns ts : List ℕ) (at : ℕ) (r : Indexed) (h : Answers indexed inde
 -- ---- an entry
 
 -- a name that was found stands where it was looked for
-found-place : (l : List ℕ) (names : List Name) (i p : ℕ) (u : Used) → find l names i p ≡ some u → u.place ≡ p
+found-place : (l : List ℕ) (names : List Name) (i p : ℕ) (u : Used) → find l names i p ≡ Some u → u.place ≡ p
 unfolding find
 found-place l [] i p u e = absurd (none-some e)
 found-place l (x ∷ xs) i p u e = go (same_bytes l x.spelling) (found-place l xs (suc i) p u) e
   where
-    go : (b : Bool) → (find l xs (suc i) p ≡ some u → u.place ≡ p)
-        → ◌≡◌ {A = Option Used} (elim b as (λ _. Option Used) [ true ↦ some (record { number = i; sort = x.sort; place = p }) | false ↦ find l xs (suc i) p ]) (some u) → u.place ≡ p
+    go : (b : Bool) → (find l xs (suc i) p ≡ Some u → u.place ≡ p)
+        → ◌≡◌ {A = Option Used} (elim b as (λ _. Option Used) [ true ↦ Some (record { number = i; sort = x.sort; place = p }) | false ↦ find l xs (suc i) p ]) (Some u) → u.place ≡ p
     go true ih e = sym (ap (λ (u : Used). u.place) (some-injective e))
     go false ih e = ih e
 
@@ -282,8 +282,8 @@ marked-same names l p ts = go (find l names 0 p) refl
     go : (o : Option Used) → find l names 0 p ≡ o
         → follow (follow (follow (found o p ts) (λ u ts. follow (require (is_index u.sort) Misplaced u.place ts) (λ _. give u))) (λ u. give u.number)) (λ i. give (marked i))
         ≡ follow (found o p ts) (λ u ts. follow (require (is_index u.sort) Misplaced p ts) (λ _. give (marked u.number)))
-    go none e = refl
-    go (some u) e = by u (is_index u.sort) (found-place l names 0 p u e)
+    go None e = refl
+    go (Some u) e = by u (is_index u.sort) (found-place l names 0 p u e)
 
 module _ (names : List Name) (s : List ℕ) (p x : ℕ) (ts : List Token) where
   no-entry : (k : ℕ) → (k ≡ 1 → ⊥) → (k ≡ 2 → ⊥) → (k ≡ 5 → ⊥) → (k ≡ 43 → ⊥) → (k ≡ 45 → ⊥) → entry_by names p (kind_of s k p x) ts ≡ refused Misplaced p

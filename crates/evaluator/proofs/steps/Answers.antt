@@ -1,4 +1,5 @@
 -- Laws of the steps on values: what each answers, and that it is what the definition says of values.
+use Rattle.std.specs.Prelude.{Option, Some, None}
 use mathlib.Core.Path.{◌≡◌, refl, ◌∙◌, ap}
 use mathlib.Core.Bool.{Bool, true, false, cond}
 use mathlib.Core.List.{List}
@@ -11,15 +12,9 @@ use mir.Val.{Fits, to_z, of_z}
 use mir.Facts.{to_z_pos}
 use Rattle.rules.specs.declared.Refusal.TheVariants.{Unfit, BadIndex, NotWhole, Missing}
 use Rattle.value.specs.declared.Value.{Value}
-use Rattle.value.specs.declared.Fit.{Fit}
-use Rattle.value.specs.declared.Fit.TheVariants as fit
-use Rattle.value.specs.declared.Whole.{Whole}
-use Rattle.value.specs.declared.Whole.TheVariants.{Number, NotWhole as no_number}
 use Rattle.value.specs.Decimal.{in_range, if_in_range, sum_of, negate, whole_of, of_whole, floor_of, ceiling_of}
 use Rattle.value.proofs.Integers.{back}
 use Rattle.store.specs.declared.Element.{Element}
-use Rattle.store.specs.declared.Found.{Found}
-use Rattle.store.specs.declared.Found.TheVariants as found
 use Rattle.store.specs.declared.Key.{Key}
 use Rattle.store.specs.Element.{list_of, extended}
 use Rattle.store.specs.Key.{key_number, key_of}
@@ -42,16 +37,16 @@ use Rattle.evaluator.specs.Steps.Values.{fitted_at, signed_value, whole_by, whol
 pub literal-is : (x : ℕ) → Fits w64 x → ◌≡◌ {A = Value} (record { m = to_z w64 (x / 8); s = x % 8 }) (record { m = pos (x / 8); s = x % 8 })
 literal-is x h = rw (to_z_pos w64 {n = x / 8} (omega (arith, h.fits))) refl
 
-module _ (p a : ℕ) (f : Fit) where
-  pub fitted-value : (v : Value) → f ≡ fit.Fits v → answer.Value v a ≡ fitted_at p a f
+module _ (p a : ℕ) (f : Option Value) where
+  pub fitted-value : (v : Value) → f ≡ Some v → answer.Value v a ≡ fitted_at p a f
   unfolding fitted_at
   fitted-value v e = rw e refl
 
-  pub fitted-not : f ≡ fit.TooBig → answer.Refused Unfit p ≡ fitted_at p a f
+  pub fitted-not : f ≡ None → answer.Refused Unfit p ≡ fitted_at p a f
   unfolding fitted_at
   fitted-not e = rw e refl
 
-  pub fitted-same : (g : Fit) (r : Answer) → r ≡ fitted_at p a g → g ≡ f → r ≡ fitted_at p a f
+  pub fitted-same : (g : Option Value) (r : Answer) → r ≡ fitted_at p a g → g ≡ f → r ≡ fitted_at p a f
   fitted-same g r e h = e ∙ ap (fitted_at p a) h
 
 pub signed-minus : (b : Bool) (v w : Value) → b ≡ true → w ≡ cond (in_range v) (negate v) v → w ≡ signed_value b v
@@ -62,18 +57,18 @@ pub signed-plus : (b : Bool) (v : Value) → b ≡ false → v ≡ signed_value 
 unfolding signed_value
 signed-plus b v e = rw e refl
 
-pub sum_same : (p a : ℕ) (b : Bool) (v w u : Value) (g : Fit) (r : Answer) → u ≡ signed_value b w → g ≡ if_in_range v u (sum_of v u) → r ≡ fitted_at p a g
+pub sum_same : (p a : ℕ) (b : Bool) (v w u : Value) (g : Option Value) (r : Answer) → u ≡ signed_value b w → g ≡ if_in_range v u (sum_of v u) → r ≡ fitted_at p a g
     → r ≡ fitted_at p a (if_in_range v (signed_value b w) (sum_of v (signed_value b w)))
 sum_same p a b v w u g r e f h = h ∙ ap (fitted_at p a) (f ∙ ap (λ u. if_in_range v u (sum_of v u)) e)
 
 -- ---- whole numbers
 
-module _ (p a : ℕ) (v : Value) (w : Whole) (h : w ≡ whole_of v) where
-  pub whole-yes : (k : ℤ) → w ≡ Number k → answer.Value v a ≡ whole_answer p a v
+module _ (p a : ℕ) (v : Value) (w : Option ℤ) (h : w ≡ whole_of v) where
+  pub whole-yes : (k : ℤ) → w ≡ Some k → answer.Value v a ≡ whole_answer p a v
   unfolding whole_answer whole_by
   whole-yes k e = rw (← h, e) refl
 
-  pub whole-no : w ≡ no_number → answer.Refused NotWhole p ≡ whole_answer p a v
+  pub whole-no : w ≡ None → answer.Refused NotWhole p ≡ whole_answer p a v
   unfolding whole_answer whole_by
   whole-no e = rw (← h, e) refl
 
@@ -99,16 +94,16 @@ bounds-are i q v w l e = rw e refl
 
 -- ---- data
 
-module _ (ds : List ℕ) (p a : ℕ) (f : Found) where
-  pub datum-no : f ≡ found.Nothing → answer.Refused Missing p ≡ word_answer p a (word_in ds f)
+module _ (ds : List ℕ) (p a : ℕ) (f : Option ℕ) where
+  pub datum-no : f ≡ None → answer.Refused Missing p ≡ word_answer p a (word_in ds f)
   unfolding word_answer word_in
   datum-no e = rw e
 
-  pub datum-yes : (j w : ℕ) (v : Value) → f ≡ found.At j → w ≡ word_at ds j → v ≡ unpacked w → answer.Value v a ≡ word_answer p a (word_in ds f)
+  pub datum-yes : (j w : ℕ) (v : Value) → f ≡ Some j → w ≡ word_at ds j → v ≡ unpacked w → answer.Value v a ≡ word_answer p a (word_in ds f)
   unfolding word_answer word_in
   datum-yes j w v e x y = rw (e, y, x)
 
-module _ (ds : List ℕ) (rows i p a : ℕ) (ks : List ℤ) (k : Key) (f : Found) (h : key_number k ≡ key_of i ks) (r : Answer) (d : r ≡ word_answer p a (word_in ds f)) where
+module _ (ds : List ℕ) (rows i p a : ℕ) (ks : List ℤ) (k : Key) (f : Option ℕ) (h : key_number k ≡ key_of i ks) (r : Answer) (d : r ≡ word_answer p a (word_in ds f)) where
   pub known_is : f ≡ found_row ds rows (key_number k) → r ≡ known_answer ds rows i ks p a
   unfolding known_answer
   known_is g = d ∙ ap (λ f. word_answer p a (word_in ds f)) g ∙ ap (λ n. word_answer p a (word_in ds (found_row ds rows n))) h

@@ -1,13 +1,13 @@
 -- Laws of names by their numbers: the table resolved, rows, and what a token's number says of the names.
+use Rattle.std.specs.Prelude.{Option, Some, None, slice_get}
 use mathlib.Core.Path.{◌≡◌, refl, sym, ◌∙◌, ap, subst}
 use mathlib.Core.Bool.{Bool, true, false, cond}
-use mathlib.Core.Option.{Option, none, some}
 use mathlib.Core.List.{List, [], ◌∷◌, map}
 use Prim.Native.Nat.{ℕ, zero, suc, ◌+◌, ◌-◌, ◌*◌, ◌<◌, ◌≤◌}
 use native.Mathlib.Omega.{arith}
 use borrow.Author.Tests.{lt-ltb, le-ltb, eq-eqb, ne_eqb, eqb-true, ltb-true, ltb-false}
 use lib.Dec.{eqb, ltb}
-use lib.ListN.{length, length-set, get_or, set, drop, take, get_elem?, length-map, get_or-eq_default}
+use lib.ListN.{length, length-set, get_or, set, drop, take, length-map, get_or-eq_default}
 use Rattle.rules.specs.declared.Refusal.{Refusal}
 use Rattle.rules.specs.Limits.{name_limit}
 use Rattle.lexer.specs.Text.{Token, same_bytes}
@@ -260,52 +260,52 @@ module _ (level w : ℕ) where
 
 -- the names that are found from number i on, and among the first `level`
 module _ (l : List ℕ) (p : ℕ) where
-  found_after : (names : List Name) (i : ℕ) (u : Used) → find l names i p ≡ some u → i ≤ u.number
+  found_after : (names : List Name) (i : ℕ) (u : Used) → find l names i p ≡ Some u → i ≤ u.number
   unfolding find
   found_after [] i u e = absurd (let z : ◌≡◌ {A = ℕ} 0 1 = cc in omega arith)
   found_after (x ∷ xs) i u e = go (same_bytes l x.spelling) (found_after xs (suc i) u) e
     where
-      go : (b : Bool) → (find l xs (suc i) p ≡ some u → suc i ≤ u.number)
-          → (elim b as (λ _. Option Used) [ true ↦ some (record { number = i; sort = x.sort; place = p }) | false ↦ find l xs (suc i) p ]) ≡ some u → i ≤ u.number
+      go : (b : Bool) → (find l xs (suc i) p ≡ Some u → suc i ≤ u.number)
+          → (elim b as (λ _. Option Used) [ true ↦ Some (record { number = i; sort = x.sort; place = p }) | false ↦ find l xs (suc i) p ]) ≡ Some u → i ≤ u.number
       go true f e = let v : ◌≡◌ {A = Used} (record { number = i; sort = x.sort; place = p }) u = cc in omega (arith, ap (λ (u : Used). u.number) v)
       go false f e = omega (arith, f e)
 
-  pub found_first : (names : List Name) (i level : ℕ) (u : Used) → find l names i p ≡ some u → u.number < i + level → find l (take level names) i p ≡ some u
+  pub found_first : (names : List Name) (i level : ℕ) (u : Used) → find l names i p ≡ Some u → u.number < i + level → find l (take level names) i p ≡ Some u
   unfolding find
   found_first [] i zero u e h = e
   found_first [] i (suc level) u e h = e
   found_first (x ∷ xs) i zero u e h = absurd (omega (arith, found_after (x ∷ xs) i u e))
   found_first (x ∷ xs) i (suc level) u e h = go (same_bytes l x.spelling) (λ f. found_first xs (suc i) level u f (omega arith)) e
     where
-      go : (b : Bool) → (find l xs (suc i) p ≡ some u → find l (take level xs) (suc i) p ≡ some u)
-          → (elim b as (λ _. Option Used) [ true ↦ some (record { number = i; sort = x.sort; place = p }) | false ↦ find l xs (suc i) p ]) ≡ some u
-          → (elim b as (λ _. Option Used) [ true ↦ some (record { number = i; sort = x.sort; place = p }) | false ↦ find l (take level xs) (suc i) p ]) ≡ some u
+      go : (b : Bool) → (find l xs (suc i) p ≡ Some u → find l (take level xs) (suc i) p ≡ Some u)
+          → (elim b as (λ _. Option Used) [ true ↦ Some (record { number = i; sort = x.sort; place = p }) | false ↦ find l xs (suc i) p ]) ≡ Some u
+          → (elim b as (λ _. Option Used) [ true ↦ Some (record { number = i; sort = x.sort; place = p }) | false ↦ find l (take level xs) (suc i) p ]) ≡ Some u
       go true f e = e
       go false f e = f e
 
-  pub found-late : (names : List Name) (i level : ℕ) (u : Used) → find l names i p ≡ some u → i + level ≤ u.number → find l (take level names) i p ≡ none
+  pub found-late : (names : List Name) (i level : ℕ) (u : Used) → find l names i p ≡ Some u → i + level ≤ u.number → find l (take level names) i p ≡ None
   unfolding find
   found-late [] i zero u e h = refl
   found-late [] i (suc level) u e h = refl
   found-late (x ∷ xs) i zero u e h = refl
   found-late (x ∷ xs) i (suc level) u e h = go (same_bytes l x.spelling) (λ f. found-late xs (suc i) level u f (omega arith)) e
     where
-      go : (b : Bool) → (find l xs (suc i) p ≡ some u → find l (take level xs) (suc i) p ≡ none)
-          → (elim b as (λ _. Option Used) [ true ↦ some (record { number = i; sort = x.sort; place = p }) | false ↦ find l xs (suc i) p ]) ≡ some u
-          → ◌≡◌ {A = Option Used} (elim b as (λ _. Option Used) [ true ↦ some (record { number = i; sort = x.sort; place = p }) | false ↦ find l (take level xs) (suc i) p ]) none
+      go : (b : Bool) → (find l xs (suc i) p ≡ Some u → find l (take level xs) (suc i) p ≡ None)
+          → (elim b as (λ _. Option Used) [ true ↦ Some (record { number = i; sort = x.sort; place = p }) | false ↦ find l xs (suc i) p ]) ≡ Some u
+          → ◌≡◌ {A = Option Used} (elim b as (λ _. Option Used) [ true ↦ Some (record { number = i; sort = x.sort; place = p }) | false ↦ find l (take level xs) (suc i) p ]) None
       go true f e = absurd (let v : ◌≡◌ {A = Used} (record { number = i; sort = x.sort; place = p }) u = cc in omega (arith, ap (λ (u : Used). u.number) v))
       go false f e = f e
 
-  pub found_none : (names : List Name) (i level : ℕ) → find l names i p ≡ none → find l (take level names) i p ≡ none
+  pub found_none : (names : List Name) (i level : ℕ) → find l names i p ≡ None → find l (take level names) i p ≡ None
   unfolding find
   found_none [] i zero e = refl
   found_none [] i (suc level) e = refl
   found_none (x ∷ xs) i zero e = refl
   found_none (x ∷ xs) i (suc level) e = go (same_bytes l x.spelling) (found_none xs (suc i) level) e
     where
-      go : (b : Bool) → (find l xs (suc i) p ≡ none → find l (take level xs) (suc i) p ≡ none)
-          → ◌≡◌ {A = Option Used} (elim b as (λ _. Option Used) [ true ↦ some (record { number = i; sort = x.sort; place = p }) | false ↦ find l xs (suc i) p ]) none
-          → ◌≡◌ {A = Option Used} (elim b as (λ _. Option Used) [ true ↦ some (record { number = i; sort = x.sort; place = p }) | false ↦ find l (take level xs) (suc i) p ]) none
+      go : (b : Bool) → (find l xs (suc i) p ≡ None → find l (take level xs) (suc i) p ≡ None)
+          → ◌≡◌ {A = Option Used} (elim b as (λ _. Option Used) [ true ↦ Some (record { number = i; sort = x.sort; place = p }) | false ↦ find l xs (suc i) p ]) None
+          → ◌≡◌ {A = Option Used} (elim b as (λ _. Option Used) [ true ↦ Some (record { number = i; sort = x.sort; place = p }) | false ↦ find l (take level xs) (suc i) p ]) None
       go true f e = absurd (let z : ◌≡◌ {A = ℕ} 0 1 = cc in omega arith)
       go false f e = f e
 
@@ -313,17 +313,17 @@ module _ (l : List ℕ) (p : ℕ) where
 pub record Numbered (names : List Name) (i : ℕ) (u : Used) : Type 0 where
   pub name : Name
   pub ahead : ℕ
-  pub stands : get_elem? names ahead ≡ some name
+  pub stands : slice_get names ahead ≡ Some name
   pub numbered : u.number ≡ i + ahead
   pub sorted : u.sort ≡ name.sort
 
-pub found-numbered : (l : List ℕ) (p : ℕ) (names : List Name) (i : ℕ) (u : Used) → find l names i p ≡ some u → Numbered names i u
+pub found-numbered : (l : List ℕ) (p : ℕ) (names : List Name) (i : ℕ) (u : Used) → find l names i p ≡ Some u → Numbered names i u
 unfolding find
 found-numbered l p [] i u e = absurd (let z : ◌≡◌ {A = ℕ} 0 1 = cc in omega arith)
 found-numbered l p (x ∷ xs) i u e = go (same_bytes l x.spelling) (found-numbered l p xs (suc i) u) e
   where
-    go : (b : Bool) → (find l xs (suc i) p ≡ some u → Numbered xs (suc i) u)
-        → (elim b as (λ _. Option Used) [ true ↦ some (record { number = i; sort = x.sort; place = p }) | false ↦ find l xs (suc i) p ]) ≡ some u → Numbered (x ∷ xs) i u
+    go : (b : Bool) → (find l xs (suc i) p ≡ Some u → Numbered xs (suc i) u)
+        → (elim b as (λ _. Option Used) [ true ↦ Some (record { number = i; sort = x.sort; place = p }) | false ↦ find l xs (suc i) p ]) ≡ Some u → Numbered (x ∷ xs) i u
     go true f e =
         let v : ◌≡◌ {A = Used} (record { number = i; sort = x.sort; place = p }) u = cc in
         record { name = x; ahead = 0; stands = refl; numbered = omega (arith, ap (λ (u : Used). u.number) v); sorted = sym (ap (λ (u : Used). u.sort) v) }
@@ -332,7 +332,7 @@ found-numbered l p (x ∷ xs) i u e = go (same_bytes l x.spelling) (found-number
         record { name = r.name; ahead = suc r.ahead; stands = r.stands; numbered = omega (arith, r.numbered); sorted = r.sorted }
 
 -- the row of a name tells its sort
-pub row-shaped : (s ns : List ℕ) (names : List Name) (i : ℕ) (x : Name) → Named s ns names → get_elem? names i ≡ some x → Shaped x.sort (row_word ns i 2) (row_word ns i 3)
+pub row-shaped : (s ns : List ℕ) (names : List Name) (i : ℕ) (x : Name) → Named s ns names → slice_get names i ≡ Some x → Shaped x.sort (row_word ns i 2) (row_word ns i 3)
 unfolding row_word
 row-shaped s [] [] i x h e = absurd (let z : ◌≡◌ {A = ℕ} 0 1 = cc in omega arith)
 row-shaped s [] (y ∷ ys) i x h e = absurd h
@@ -353,15 +353,15 @@ used-is u n x p e f g = rw (← e, ← f, ← g) refl
 -- a name of the table: which one it is, and where it is found
 pub record Known (l : List ℕ) (names : List Name) (p i : ℕ) : Type 0 where
   pub name : Name
-  pub stands : get_elem? names i ≡ some name
-  pub found : (level : ℕ) → i < level → find l (take level names) 0 p ≡ some (record { number = i; sort = name.sort; place = p })
-  pub late : (level : ℕ) → level ≤ i → find l (take level names) 0 p ≡ none
+  pub stands : slice_get names i ≡ Some name
+  pub found : (level : ℕ) → i < level → find l (take level names) 0 p ≡ Some (record { number = i; sort = name.sort; place = p })
+  pub late : (level : ℕ) → level ≤ i → find l (take level names) 0 p ≡ None
 
 module _ (s l ns : List ℕ) (names : List Name) (p : ℕ) (d : Named s ns names) where
-  told_none : 0 ≡ number_found (look_up s l ns 0) → (level : ℕ) → find l (take level names) 0 p ≡ none
+  told_none : 0 ≡ number_found (look_up s l ns 0) → (level : ℕ) → find l (take level names) 0 p ≡ None
   told_none e level = go (look_up s l ns 0) refl e
     where
-      go : (f : Found) → look_up s l ns 0 ≡ f → 0 ≡ number_found f → find l (take level names) 0 p ≡ none
+      go : (f : Found) → look_up s l ns 0 ≡ f → 0 ≡ number_found f → find l (take level names) 0 p ≡ None
       go (found.Name i k c) h e = absurd (omega arith)
       go found.Nothing h e = found_none l p names 0 level (not-declared s l ns names 0 p d h)
 
@@ -377,8 +377,8 @@ module _ (s l ns : List ℕ) (names : List Name) (p : ℕ) (d : Named s ns names
           let g = used-is u.used i r.name.sort p n r.sorted u.placed in
           record {
             name = r.name;
-            stands = subst (λ m. get_elem? names m ≡ some r.name) (sym m) r.stands;
-            found = λ level b. found_first l p names 0 level u.used u.stands (omega arith) ∙ ap some g;
+            stands = subst (λ m. slice_get names m ≡ Some r.name) (sym m) r.stands;
+            found = λ level b. found_first l p names 0 level u.used u.stands (omega arith) ∙ ap Some g;
             late = λ level b. found-late l p names 0 level u.used u.stands (omega arith);
           }
       go found.Nothing h e = absurd (omega arith)
@@ -415,11 +415,11 @@ module _ (s ns ts : List ℕ) (names : List Name) (d : Named s ns names) (r : Re
         let n = kind-name s (kind_part w) (place_part w) (payload_part w) (spelling s p (name_bytes x)) (sym (ap (λ (t : Token). t.kind) f) ∙ rw one refl) in
         r.numbers at b n.0 ∙ ap (λ l. number_found (look_up s l ns 0)) n.1
 
-    pub unknown : v ≡ listed.Nothing → (level : ℕ) → find (spelling s p (name_bytes x)) (take level names) 0 p ≡ none
+    pub unknown : v ≡ listed.Nothing → (level : ℕ) → find (spelling s p (name_bytes x)) (take level names) 0 p ≡ None
     unfolding listed_of
     unknown f level = go (number_part (get_or ts at 0)) spelled (sym g ∙ f)
       where
-        go : (n : ℕ) → n ≡ number_found (look_up s (spelling s p (name_bytes x)) ns 0) → listed_of ns n ≡ listed.Nothing → find (spelling s p (name_bytes x)) (take level names) 0 p ≡ none
+        go : (n : ℕ) → n ≡ number_found (look_up s (spelling s p (name_bytes x)) ns 0) → listed_of ns n ≡ listed.Nothing → find (spelling s p (name_bytes x)) (take level names) 0 p ≡ None
         go zero n f = told_none s (spelling s p (name_bytes x)) ns names p d n level
         go (suc i) n f = absurd (let z : ◌≡◌ {A = ℕ} 0 1 = cc in omega arith)
 

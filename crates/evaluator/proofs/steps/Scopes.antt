@@ -1,7 +1,7 @@
 -- Laws of scopes: what is bound, one index more, none, and bounds.
+use Rattle.std.specs.Prelude.{Option, Some, None}
 use mathlib.Core.Path.{◌≡◌, refl, sym, ◌∙◌, ap, subst}
 use mathlib.Core.Bool.{Bool, true, false, cond, ◌&&◌}
-use mathlib.Core.Option.{Option, none, some}
 use mathlib.Core.List.{List, [], ◌∷◌}
 use Prim.Native.Nat.{ℕ, zero, suc, ◌^◌, ◌<◌, ◌≤◌}
 use native.Mathlib.Omega.{arith}
@@ -63,7 +63,7 @@ bind-none s i k e f g h = rw (four s (omega arith))
 -- ---- what an index is bound to
 
 -- one index among them
-bound-if : (i j : ℕ) (k : ℤ) (l : List Binding) (t : Bool) → (t && eqb i j) ≡ true → bound_to i (bound_if t j k l) ≡ some k
+bound-if : (i j : ℕ) (k : ℤ) (l : List Binding) (t : Bool) → (t && eqb i j) ≡ true → bound_to i (bound_if t j k l) ≡ Some k
 unfolding bound_to
 bound-if i j k l true e = rw (e, bound_to)
 bound-if i j k l false e = absurd (let z : ◌≡◌ {A = ℕ} 0 1 = cc in omega arith)
@@ -84,33 +84,33 @@ abbrev three : Held → List Binding
 three s = bound_if (ltb 2 s.count) s.third s.c (two s)
 
 module _ (s : Held) (i : ℕ) where
-  pub bound-fourth : (ltb 3 s.count && eqb i s.fourth) ≡ true → mag s.d < 2 ^ 63 → some (to_z w64 (of_z w64 s.d)) ≡ bound_to i (bindings_of s)
+  pub bound-fourth : (ltb 3 s.count && eqb i s.fourth) ≡ true → mag s.d < 2 ^ 63 → Some (to_z w64 (of_z w64 s.d)) ≡ bound_to i (bindings_of s)
   unfolding bindings_of
-  bound-fourth e h = ap some (back h) ∙ sym (bound-if i s.fourth s.d (three s) (ltb 3 s.count) e)
+  bound-fourth e h = ap Some (back h) ∙ sym (bound-if i s.fourth s.d (three s) (ltb 3 s.count) e)
 
   module _ (f : (ltb 3 s.count && eqb i s.fourth) ≡ false) where
     to-three : bound_to i (bindings_of s) ≡ bound_to i (three s)
     unfolding bindings_of
     to-three = bound-not i s.fourth s.d (three s) (ltb 3 s.count) f
 
-    pub bound-third : (ltb 2 s.count && eqb i s.third) ≡ true → mag s.c < 2 ^ 63 → some (to_z w64 (of_z w64 s.c)) ≡ bound_to i (bindings_of s)
-    bound-third e h = ap some (back h) ∙ sym (to-three ∙ bound-if i s.third s.c (two s) (ltb 2 s.count) e)
+    pub bound-third : (ltb 2 s.count && eqb i s.third) ≡ true → mag s.c < 2 ^ 63 → Some (to_z w64 (of_z w64 s.c)) ≡ bound_to i (bindings_of s)
+    bound-third e h = ap Some (back h) ∙ sym (to-three ∙ bound-if i s.third s.c (two s) (ltb 2 s.count) e)
 
     module _ (g : (ltb 2 s.count && eqb i s.third) ≡ false) where
       to-two : bound_to i (bindings_of s) ≡ bound_to i (two s)
       to-two = to-three ∙ bound-not i s.third s.c (two s) (ltb 2 s.count) g
 
-      pub bound-second : (ltb 1 s.count && eqb i s.second) ≡ true → mag s.b < 2 ^ 63 → some (to_z w64 (of_z w64 s.b)) ≡ bound_to i (bindings_of s)
-      bound-second e h = ap some (back h) ∙ sym (to-two ∙ bound-if i s.second s.b (one s) (ltb 1 s.count) e)
+      pub bound-second : (ltb 1 s.count && eqb i s.second) ≡ true → mag s.b < 2 ^ 63 → Some (to_z w64 (of_z w64 s.b)) ≡ bound_to i (bindings_of s)
+      bound-second e h = ap Some (back h) ∙ sym (to-two ∙ bound-if i s.second s.b (one s) (ltb 1 s.count) e)
 
       module _ (k : (ltb 1 s.count && eqb i s.second) ≡ false) where
         to_one : bound_to i (bindings_of s) ≡ bound_to i (one s)
         to_one = to-two ∙ bound-not i s.second s.b (one s) (ltb 1 s.count) k
 
-        pub bound-first : (ltb 0 s.count && eqb i s.first) ≡ true → mag s.a < 2 ^ 63 → some (to_z w64 (of_z w64 s.a)) ≡ bound_to i (bindings_of s)
-        bound-first e h = ap some (back h) ∙ sym (to_one ∙ bound-if i s.first s.a [] (ltb 0 s.count) e)
+        pub bound-first : (ltb 0 s.count && eqb i s.first) ≡ true → mag s.a < 2 ^ 63 → Some (to_z w64 (of_z w64 s.a)) ≡ bound_to i (bindings_of s)
+        bound-first e h = ap Some (back h) ∙ sym (to_one ∙ bound-if i s.first s.a [] (ltb 0 s.count) e)
 
-        pub bound-nothing : (ltb 0 s.count && eqb i s.first) ≡ false → none ≡ bound_to i (bindings_of s)
+        pub bound-nothing : (ltb 0 s.count && eqb i s.first) ≡ false → None ≡ bound_to i (bindings_of s)
         unfolding bound_to
         bound-nothing e = sym (to_one ∙ bound-not i s.first s.a [] (ltb 0 s.count) e)
 
@@ -160,11 +160,11 @@ small-bind s t i k e h m = record { small = subst AllSmall (sym e) (go (ltb (len
     go true = (h, m.small)
     go false = m.small
 
-pub small-to : (l : List Binding) (i : ℕ) (k : ℤ) → AllSmall l → bound_to i l ≡ some k → nat_abs k ≤ mantissa_limit
+pub small-to : (l : List Binding) (i : ℕ) (k : ℤ) → AllSmall l → bound_to i l ≡ Some k → nat_abs k ≤ mantissa_limit
 unfolding bound_to
 small-to [] i k m e = absurd (let z : ◌≡◌ {A = ℕ} 0 1 = cc in omega arith)
 small-to (b ∷ l) i k m e = go (eqb i b.name) (small-to l i k m.1) e
   where
-    go : (t : Bool) → (bound_to i l ≡ some k → nat_abs k ≤ mantissa_limit) → (elim t as (λ _. Option ℤ) [ true ↦ some b.at | false ↦ bound_to i l ]) ≡ some k → nat_abs k ≤ mantissa_limit
+    go : (t : Bool) → (bound_to i l ≡ Some k → nat_abs k ≤ mantissa_limit) → (elim t as (λ _. Option ℤ) [ true ↦ Some b.at | false ↦ bound_to i l ]) ≡ Some k → nat_abs k ≤ mantissa_limit
     go true f e = let d : b.at ≡ k = cc in subst (λ z. nat_abs z ≤ mantissa_limit) d m.0
     go false f e = f e

@@ -1,6 +1,5 @@
 -- A scope as the code holds it, and the bindings of the definition.
-use Rattle.std.specs.Prelude.{Bool, true, false, cond, List, [], ◌∷◌, ℕ, ◌≤◌, ltb, length, ℤ, nat_abs}
-use Rattle.std.proofs.Math.Option.{Option, none, some}
+use Rattle.std.specs.Prelude.{Bool, true, false, cond, List, [], ◌∷◌, ℕ, ◌≤◌, ltb, length, ℤ, nat_abs, Option, Some, None}
 use Rattle.rules.specs.Limits.{mantissa_limit, index_limit}
 use Rattle.value.specs.declared.Value.{Value}
 use Rattle.language.specs.Scope.{Binding, Scope}
@@ -29,8 +28,8 @@ unfoldable pub bound_more : ℕ → ℤ → List Binding → List Binding
 bound_more i k l = cond (ltb (length l) index_limit) (binding i k ∷ l) l
 
 abbrev pub bound_option : Bound → Option ℤ
-bound_option (To k) = some k
-bound_option Nothing = none
+bound_option (To k) = Some k
+bound_option Nothing = None
 
 -- the scope of the definition
 unfoldable pub scope_of : (ℕ → List ℤ → Option Value) → Held → Scope

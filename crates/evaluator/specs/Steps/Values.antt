@@ -1,14 +1,9 @@
 -- What the steps on values and whole numbers answer.
-use Rattle.std.specs.Prelude.{◌≡◌, Bool, true, false, cond, ◌&&◌, List, ℕ, ◌≤◌, ltb, leb, length, get_or, ℤ, pos, nat_abs, ◌+ℤ◌}
-use Rattle.std.proofs.Math.Option.{Option, none, some}
+use Rattle.std.specs.Prelude.{◌≡◌, Bool, true, false, cond, ◌&&◌, List, ℕ, ◌≤◌, ltb, leb, length, get_or, ℤ, pos, nat_abs, ◌+ℤ◌, Option, Some, None}
 use Rattle.std.specs.Int.Signed.{le_z}
 use Rattle.rules.specs.declared.Refusal.TheVariants.{Unfit, BadIndex, NotWhole, Outside, Missing}
 use Rattle.rules.specs.Limits.{mantissa_limit, run_limit, index_limit}
 use Rattle.value.specs.declared.Value.{Value}
-use Rattle.value.specs.declared.Fit.{Fit}
-use Rattle.value.specs.declared.Fit.TheVariants.{Fits, TooBig}
-use Rattle.value.specs.declared.Whole.{Whole}
-use Rattle.value.specs.declared.Whole.TheVariants.{Number, NotWhole as no_number}
 use Rattle.value.specs.Decimal.{in_range, negate, whole_of, of_whole}
 use Rattle.store.specs.Key.{key_of}
 use Rattle.store.specs.Table.{Sorted, word_in, found_row}
@@ -32,9 +27,9 @@ use Rattle.evaluator.specs.Steps.Scopes.{bindings_of, bound_more, scope_of}
 -- ---- values
 
 -- a value that fits, with the position behind it; or 5 at p
-unfoldable pub fitted_at : ℕ → ℕ → Fit → Answer
-fitted_at p a (Fits v) = answer.Value v a
-fitted_at p a TooBig = answer.Refused Unfit p
+unfoldable pub fitted_at : ℕ → ℕ → Option Value → Answer
+fitted_at p a (Some v) = answer.Value v a
+fitted_at p a None = answer.Refused Unfit p
 
 -- with a minus the opposite; what is out of range stays as it is
 unfoldable pub signed_value : Bool → Value → Value
@@ -43,17 +38,17 @@ signed_value false v = v
 
 -- ---- whole numbers
 
-unfoldable pub whole_by : ℕ → ℕ → Value → Whole → Answer
-whole_by p a v (Number k) = answer.Value v a
-whole_by p a v no_number = answer.Refused NotWhole p
+unfoldable pub whole_by : ℕ → ℕ → Value → Option ℤ → Answer
+whole_by p a v (Some k) = answer.Value v a
+whole_by p a v None = answer.Refused NotWhole p
 
 -- a value that is whole; or 8 at p
 unfoldable pub whole_answer : ℕ → ℕ → Value → Answer
 whole_answer p a v = whole_by p a v (whole_of v)
 
 unfoldable pub bound_by : ℕ → ℕ → Option ℤ → Answer
-bound_by p a (some k) = answer.Value (of_whole k) a
-bound_by p a none = answer.Refused BadIndex p
+bound_by p a (Some k) = answer.Value (of_whole k) a
+bound_by p a None = answer.Refused BadIndex p
 
 -- an index's value; or 7 at p
 unfoldable pub bound_answer : ℕ → ℕ → Held → ℕ → Answer
@@ -118,8 +113,8 @@ pub record Tests (s : Held) (ks : List ℤ) (j : ℕ) (b : Bounds) (p : ℕ) (r 
 
 -- the value of a word in the store; or 10 at p
 unfoldable pub word_answer : ℕ → ℕ → Option ℕ → Answer
-word_answer p a (some w) = answer.Value (unpacked w) a
-word_answer p a none = answer.Refused Missing p
+word_answer p a (Some w) = answer.Value (unpacked w) a
+word_answer p a None = answer.Refused Missing p
 
 -- the datum of a name and an element, found by halving
 unfoldable pub known_answer : List ℕ → ℕ → ℕ → List ℤ → ℕ → ℕ → Answer

@@ -10,7 +10,7 @@ ghost use Rattle.store.specs.Table.{word_in};
 
 use super::scope::{Bound, Scope};
 use store::Element;
-use value::{Fit, Value, Whole};
+use value::Value;
 
 // A value and the position behind it, or a refusal and its place.
 #[derive(Clone, Copy)]
@@ -66,12 +66,12 @@ pub fn literal(x: u64) -> Value
     }
 }
 
-fn fitted(f: Fit, p: u64, at: usize) -> Answer
+fn fitted(f: Option<Value>, p: u64, at: usize) -> Answer
     ensures { result ≡ fitted_at p at f }
 {
     match f {
-        Fit::Fits(v) => Answer::Value(v, at),
-        Fit::TooBig => Answer::Refused(rules::Refusal::Unfit, p),
+        Some(v) => Answer::Value(v, at),
+        None => Answer::Refused(rules::Refusal::Unfit, p),
     }
 }
 
@@ -106,8 +106,8 @@ pub fn whole(v: Value, p: u64, at: usize) -> Answer
     ensures { result ≡ whole_answer p at v }
 {
     match value::whole_of(v) {
-        Whole::Number(_) => Answer::Value(v, at),
-        Whole::NotWhole => Answer::Refused(rules::Refusal::NotWhole, p),
+        Some(_) => Answer::Value(v, at),
+        None => Answer::Refused(rules::Refusal::NotWhole, p),
     }
 }
 
@@ -259,12 +259,12 @@ pub fn test(sc: Scope, e: Element, j: usize, b: Bounds, p: u64) -> Tested
 // ---- data
 
 // The datum in the row that was found, or the refusal at p.
-fn datum(table: &[u64], found: store::Found, p: u64, at: usize) -> Answer
+fn datum(table: &[u64], found: Option<usize>, p: u64, at: usize) -> Answer
     ensures { result ≡ word_answer p at (word_in table.now found) }
 {
     match found {
-        store::Found::At(j) => Answer::Value(store::unpack(store::word_at(table, j)), at),
-        store::Found::Nothing => Answer::Refused(rules::Refusal::Missing, p),
+        Some(j) => Answer::Value(store::unpack(store::word_at(table, j)), at),
+        None => Answer::Refused(rules::Refusal::Missing, p),
     }
 }
 

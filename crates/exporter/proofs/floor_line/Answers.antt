@@ -6,5 +6,5 @@ use Rattle.exporter.proofs.floor_line.Goals as goal
 pub returns-in-None : goal.returns-in-None
 returns-in-None c = (search no-floor-line depth 8, omega arith)
 
-pub returns-in-At : goal.returns-in-At
-returns-in-At c = (search floor-line depth 8, omega arith)
+pub returns-in-Some : goal.returns-in-Some
+returns-in-Some c = (search floor-line depth 8, omega arith)

@@ -6,5 +6,5 @@ use Rattle.exporter.proofs.upper_line.Goals as goal
 pub returns-in-None : goal.returns-in-None
 returns-in-None c = (search upper-none depth 8, omega arith)
 
-pub returns-in-At : goal.returns-in-At
-returns-in-At c = (search upper-at depth 9, omega arith)
+pub returns-in-Some : goal.returns-in-Some
+returns-in-Some c = (search upper-at depth 9, omega arith)

@@ -11,5 +11,5 @@ returns-in-At c = search value_found depth 12
 pub returns-in-Nothing : goal.returns-in-Nothing
 returns-in-Nothing c = search value-open depth 12
 
-pub returns-in-TooBig : goal.returns-in-TooBig
-returns-in-TooBig c = search value-big depth 10
+pub returns-in-None : goal.returns-in-None
+returns-in-None c = search value-big depth 10

@@ -1,7 +1,7 @@
 -- Laws of the lines that tables tell: one line written, and line after line.
+use Rattle.std.specs.Prelude.{Option, Some, None}
 use mathlib.Core.Path.{◌≡◌, refl, sym, ◌∙◌, ap, subst}
 use mathlib.Core.Bool.{Bool, cond}
-use mathlib.Core.Option.{Option}
 use mathlib.Core.List.{List, [], ◌∷◌, ◌++◌}
 use Prim.Native.Nat.{ℕ, zero, suc, ◌+◌, ◌-◌, ◌*◌, ◌<◌, ◌≤◌, min}
 use native.Mathlib.Omega.{arith}
@@ -27,9 +27,6 @@ use Rattle.store.specs.Table.{key_at, word_at}
 use Rattle.store.specs.Packed.{unpacked}
 use Rattle.store.proofs.Elements.{length-few}
 use Rattle.store.proofs.Back.{name_back, element-back}
-use Rattle.rows.specs.declared.End.{End}
-use Rattle.rows.specs.declared.End.TheVariants as end
-use Rattle.rows.specs.End.{end_of}
 use Rattle.rows.specs.Slots.{floor_slot}
 use Rattle.rows.specs.Bounds.{lower_word, upper_word}
 use Rattle.rows.specs.Read.{slot_at, lower_in, end_in}
@@ -70,10 +67,10 @@ module _ (l : List ℕ) (at from : ℕ) (f : from ≡ min at (length l)) {n : �
             lent-line _ z same written;
       }
 
-  pub low-written : (row : ℕ) (o : End) (v : Value) → o ≡ end.At v → Written (take (length l - from) (drop from l)) 0 (shown_line (low_line row v)) n p
-      → (Written l at (shown_lines (low_lines row (end_of o))) (at + n) (put_mid from (length l - from) l p)) × (at + n ≤ at + 128)
-  unfolding low_lines end_of
-  low-written row o v e w = (lent-line (low_line row v) (low_lines row (end_of o)) (ap (λ x. low_lines row (end_of x)) e) w, omega (arith, w.next, line-most (low_line row v)))
+  pub low-written : (row : ℕ) (o : Option Value) (v : Value) → o ≡ Some v → Written (take (length l - from) (drop from l)) 0 (shown_line (low_line row v)) n p
+      → (Written l at (shown_lines (low_lines row o)) (at + n) (put_mid from (length l - from) l p)) × (at + n ≤ at + 128)
+  unfolding low_lines
+  low-written row o v e w = (lent-line (low_line row v) (low_lines row o) (ap (λ x. low_lines row x) e) w, omega (arith, w.next, line-most (low_line row v)))
 
   pub variable-written : (s ns vs bs : List ℕ) (discrete j name : ℕ) (lower : Value) (upper : Option Value) (spelled : List ℕ) (e : Element) → length s ≤ 16384
       → lower ≡ lower_in (lower_word bs j) → upper ≡ end_in (upper_word bs j) → name ≡ name_of (key_at vs j) → spelled ≡ name_at s ns name → list_of e ≡ element_of (key_at vs j)
@@ -90,8 +87,8 @@ module _ (l : List ℕ) (at from : ℕ) (f : from ≡ min at (length l)) {n : �
 
 -- ---- a floor
 
-pub low-none : (row : ℕ) (o : End) (l : List ℕ) (at : ℕ) → o ≡ end.None → (Written l at (shown_lines (low_lines row (end_of o))) at l) × (at ≤ at + 128)
-unfolding low_lines end_of
+pub low-none : (row : ℕ) (o : Option Value) (l : List ℕ) (at : ℕ) → o ≡ None → (Written l at (shown_lines (low_lines row o)) at l) × (at ≤ at + 128)
+unfolding low_lines
 low-none row o l at e = (rw e (lines_none l at), omega arith)
 
 -- a row's line, and its floor's

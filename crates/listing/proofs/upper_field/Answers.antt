@@ -8,7 +8,7 @@ returns-in-None c =
     let d = c in
     (rw (upper-none _ d.in-None.is) d.text_field.ensures.0, omega (arith, d.text_field.ensures.0.next))
 
-pub returns-in-At : goal.returns-in-At
-returns-in-At c =
+pub returns-in-Some : goal.returns-in-Some
+returns-in-Some c =
     let d = c in
-    (rw (upper-at _ d.in-At.v d.in-At.is) d.value_field.ensures.0, d.value_field.ensures.1)
+    (rw (upper-at _ d.in-Some.v d.in-Some.is) d.value_field.ensures.0, d.value_field.ensures.1)

@@ -1,6 +1,5 @@
 -- Lines that the tables tell: those of each row, with its floor's, and of each variable.
-use Rattle.std.specs.Prelude.{◌≡◌, cond, List, [], ◌∷◌, ◌++◌, ℕ, ◌+◌, ◌*◌, ◌≤◌, leb, ltb, length, ℤ}
-use Rattle.std.proofs.Math.Option.{Option}
+use Rattle.std.specs.Prelude.{◌≡◌, cond, List, [], ◌∷◌, ◌++◌, ℕ, ◌+◌, ◌*◌, ◌≤◌, leb, ltb, length, ℤ, Option}
 use Rattle.value.specs.declared.Value.{Value}
 use Rattle.value.specs.Printed.{Written}
 use Rattle.language.specs.Listed.{At}

@@ -1,7 +1,7 @@
 -- Laws over plain variables for a right side and the floor behind it: their values, and the facts that are made with them.
+use Rattle.std.specs.Prelude.{Option, Some, None}
 use mathlib.Core.Path.{◌≡◌, refl, sym, ◌∙◌, ap, subst}
 use mathlib.Core.Bool.{Bool, true, false, not}
-use mathlib.Core.Option.{Option, none, some}
 use mathlib.Core.List.{List, ◌∷◌, map}
 use Prim.Native.Nat.{ℕ}
 use borrow.Author.Tests.{not-true, not-false}
@@ -63,7 +63,7 @@ behind : (s ts : List ℕ) (i j : ℕ) (t : Token) (l : List Token) → Skips ts
 unfolding skip
 behind s ts i j t l k e = sym (same_rest (ap skip (sym e) ∙ k.is s))
 
-no-floor : (e : Relation) (s : Evaluated.Scope) → has_floor e ≡ false → floor_at e s ≡ done none
+no-floor : (e : Relation) (s : Evaluated.Scope) → has_floor e ≡ false → floor_at e s ≡ done None
 unfolding floor_at
 no-floor at_most s h = refl
 no-floor at_least s h = refl
@@ -100,7 +100,7 @@ module _ (ns ts ds : List ℕ) (given level : ℕ) (sc : Scope) where
           record {
             is = λ w s g q b u.
                 record {
-                  floor = none;
+                  floor = None;
                   is = rw (value-at at v f w s g u.right.rest u.right.reads _ e, no-floor q (under w sc) (b ∙ not-true floor z)) refl;
                   word-is = refl;
                   valid = valid-at at v f w s _ e;
@@ -111,7 +111,7 @@ module _ (ns ts ds : List ℕ) (given level : ℕ) (sc : Scope) where
       module _ (z : not floor ≡ false) (b c : ℕ) (first : Skips ts a b) (second : Skips ts b c) (l : Answer) (k : Values (formula_in nesting_limit) ns ts ds given level sc c l) where
         -- the floor's value, behind the right side and two signs
         low-at : (y : Answer) → l ≡ y → (w : World ns ts ds given) → Small sc → (g : Formula) (q : Relation) → has_floor q ≡ floor → EndsAt w level at g q
-            → floor_at q (under w sc) ≡ (what_of (value_outcome w.text ts y) >>= λ o. done (some o))
+            → floor_at q (under w sc) ≡ (what_of (value_outcome w.text ts y) >>= λ o. done (Some o))
         unfolding floor_at
         low-at y i w s g at_most h u = absurd (false-true (h ∙ not-false floor z))
         low-at y i w s g at_least h u = absurd (false-true (h ∙ not-false floor z))
@@ -132,7 +132,7 @@ module _ (ns ts ds : List ℕ) (given level : ℕ) (sc : Scope) where
             record {
               is = λ w s g q h u.
                   record {
-                    floor = some y;
+                    floor = Some y;
                     is = rw (value-at at v f w s g u.right.rest u.right.reads _ e, low-at _ i w s g q h u) refl;
                     word-is = j;
                     valid = valid-at at v f w s _ e;

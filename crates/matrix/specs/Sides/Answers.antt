@@ -1,7 +1,6 @@
 -- What each function answers: for every text, names, data and variables that the tables hold, what one element of a constraint
 -- becomes, and the objective's row. `level`: how many names are visible.
-use Rattle.std.specs.Prelude.{◌≡◌, Bool, true, false, List, map, ℕ, ◌<◌, length, ℤ}
-use Rattle.std.proofs.Math.Option.{Option}
+use Rattle.std.specs.Prelude.{◌≡◌, Bool, true, false, List, map, ℕ, ◌<◌, length, ℤ, Option}
 use Rattle.rules.specs.Limits.{nesting_limit}
 use Rattle.value.specs.declared.Value.{Value}
 use Rattle.value.specs.Decimal.{Valid}

@@ -1,7 +1,7 @@
 -- Laws for one name: a value at an element, and the loop over the elements of a declared domain.
+use Rattle.std.specs.Prelude.{Option, Some, None}
 use mathlib.Core.Path.{◌≡◌, refl, sym, ◌∙◌, ap, subst}
 use mathlib.Core.Bool.{Bool, true, false, not}
-use mathlib.Core.Option.{Option, none, some}
 use mathlib.Core.List.{List, map}
 use Prim.Native.Nat.{ℕ, ◌<◌}
 use native.Mathlib.Omega.{arith}
@@ -16,8 +16,6 @@ use Rattle.language.specs.Evaluation.{is_none}
 use Rattle.language.specs.Store.{is_given}
 use Rattle.store.specs.declared.Key.{Key}
 use Rattle.store.specs.declared.Element.{Element}
-use Rattle.store.specs.declared.Found.{Found}
-use Rattle.store.specs.declared.Found.TheVariants as found
 use Rattle.store.specs.Element.{list_of, Subscripts}
 use Rattle.store.specs.Key.{name_bound, key_number, key_of}
 use Rattle.store.specs.Table.{row_of, word_in, lookup, found_row}
@@ -41,18 +39,18 @@ use Rattle.problem.specs.Missing.Given.{IsGiven, Declares, DomainGiven, Asking}
 
 -- ---- a value at an element
 
-module _ (ds : List ℕ) (n i : ℕ) (l : List ℤ) (k : Key) (r : Found) (e : key_number k ≡ key_of i l) (f : r ≡ found_row ds n (key_number k)) where
-  pub given-found : (j : ℕ) → r ≡ found.At j → IsGiven ds n i l true
+module _ (ds : List ℕ) (n i : ℕ) (l : List ℤ) (k : Key) (r : Option ℕ) (e : key_number k ≡ key_of i l) (f : r ≡ found_row ds n (key_number k)) where
+  pub given-found : (j : ℕ) → r ≡ Some j → IsGiven ds n i l true
   unfolding lookup word_in
   given-found j p = record { is = λ s. rw (ap (row_of ds n) (sym e) ∙ sym ((finds-row ds n (key_number k) r f).is_row s) ∙ p) }
 
-  pub given_nothing : r ≡ found.Nothing → IsGiven ds n i l false
+  pub given_nothing : r ≡ None → IsGiven ds n i l false
   unfolding lookup word_in
   given_nothing p = record { is = λ s. rw (ap (row_of ds n) (sym e) ∙ sym ((finds-row ds n (key_number k) r f).is_row s) ∙ p) }
 
 none_in : (o : Option ℕ) → is_none (value_in o) ≡ is_none o
-none_in none = refl
-none_in (some x) = refl
+none_in None = refl
+none_in (Some x) = refl
 
 module _ {ns ts ds : List ℕ} {given : ℕ} (w : World ns ts ds given) (i : ℕ) (h : i < length w.names) where
   keyed : (l : List ℤ) → Subscripts l → Keyed i l

@@ -1,6 +1,6 @@
 -- The discrete names, then the continuous ones: each sort is picked by its number, and both loops make the whole.
+use Rattle.std.specs.Prelude.{None}
 use mathlib.Core.Path.{◌≡◌, refl, ◌∙◌, ap, subst}
-use mathlib.Core.Option.{none}
 use mathlib.Core.List.{List, []}
 use Prim.Native.Nat.{ℕ}
 use native.Mathlib.Omega.{arith}
@@ -36,7 +36,7 @@ picks-discrete = record { takes = takes; leaves = leaves }
     takes (Syntax.discrete d) c h = record { domain = d; is = refl; sized = h.1; stands = λ s ts before at e. e }
     takes (Syntax.continuous d) c h = absurd (omega (arith, h.0))
 
-    leaves : (x : Sort) (j c : ℕ) → Shaped x j c → (j ≡ 4 → ⊥) → as_discrete x ≡ none
+    leaves : (x : Sort) (j c : ℕ) → Shaped x j c → (j ≡ 4 → ⊥) → as_discrete x ≡ None
     leaves Syntax.index j c h g = refl
     leaves (Syntax.integer d) j c h g = refl
     leaves (Syntax.real d) j c h g = refl
@@ -56,7 +56,7 @@ picks-continuous = record { takes = takes; leaves = leaves }
     takes (Syntax.discrete d) c h = absurd (omega (arith, h.0))
     takes (Syntax.continuous d) c h = record { domain = d; is = refl; sized = h.1; stands = λ s ts before at e. e }
 
-    leaves : (x : Sort) (j c : ℕ) → Shaped x j c → (j ≡ 5 → ⊥) → as_continuous x ≡ none
+    leaves : (x : Sort) (j c : ℕ) → Shaped x j c → (j ≡ 5 → ⊥) → as_continuous x ≡ None
     leaves Syntax.index j c h g = refl
     leaves (Syntax.integer d) j c h g = refl
     leaves (Syntax.real d) j c h g = refl

@@ -1,11 +1,11 @@
 -- The six lists stand in a fixed order, so in declared names every discrete name stands before every continuous one.
+use Rattle.std.specs.Prelude.{Option, Some, None, slice_get}
 use mathlib.Core.Path.{◌≡◌, refl, sym, ◌∙◌, ap, subst}
 use mathlib.Core.Bool.{Bool, true, false}
-use mathlib.Core.Option.{Option, none, some}
 use mathlib.Core.List.{List, [], ◌∷◌, ◌++◌, append-nil, append_assoc}
 use Prim.Native.Nat.{ℕ, zero, suc, ◌<◌, ◌≤◌}
 use native.Mathlib.Omega.{arith}
-use lib.ListN.{length, get_elem?}
+use lib.ListN.{length}
 use Rattle.lexer.specs.Text.{Token}
 use Rattle.lexer.specs.Marks.{comma, semicolon, equals, index_word, integer_word, real_word, formula_word, discrete_word, continuous_word}
 use Rattle.rules.specs.Limits.{token_limit, nesting_limit}
@@ -111,10 +111,10 @@ index-sort P h names = yields-give P Syntax.index h
 -- ---- the order
 
 abbrev NotDiscrete : Sort → Type 0
-NotDiscrete s = as_discrete s ≡ none
+NotDiscrete s = as_discrete s ≡ None
 
 abbrev NotContinuous : Sort → Type 0
-NotContinuous s = as_continuous s ≡ none
+NotContinuous s = as_continuous s ≡ None
 
 -- names without continuous ones, then names without discrete ones
 record Parted (names : List Name) : Type 0 where
@@ -134,17 +134,17 @@ declarations-parted =
     record { has = λ ts r h. record { front = e; grown = g; ends = (list-grown NotDiscrete (domain_entry Syntax.continuous) (domain-sort NotDiscrete Syntax.continuous (λ s. refl)) continuous_word e).has ts r h } }
 
 -- a name of a sort that the front does not have stands behind it, and one that the end does not have before it
-behind-front : (f : Sort → Option Spans) (l m : List Name) → All (λ (x : Name). f x.sort ≡ none) l → (i : ℕ) (x : Name) (d : Spans) → get_elem? (l ++ m) i ≡ some x → f x.sort ≡ some d → length l ≤ i
+behind-front : (f : Sort → Option Spans) (l m : List Name) → All (λ (x : Name). f x.sort ≡ None) l → (i : ℕ) (x : Name) (d : Spans) → slice_get (l ++ m) i ≡ Some x → f x.sort ≡ Some d → length l ≤ i
 behind-front f [] m h i x d e g = omega arith
 behind-front f (y ∷ l) m h zero x d e g = absurd (none-some (sym h.0 ∙ ap (λ (z : Name). f z.sort) (some-injective e) ∙ g))
 behind-front f (y ∷ l) m h (suc i) x d e g = omega (arith, behind-front f l m h.1 i x d e g)
 
-nowhere : (f : Sort → Option Spans) (m : List Name) → All (λ (x : Name). f x.sort ≡ none) m → (i : ℕ) (x : Name) (d : Spans) → get_elem? m i ≡ some x → f x.sort ≡ some d → ⊥
+nowhere : (f : Sort → Option Spans) (m : List Name) → All (λ (x : Name). f x.sort ≡ None) m → (i : ℕ) (x : Name) (d : Spans) → slice_get m i ≡ Some x → f x.sort ≡ Some d → ⊥
 nowhere f [] h i x d e g = none-some e
 nowhere f (y ∷ m) h zero x d e g = none-some (sym h.0 ∙ ap (λ (z : Name). f z.sort) (some-injective e) ∙ g)
 nowhere f (y ∷ m) h (suc i) x d e g = nowhere f m h.1 i x d e g
 
-before-end : (f : Sort → Option Spans) (l m : List Name) → All (λ (x : Name). f x.sort ≡ none) m → (i : ℕ) (x : Name) (d : Spans) → get_elem? (l ++ m) i ≡ some x → f x.sort ≡ some d → i < length l
+before-end : (f : Sort → Option Spans) (l m : List Name) → All (λ (x : Name). f x.sort ≡ None) m → (i : ℕ) (x : Name) (d : Spans) → slice_get (l ++ m) i ≡ Some x → f x.sort ≡ Some d → i < length l
 before-end f [] m h i x d e g = absurd (nowhere f m h i x d e g)
 before-end f (y ∷ l) m h zero x d e g = omega arith
 before-end f (y ∷ l) m h (suc i) x d e g = omega (arith, before-end f l m h i x d e g)
@@ -152,10 +152,10 @@ before-end f (y ∷ l) m h (suc i) x d e g = omega (arith, before-end f l m h i 
 pub declarations-order : (ts rest : List Token) (names : List Name) → declarations ts ≡ done (record { what = names; rest = rest }) → InOrder names
 declarations-order ts rest names h =
     let p = declarations-parted.has ts (record { what = names; rest = rest }) h in
-    let a : All (λ (x : Name). as_continuous x.sort ≡ none) p.front = subst (All (λ (x : Name). as_continuous x.sort ≡ none)) (sym p.grown.is) p.grown.sorts in
+    let a : All (λ (x : Name). as_continuous x.sort ≡ None) p.front = subst (All (λ (x : Name). as_continuous x.sort ≡ None)) (sym p.grown.is) p.grown.sorts in
     record {
       earlier = λ i j x y d e s u t v.
-          let l = before-end as_discrete p.front p.ends.more p.ends.sorts i x d (subst (λ n. get_elem? n i ≡ some x) p.ends.is s) u in
-          let m = behind-front as_continuous p.front p.ends.more a j y e (subst (λ n. get_elem? n j ≡ some y) p.ends.is t) v in
+          let l = before-end as_discrete p.front p.ends.more p.ends.sorts i x d (subst (λ n. slice_get n i ≡ Some x) p.ends.is s) u in
+          let m = behind-front as_continuous p.front p.ends.more a j y e (subst (λ n. slice_get n j ≡ Some y) p.ends.is t) v in
           omega (arith, l, m);
     }

@@ -1,6 +1,6 @@
 -- Laws of the loop over the names of a sort: it starts, passes a name, adds one, is refused or ends.
+use Rattle.std.specs.Prelude.{Option, Some, None}
 use mathlib.Core.Path.{◌≡◌, refl, sym, ◌∙◌, ap, subst}
-use mathlib.Core.Option.{Option, none, some}
 use mathlib.Core.List.{List, ◌∷◌}
 use Prim.Native.Nat.{ℕ, suc, ◌+◌, ◌/◌, ◌<◌, ◌≤◌}
 use native.Mathlib.Omega.{arith}
@@ -29,16 +29,16 @@ use Rattle.problem.specs.Variables.Numbers.{Below, Held, Adds, Answers, Ranges, 
 
 -- ---- one declaration
 
-declared-taken : (f : Sort → Option Spans) (i : ℕ) (x : Name) (xs : List Name) (d : Spans) → f x.sort ≡ some d
+declared-taken : (f : Sort → Option Spans) (i : ℕ) (x : Name) (xs : List Name) (d : Spans) → f x.sort ≡ Some d
     → declared f i (x ∷ xs) ≡ record { name = i; domain = d; place = x.place } ∷ declared f (suc i) xs
 unfolding declared
 declared-taken f i x xs d e =
-    ap (λ o. elim o as (λ _. List Declaration) [ some c ↦ record { name = i; domain = c; place = x.place } ∷ declared f (suc i) xs | none ↦ declared f (suc i) xs ]) e
+    ap (λ o. elim o as (λ _. List Declaration) [ Some c ↦ record { name = i; domain = c; place = x.place } ∷ declared f (suc i) xs | None ↦ declared f (suc i) xs ]) e
 
-declared-left : (f : Sort → Option Spans) (i : ℕ) (x : Name) (xs : List Name) → f x.sort ≡ none → declared f i (x ∷ xs) ≡ declared f (suc i) xs
+declared-left : (f : Sort → Option Spans) (i : ℕ) (x : Name) (xs : List Name) → f x.sort ≡ None → declared f i (x ∷ xs) ≡ declared f (suc i) xs
 unfolding declared
 declared-left f i x xs e =
-    ap (λ o. elim o as (λ _. List Declaration) [ some c ↦ record { name = i; domain = c; place = x.place } ∷ declared f (suc i) xs | none ↦ declared f (suc i) xs ]) e
+    ap (λ o. elim o as (λ _. List Declaration) [ Some c ↦ record { name = i; domain = c; place = x.place } ∷ declared f (suc i) xs | None ↦ declared f (suc i) xs ]) e
 
 added-first : (s : Scope) (d : Declaration) (ds : List Declaration) (vs : List Variable) → add_variables s (d ∷ ds) vs ≡ (over d.domain s (add_variable d) vs >>= λ ws. add_variables s ds ws)
 unfolding add_variables
@@ -113,7 +113,7 @@ module _ (ns ts ds : List ℕ) (given k from : ℕ) (t₀ : List ℕ) where
           record Turn (w : World ns ts ds given) (f : Sort → Option Spans) (vs : List Variable) : Type 0 where
             now : SortAt w f vs t i n
             domain : Spans
-            taken : f (here w).name.sort ≡ some domain
+            taken : f (here w).name.sort ≡ Some domain
             answers : Answers (over domain (nothing_bound w) (add_variable (declared_at ns i domain)) now.variables) (λ j. i < j) now.variables r t'
             due : (over domain (nothing_bound w) (add_variable (declared_at ns i domain)) now.variables >>= λ ws. add_variables (nothing_bound w) (declared f (suc i) (drop (suc i) w.names)) ws)
                 ≡ add_variables (nothing_bound w) (declared f 0 w.names) vs

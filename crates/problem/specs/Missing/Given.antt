@@ -1,7 +1,5 @@
 -- What the functions answer, for every text, names and data that the tables hold.
-use Rattle.std.specs.Prelude.{◌≡◌, Bool, not, List, ℕ, ◌<◌, length, drop, ℤ}
-use Rattle.std.proofs.Math.Option.{some}
-use Rattle.std.proofs.Math.ListN.{get_elem?}
+use Rattle.std.specs.Prelude.{◌≡◌, Bool, not, List, ℕ, ◌<◌, length, drop, ℤ, Some, slice_get}
 use Rattle.language.specs.Syntax.{Name, Spans}
 use Rattle.language.specs.Evaluation.{over, is_none}
 use Rattle.language.specs.Store.{is_given, given_by, all_given}
@@ -42,7 +40,7 @@ pub record Asking (ns ts ds : List ℕ) (given i : ℕ) (x : Step) : Type 0 wher
 
 -- the data of name i, if its sort has any
 pub record NameGiven (ns ts ds : List ℕ) (given i : ℕ) (r : Passed) : Type 0 where
-  pub is : (w : World ns ts ds given) → Placed ns w.names → (x : Name) → get_elem? w.names i ≡ some x → given_by i x.place x.sort (nothing_bound w) ≡ passed_outcome r
+  pub is : (w : World ns ts ds given) → Placed ns w.names → (x : Name) → slice_get w.names i ≡ Some x → given_by i x.place x.sort (nothing_bound w) ≡ passed_outcome r
 
 -- the data of all names
 pub record AllGiven (ns ts ds : List ℕ) (given : ℕ) (r : Passed) : Type 0 where

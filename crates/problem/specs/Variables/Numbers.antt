@@ -1,8 +1,6 @@
 -- What code answers, for every text, names and data that the tables hold: the variables of one name, of the names of a sort, and all of
 -- them, in the rows of a table.
-use Rattle.std.specs.Prelude.{◌≡◌, List, [], ℕ, ◌<◌, ◌≤◌, length}
-use Rattle.std.proofs.Math.Option.{Option, none, some}
-use Rattle.std.proofs.Math.ListN.{get_elem?}
+use Rattle.std.specs.Prelude.{◌≡◌, List, [], ℕ, ◌<◌, ◌≤◌, length, Option, Some, None, slice_get}
 use Rattle.rules.specs.Limits.{variable_limit}
 use Rattle.language.specs.Outcome.{Outcome, done, refused, ◌>>=◌}
 use Rattle.language.specs.All.{All}
@@ -65,23 +63,23 @@ pub record AddsName (ns ts ds : List ℕ) (given i from : ℕ) (t : List ℕ) (r
 -- f has the domain of a name of sort x
 pub record Taken (f : Sort → Option Spans) (x : Sort) (c : ℕ) : Type 0 where
   pub domain : Spans
-  pub is : f x ≡ some domain
+  pub is : f x ≡ Some domain
   pub sized : size domain ≡ c
   pub stands : (s ts : List ℕ) (before : List Name) (at : ℕ) → Stands s ts before x at → DomainAt s ts before domain at
 
 -- f has the domains of the names whose sort has the number k
 pub record Picks (f : Sort → Option Spans) (k : ℕ) : Type 0 where
   pub takes : (x : Sort) (c : ℕ) → Shaped x k c → Taken f x c
-  pub leaves : (x : Sort) (j c : ℕ) → Shaped x j c → (j ≡ k → ⊥) → f x ≡ none
+  pub leaves : (x : Sort) (j c : ℕ) → Shaped x j c → (j ≡ k → ⊥) → f x ≡ None
 
 module _ (f : Sort → Option Spans) (names : List Name) where
   -- k is above all names that f takes
   abbrev pub Above : ℕ → Type 0
-  Above k = (j : ℕ) (y : Name) (e : Spans) → get_elem? names j ≡ some y → f y.sort ≡ some e → j < k
+  Above k = (j : ℕ) (y : Name) (e : Spans) → slice_get names j ≡ Some y → f y.sort ≡ Some e → j < k
 
   -- the variables are of names below each name from number i on that f takes
   abbrev pub Before : ℕ → List Variable → Type 0
-  Before i vs = (j : ℕ) (y : Name) (e : Spans) → i ≤ j → get_elem? names j ≡ some y → f y.sort ≡ some e → All (Below j) vs
+  Before i vs = (j : ℕ) (y : Name) (e : Spans) → i ≤ j → slice_get names j ≡ Some y → f y.sort ≡ Some e → All (Below j) vs
 
 pub record AddsSort (ns ts ds : List ℕ) (given k from : ℕ) (t : List ℕ) (r : Added) (t' : List ℕ) : Type 0 where
   pub is : (w : World ns ts ds given) (f : Sort → Option Spans) (vs : List Variable) → Placed ns w.names → Picks f k

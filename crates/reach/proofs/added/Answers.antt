@@ -8,8 +8,8 @@ returns-in_default c = search added-open depth 6
 pub returns-in_default-mul : goal.returns-in_default-mul
 returns-in_default-mul c = search added-unfit depth 9
 
-pub returns-in-Fits-add : goal.returns-in-Fits-add
-returns-in-Fits-add c = search added-sum depth 12
+pub returns-in-Some-add : goal.returns-in-Some-add
+returns-in-Some-add c = search added-sum depth 12
 
-pub returns-in-TooBig : goal.returns-in-TooBig
-returns-in-TooBig c = search added-sum-unfit depth 12
+pub returns-in-None : goal.returns-in-None
+returns-in-None c = search added-sum-unfit depth 12

@@ -20,7 +20,7 @@ loop-j-preserved c =
     let z = w in
     let t = z in
     let v = rw (back z.count_at.type_inv) at w.column-next.ensures in
-    reaching-more _ _ _ _ _ _ _ _ _ _ t.loop-j.invariant t.loop-j-test.true z.count_at.ensures v c.in-At.is
+    reaching-more _ _ _ _ _ _ _ _ _ _ t.loop-j.invariant t.loop-j-test.true z.count_at.ensures v c.in-Some.is
 
 pub returns : goal.returns
 returns c = reaches_end _ _ _ _ _ _ _ c.loop-j.invariant c.loop-j-test.false

@@ -5,5 +5,5 @@ use Rattle.spans.proofs.is_idle.Goals as goal
 pub returns-in-None : goal.returns-in-None
 returns-in-None c = search idle-none depth 6
 
-pub returns-in-At : goal.returns-in-At
-returns-in-At c = search idle-at depth 8
+pub returns-in-Some : goal.returns-in-Some
+returns-in-Some c = search idle-at depth 8

@@ -1,4 +1,5 @@
 -- The tokens of a text: what each is like, and that the last one, and no other, is the end or a refusal.
+use Rattle.std.specs.Prelude.{Option, Some, None}
 use mathlib.Core.Path.{◌≡◌, refl}
 use mathlib.Core.Bool.{Bool, true, false, cond, ◌&&◌, ◌||◌}
 use mathlib.Core.List.{List, [], ◌∷◌}
@@ -11,8 +12,6 @@ use Rattle.rules.specs.declared.Refusal.TheVariants.{StrangeByte, Misplaced, Bad
 use Rattle.rules.specs.Limits.{byte_limit, name_length, string_length, token_limit}
 use Rattle.rules.specs.Refusals.{refusal_number}
 use Rattle.value.specs.declared.Value.{Value}
-use Rattle.value.specs.declared.Fit.{Fit}
-use Rattle.value.specs.declared.Fit.TheVariants.{Fits, TooBig}
 use Rattle.value.specs.Literal.{is_digit, literal_of}
 use Rattle.value.proofs.Reading.{literal-valid, literal-plain}
 use Rattle.lexer.specs.Marks.{Word, capital_words, small_words, at_most, at_least}
@@ -124,16 +123,16 @@ name-found p b t e =
 -- ---- literals
 
 -- a literal is read without a sign
-literal-held : (t : List ℕ) (v : Value) → literal_of t ≡ Fits v → Plain v
+literal-held : (t : List ℕ) (v : Value) → literal_of t ≡ Some v → Plain v
 literal-held t v e = record { sign = literal-plain t v e; valid = literal-valid t v e }
 
 valued_found : (w : Bool) (p : ℕ) (l : List ℕ) → Finds (valued w p l)
 unfolding valued literal_kind refusal_of is_wrong
 valued_found w p l = go (literal_of l) refl
   where
-    go : (v : Fit) → literal_of l ≡ v → Found (literal_kind w v)
-    go (Fits v) e = (literal-held l v e, refl)
-    go TooBig e = (refl, refl)
+    go : (v : Option Value) → literal_of l ≡ v → Found (literal_kind w v)
+    go (Some v) e = (literal-held l v e, refl)
+    go None e = (refl, refl)
 
 literal-found : (p : ℕ) (w r : List ℕ) → Finds (literal_step p w r)
 unfolding literal_step powered

@@ -38,8 +38,8 @@ plus-sum-requires c =
     rw (back t.old-1.given, back c.aligned.type_inv, c.aligned.ensures)
     (omega (arith, count-is _ is-count, millionths-small _ in-range))
 
-pub returns-in-Fits : goal.returns-in-Fits
-returns-in-Fits c =
+pub returns-in-Some : goal.returns-in-Some
+returns-in-Some c =
     let counted : c.is_count.result ≡ is_count (get_or c.args.sums.now c.args.k (pos 0)) = c.is_count.ensures ∙ rw (back c.old-1.given) in
     let in-range : in_range c.args.v ≡ true = let e = c in sym e.in_range.ensures ∙ not-false _ e.if-not-in_range.false-raw in
     let is-count : is_count (get_or c.args.sums.now c.args.k (pos 0)) ≡ true = sym counted ∙ not-false _ c.if-not-is_count.false-raw in
@@ -50,11 +50,11 @@ returns-in-Fits c =
     let p = m in
     let t = p in
     rw (back p.plus-sum.type_inv, exact)
-    (fits-there _ _ _ _ t.if-sums-k.false in-range is-count (sym summed ∙ c.in-Fits.is))
+    (fits-there _ _ _ _ t.if-sums-k.false in-range is-count (sym summed ∙ c.in-Some.is))
 
-pub returns-in-TooBig : goal.returns-in-TooBig
-returns-in-TooBig c =
+pub returns-in-None : goal.returns-in-None
+returns-in-None c =
     let exact : c.plus-sum.result ≡ ((get_or c.args.sums.now c.args.k (pos 0)) +ℤ millionths c.args.v) = let a = c in
     c.plus-sum.ensures ∙ rw (back a.old-1.given, back a.aligned.type_inv, a.aligned.ensures) in
     let summed : c.of_millionths.result ≡ of_millionths ((get_or c.args.sums.now c.args.k (pos 0)) +ℤ millionths c.args.v) = c.of_millionths.ensures ∙ rw (back c.plus-sum.type_inv, exact) in
-    no-fit _ _ _ (sym summed ∙ c.in-TooBig.is)
+    no-fit _ _ _ (sym summed ∙ c.in-None.is)

@@ -12,11 +12,11 @@ slice_bounds-decimal-end c =
     let e = c in
     omega (arith, length-take e.letter-e.result e.args.t.now)
 
-pub decimal-requires-in-Of : goal.decimal-requires-in-Of
-decimal-requires-in-Of c = search power_small depth 6
+pub decimal-requires-in-Some : goal.decimal-requires-in-Some
+decimal-requires-in-Some c = search power_small depth 6
 
-pub returns-in-Of : goal.returns-in-Of
-returns-in-Of c = search literal-raised depth 10
+pub returns-in-Some : goal.returns-in-Some
+returns-in-Some c = search literal-raised depth 10
 
-pub returns-in-Nothing : goal.returns-in-Nothing
-returns-in-Nothing c = search literal-none depth 9
+pub returns-in-None : goal.returns-in-None
+returns-in-None c = search literal-none depth 9

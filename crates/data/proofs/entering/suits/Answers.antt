@@ -6,8 +6,8 @@ use Rattle.data.proofs.entering.suits.Goals as goal
 pub returns-then-not-whole : goal.returns-then-not-whole
 returns-then-not-whole c = search (suits-real, not-true)
 
-pub returns-in-Number : goal.returns-in-Number
-returns-in-Number c = search (suits-whole, not-false) depth 7
+pub returns-in-Some : goal.returns-in-Some
+returns-in-Some c = search (suits-whole, not-false) depth 7
 
-pub returns-in-NotWhole : goal.returns-in-NotWhole
-returns-in-NotWhole c = search (suits-not, not-false) depth 7
+pub returns-in-None : goal.returns-in-None
+returns-in-None c = search (suits-not, not-false) depth 7

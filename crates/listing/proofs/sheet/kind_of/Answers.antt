@@ -8,5 +8,5 @@ returns-then-equal c = search kind-equal
 pub returns-in-None : goal.returns-in-None
 returns-in-None c = search kind-less depth 6
 
-pub returns-in-At : goal.returns-in-At
-returns-in-At c = search kind-range depth 7
+pub returns-in-Some : goal.returns-in-Some
+returns-in-Some c = search kind-range depth 7

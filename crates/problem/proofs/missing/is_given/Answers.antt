@@ -2,8 +2,8 @@
 use Rattle.problem.proofs.missing.Elements.{given-found, given_nothing}
 use Rattle.problem.proofs.missing.is_given.Goals as goal
 
-pub returns-in-At : goal.returns-in-At
-returns-in-At c = search given-found depth 8
+pub returns-in-Some : goal.returns-in-Some
+returns-in-Some c = search given-found depth 8
 
-pub returns-in-Nothing : goal.returns-in-Nothing
-returns-in-Nothing c = search given_nothing depth 8
+pub returns-in-None : goal.returns-in-None
+returns-in-None c = search given_nothing depth 8
