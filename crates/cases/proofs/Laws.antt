@@ -7,7 +7,7 @@ use native.Mathlib.Numerals.{add-one}
 use mir.Syntax.{w64}
 use mir.Val.{to_z}
 use borrow.Rule.Slice.PartMut.{put_mid}
-use lib.ListN.{length, take, drop, get_or, replicate, drop_of_length-le, length-replicate}
+use lib.ListN.{length, take, drop, get_or, drop_of_length-le}
 use lib.Seq.{drop-cons}
 use Rattle.rules.specs.Characters.{tab, line_feed}
 use Rattle.value.specs.declared.Value.{Value}
@@ -17,7 +17,6 @@ use Rattle.value.proofs.Writing.{written_none, written_then}
 use Rattle.listing.specs.Shown.{shown_natural}
 use Rattle.listing.proofs.Showing.{shown-most, whole_is, natural-read, natural-none}
 use Rattle.listing.proofs.Writing.{field-then, line-end, written_from}
-use Rattle.cases.proofs.frames.Laws.{part_length}
 use Rattle.language.specs.Answer.{respond}
 use Rattle.generator.specs.declared.Answer.{Answer}
 use Rattle.generator.specs.declared.Entry.{Entry}
@@ -73,17 +72,6 @@ module _ (l : List ℕ) (i c : ℕ) (h : Counted l i c) where
   pub counted-all : length l ≤ i → c ≡ nonzero_of l
   unfolding nonzero_of
   counted-all b = omega (arith, rw (drop_of_length-le l {i = i} b) at h.rest)
-
--- ---- parts
-
-pub line-part : (k m : ℕ) (l : List ℕ) → length l ≡ 128 → k ≡ min m 128 → k ≡ length (take k l)
-line-part k m l e h = part_length k l (omega arith)
-
-pub filled-part : (k m b : ℕ) → k ≡ min m 65536 → k ≡ length (take k (replicate 65536 b))
-filled-part k m b h = part_length k (replicate 65536 b) (rw (length-replicate 65536 b) (omega arith))
-
-pub out-part : (k m : ℕ) (l : List ℕ) → k ≡ min m (length l) → k ≡ length (take k l)
-out-part k m l h = part_length k l (omega arith)
 
 -- ---- the output of a case
 

@@ -8,9 +8,10 @@ use std::io::Read;
 
 // The entry point of a case, and the lengths of its text and of its output buffer.
 #[derive(Clone, Copy)]
-pub enum Given {
-    Text(Entry, usize, usize),
-    Nothing,
+pub struct Given {
+    pub entry: Entry,
+    pub text: usize,
+    pub room: usize,
 }
 
 fn digit(b: u8) -> usize
@@ -45,22 +46,26 @@ fn entry(b: u8) -> Entry
 }
 
 // Takes the next text into the start of a buffer. No contract can say what is read: a read that fails counts as the end.
-pub fn take<R: Read>(reader: &mut R, buffer: &mut [u8]) -> Given
+pub fn take<R: Read>(reader: &mut R, buffer: &mut [u8]) -> Option<Given>
     ensures { Within result (length buffer.new) }
 {
     let mut head = [0u8; 14];
     let got = input::read_full(reader, &mut head).unwrap_or(0);
     if got < 14 {
-        return Given::Nothing;
+        return None;
     }
     let n = five(head[2], head[3], head[4], head[5], head[6]);
     let k = five(head[8], head[9], head[10], head[11], head[12]);
     if buffer.len() < n {
-        return Given::Nothing;
+        return None;
     }
     let taken = input::read_full(reader, &mut buffer[..n]).unwrap_or(0);
     if taken < n {
-        return Given::Nothing;
+        return None;
     }
-    Given::Text(entry(head[1]), n, k)
+    Some(Given {
+        entry: entry(head[1]),
+        text: n,
+        room: k,
+    })
 }

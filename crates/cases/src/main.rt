@@ -11,7 +11,6 @@ ghost use Rattle.value.specs.Printed.{Written};
 ghost use Rattle.listing.specs.Shown.{shown_natural};
 ghost use Rattle.cases.specs.Told.{one_of, nonzero_of, told, Runs};
 
-use frames::Given;
 use generator::{Answer, Entry};
 use std::io;
 use std::io::{Print, Read};
@@ -70,10 +69,8 @@ fn nonzero(bytes: &[u8]) -> usize
     ensures { result ≡ nonzero_of bytes.now }
 {
     let mut count = 0;
-    let mut i = 0;
-    while i < bytes.len() {
-        count += one(bytes[i]);
-        i += 1;
+    for b in bytes {
+        count += one(*b);
     }
     count
 }
@@ -104,13 +101,13 @@ fn run(rt: &impl Print, entry: Entry, text: &[u8], out: &mut [u8]) -> io::Result
 // One case; whether there was one. Its buffer has no zero byte before the call.
 fn turn<P: Print, R: Read>(rt: &P, reader: &mut R) -> io::Result<bool> {
     let mut buffer = [0u8; 65536];
-    let given = frames::take(reader, &mut buffer);
-    let Given::Text(entry, n, k) = given else {
+    let Some(given) = frames::take(reader, &mut buffer) else {
         return Ok(false);
     };
     let mut out = [170u8; 65536];
-    let k = listing::rest_from(65536, k);
-    run(rt, entry, &buffer[..n], &mut out[..k])?;
+    let n = given.text;
+    let k = listing::rest_from(65536, given.room);
+    run(rt, given.entry, &buffer[..n], &mut out[..k])?;
     Ok(true)
 }
 

@@ -1,4 +1,6 @@
 -- Laws of a domain's entries, over plain variables.
+use Rattle.std.specs.Prelude.{Err, Ok, Result}
+use Rattle.rules.specs.declared.Refused.{Refused}
 use mathlib.Core.Path.{◌≡◌, refl, sym, ◌∙◌, ap, subst}
 use mathlib.Core.Bool.{Bool, true, false}
 use mathlib.Core.List.{List}
@@ -6,7 +8,6 @@ use Prim.Native.Nat.{ℕ, zero, suc, ◌+◌, ◌-◌, ◌<◌, ◌≤◌}
 use native.Mathlib.Omega.{arith}
 use lib.Dec.{eqb}
 use borrow.Author.Tests.{eq-eqb, ne_eqb}
-use Rattle.rules.specs.declared.Refusal.{Refusal}
 use Rattle.rules.specs.Limits.{nesting_limit, index_limit}
 use Rattle.lexer.specs.Text.{Token}
 use Rattle.lexer.specs.Marks.{opens, closes, comma}
@@ -16,10 +17,7 @@ use Rattle.language.specs.Reader.{Reader, follow, ◌>>=◌, give, next, look, i
 use Rattle.language.specs.Formulas.{Entry, in_domain, entry_of, span_of, entries_of, domain_of, optional_domain}
 use Rattle.onepass.specs.Entries.{read}
 use Rattle.onepass.proofs.Steps.{after_read, same-what, same_rest, bracket-is, expect-is}
-use Rattle.tokens.specs.declared.Move.{Move}
-use Rattle.tokens.specs.declared.Move.TheVariants.{At, Refused}
 use Rattle.tokens.specs.declared.Seen.{Seen}
-use Rattle.tokens.specs.declared.Seen.TheVariants as seen
 use Rattle.tokens.specs.Stored.{token, from, size, Sees, Looks, Named, Moves, Stands}
 use Rattle.tokens.specs.Pieces.{index_in}
 use Rattle.tokens.proofs.Moved.{stood, stuck, next-is, look_is, is-mark}
@@ -96,10 +94,10 @@ module _ (s ns ts : List ℕ) (at : ℕ) where
   counting-first = record { some = omega arith; few = omega arith; left = λ names h d st. (d, st, refl) }
 
   module _ (a n : ℕ) (c : Counting s ns ts at a n) where
-    pub counting-full : 4 ≤ n → EntriesAre s ns ts at n
+    pub counting-full : 4 ≤ n → EntriesAre s ns ts at 4
     counting-full g =
         record {
-          few = c.few;
+          few = omega arith;
           is = λ names h d st.
               let (d', x, e) = c.left names h d st in
               let z : 4 - n ≡ 0 = omega arith in
@@ -107,7 +105,7 @@ module _ (s ns ts : List ℕ) (at : ℕ) where
         }
 
     -- the entry and what follows it
-    module _ (g : n < 4) (r : Move) (h : Moves (entry_with index_in) s ns ts a r) where
+    module _ (g : n < 4) (r : Result ℕ Refused) (h : Moves (entry_with index_in) s ns ts a r) where
       Follows : List Name → Spans → Type 0
       Follows names d = (d' : Spans) × (x : Entry) × (m rest : List Token) × (entry_of (in_domain names) (read_index names) (from s ts a) ≡ read x m)
           × (follow (look m) (λ t. turn names (4 - (n + 1)) x (is_mark comma t)) ≡ read d' rest) × (size d + 1 ≡ size d' + n)
@@ -120,17 +118,17 @@ module _ (s ns ts : List ℕ) (at : ℕ) where
           let (x, m, u, v) = entry-reads names (from s ts a) d' y.rest (4 - (n + 1)) (subst (λ k. Entries names k (from s ts a) ≡ read d' y.rest) z y.reads) in
           (d', x, m, y.rest, u, v, e)
 
-      pub counting-stuck : (i : Refusal) (p : ℕ) → r ≡ Refused i p → EntriesAre s ns ts at n
+      pub counting-stuck : (e : Refused) → r ≡ Err e → EntriesAre s ns ts at n
       unfolding Follows entry_with index_in
-      counting-stuck i p e =
+      counting-stuck z e =
           record {
             few = c.few;
             is = λ names k d st.
                 let (d', x, m, rest, u, v, w) = follows names k d st in
-                absurd (refused-done (sym (stuck (entry_with index_in) s ns ts a r h names k i p e) ∙ u));
+                absurd (refused-done (sym (stuck (entry_with index_in) s ns ts a r h names k z e) ∙ u));
           }
 
-      module _ (b : ℕ) (e : r ≡ At b) (t : Seen) (l : Looks ts b t) where
+      module _ (b : ℕ) (e : r ≡ Ok b) (t : Result Seen Refused) (l : Looks ts b t) where
         -- the rest of the tokens stands at b
         Turns : List Name → Spans → Type 0
         Turns names d = (d' : Spans) × (x : Entry) × (rest : List Token) × (follow (look (from s ts b)) (λ t. turn names (4 - (n + 1)) x (is_mark comma t)) ≡ read d' rest) × (size d + 1 ≡ size d' + n)
@@ -143,9 +141,9 @@ module _ (s ns ts : List ℕ) (at : ℕ) where
             let z : m ≡ from s ts b = same_rest (sym u ∙ y.reads) in
             (d', x, rest, subst (λ q. follow (look q) (λ t. turn names (4 - (n + 1)) x (is_mark comma t)) ≡ read d' rest) z v, w)
 
-        pub counting-wrong : (i : Refusal) (p : ℕ) → t ≡ seen.Refused i p → EntriesAre s ns ts at n
+        pub counting-wrong : (e : Refused) → t ≡ Err e → EntriesAre s ns ts at n
         unfolding Turns
-        counting-wrong i p j =
+        counting-wrong z j =
             record {
               few = c.few;
               is = λ names k d st.
@@ -157,39 +155,39 @@ module _ (s ns ts : List ℕ) (at : ℕ) where
         Chosen : List Name → Spans → Bool → Type 0
         Chosen names d v = (d' : Spans) × (x : Entry) × (rest : List Token) × (turn names (4 - (n + 1)) x v (from s ts b) ≡ read d' rest) × (size d + 1 ≡ size d' + n)
 
-        chosen : (k p x q : ℕ) (v : Bool) → t ≡ seen.Token k p x q → eqb k 44 ≡ v → (names : List Name) → Named s ns names → (d : Spans) → Stands (Entries names 3) s ts at d → Chosen names d v
+        chosen : (w : Seen) (v : Bool) → t ≡ Ok w → eqb w.kind 44 ≡ v → (names : List Name) → Named s ns names → (d : Spans) → Stands (Entries names 3) s ts at d → Chosen names d v
         unfolding Turns Chosen
-        chosen k p x q v j f names o d st =
+        chosen seen v j f names o d st =
             let (d', y, rest, u, w) = turns names o d st in
-            let look : look (from s ts b) ≡ read (token s k p x) (from s ts b) = look_is s ts b k p x q (subst (Sees s ts b) j (l.sees s)) in (
+            let look : look (from s ts b) ≡ read (token s seen.kind seen.place seen.payload) (from s ts b) = look_is s ts b seen (subst (Sees s ts b) j (l.sees s)) in (
               d',
               y,
               rest,
-              subst (λ v. turn names (4 - (n + 1)) y v (from s ts b) ≡ read d' rest) (is-mark s 44 k p x (omega arith) ∙ f)
+              subst (λ v. turn names (4 - (n + 1)) y v (from s ts b) ≡ read d' rest) (is-mark s 44 seen.kind seen.place seen.payload (omega arith) ∙ f)
                   (subst (λ z. follow z (λ t. turn names (4 - (n + 1)) y (is_mark comma t)) ≡ read d' rest) look u),
               w,
             )
 
-        pub counting-end : (k p x q : ℕ) → t ≡ seen.Token k p x q → (k ≡ 44 → ⊥) → EntriesAre s ns ts at n
+        pub counting-end : (w : Seen) → t ≡ Ok w → (w.kind ≡ 44 → ⊥) → EntriesAre s ns ts at n
         unfolding Chosen
-        counting-end k p x q j f =
+        counting-end z j f =
             record {
               few = c.few;
               is = λ names o d st.
-                  let (d', y, rest, u, w) = chosen k p x q false j (ne_eqb k 44 f) names o d st in
+                  let (d', y, rest, u, w) = chosen z false j (ne_eqb z.kind 44 f) names o d st in
                   omega (arith, end-size names (4 - (n + 1)) y (from s ts b) d' rest u);
             }
 
-        pub counting_more : (k p x q : ℕ) → t ≡ seen.Token k p x q → k ≡ 44 → Counting s ns ts at q (n + 1)
+        pub counting_more : (w : Seen) → t ≡ Ok w → w.kind ≡ 44 → Counting s ns ts at w.next (n + 1)
         unfolding Chosen
-        counting_more k p x q j f =
+        counting_more seen j f =
             record {
               some = omega arith;
               few = omega arith;
               left = λ names o d st.
-                  let (d', y, rest, u, w) = chosen k p x q true j (eq-eqb k 44 f) names o d st in
+                  let (d', y, rest, u, w) = chosen seen true j (eq-eqb seen.kind 44 f) names o d st in
                   let (m, z, d'', r, g, i, e) = more-reads names (4 - (n + 1)) y (from s ts b) d' rest u in
-                  let same : m ≡ from s ts q = same_rest (sym g ∙ next-is s ts b k p x q (subst (Sees s ts b) j (l.sees s))) in
+                  let same : m ≡ from s ts seen.next = same_rest (sym g ∙ next-is s ts b seen (subst (Sees s ts b) j (l.sees s))) in
                   (d'', record { rest = r; reads = subst (λ v. Entries names (4 - (n + 1)) v ≡ read d'' r) same i }, omega arith);
             }
 
@@ -198,43 +196,43 @@ module _ (s ns ts : List ℕ) (at : ℕ) where
 choice : List Name → Bool → Reader Spans
 choice names b = elim b as (λ _. Reader Spans) [ true ↦ domain_of names | false ↦ give point ]
 
-module _ (s ts : List ℕ) (at : ℕ) (t : Seen) (l : Looks ts at t) (names : List Name) (d : Spans) (st : Stands (optional_domain names) s ts at d) where
+module _ (s ts : List ℕ) (at : ℕ) (t : Result Seen Refused) (l : Looks ts at t) (names : List Name) (d : Spans) (st : Stands (optional_domain names) s ts at d) where
   -- a domain is read where a token stands
-  pub domain-wrong : (i : Refusal) (p : ℕ) → t ≡ seen.Refused i p → ⊥
+  pub domain-wrong : (e : Refused) → t ≡ Err e → ⊥
   unfolding optional_domain
-  domain-wrong i p j = after_read (look (from s ts at)) _ _ st.reads λ u m q o. refused-done (sym (subst (Sees s ts at) j (l.sees s)).looks ∙ q)
+  domain-wrong z j = after_read (look (from s ts at)) _ _ st.reads λ u m q o. refused-done (sym (subst (Sees s ts at) j (l.sees s)).looks ∙ q)
 
-  module _ (k p x q : ℕ) (j : t ≡ seen.Token k p x q) where
-    chosen-domain : (v : Bool) → eqb k 40 ≡ v → choice names v (from s ts at) ≡ read d st.rest
+  module _ (w : Seen) (j : t ≡ Ok w) where
+    chosen-domain : (v : Bool) → eqb w.kind 40 ≡ v → choice names v (from s ts at) ≡ read d st.rest
     unfolding optional_domain choice
     chosen-domain v f =
-        let look : look (from s ts at) ≡ read (token s k p x) (from s ts at) = look_is s ts at k p x q (subst (Sees s ts at) j (l.sees s)) in
-        subst (λ v. choice names v (from s ts at) ≡ read d st.rest) (is-mark s 40 k p x (omega arith) ∙ f)
+        let look : look (from s ts at) ≡ read (token s w.kind w.place w.payload) (from s ts at) = look_is s ts at w (subst (Sees s ts at) j (l.sees s)) in
+        subst (λ v. choice names v (from s ts at) ≡ read d st.rest) (is-mark s 40 w.kind w.place w.payload (omega arith) ∙ f)
         (subst (λ z. follow z (λ t. choice names (is_mark opens t)) ≡ read d st.rest) look st.reads)
 
     -- none without its bracket
-    pub domain-none : (k ≡ 40 → ⊥) → point ≡ d
+    pub domain-none : (w.kind ≡ 40 → ⊥) → point ≡ d
     unfolding choice
-    domain-none f = same-what (chosen-domain false (ne_eqb k 40 f))
+    domain-none f = same-what (chosen-domain false (ne_eqb w.kind 40 f))
 
     -- its entries stand behind its bracket
-    pub domain-some : k ≡ 40 → Stands (Entries names 3) s ts q d
+    pub domain-some : w.kind ≡ 40 → Stands (Entries names 3) s ts w.next d
     unfolding choice domain_of index_limit
     domain-some f =
-        after_read (bracket opens nesting_limit (from s ts at)) _ _ (chosen-domain true (eq-eqb k 40 f)) λ c m g e.
-        let same : m ≡ from s ts q = same_rest (sym (expect-is opens _ c m (bracket-is opens nesting_limit _ c m g)).stands ∙ next-is s ts at k p x q (subst (Sees s ts at) j (l.sees s))) in
+        after_read (bracket opens nesting_limit (from s ts at)) _ _ (chosen-domain true (eq-eqb w.kind 40 f)) λ c m g e.
+        let same : m ≡ from s ts w.next = same_rest (sym (expect-is opens _ c m (bracket-is opens nesting_limit _ c m g)).stands ∙ next-is s ts at w (subst (Sees s ts at) j (l.sees s))) in
         record { rest = st.rest; reads = subst (λ v. Entries names 3 v ≡ read d st.rest) same e }
 
-module _ (s ns ts : List ℕ) (at : ℕ) (t : Seen) (l : Looks ts at t) where
-  pub size-wrong : (i : Refusal) (p : ℕ) → t ≡ seen.Refused i p → SizeIs s ns ts at 0
-  size-wrong i p j = record { few = omega arith; is = λ names o d st. absurd (domain-wrong s ts at t l names d st i p j) }
+module _ (s ns ts : List ℕ) (at : ℕ) (t : Result Seen Refused) (l : Looks ts at t) where
+  pub size-wrong : (e : Refused) → t ≡ Err e → SizeIs s ns ts at 0
+  size-wrong z j = record { few = omega arith; is = λ names o d st. absurd (domain-wrong s ts at t l names d st z j) }
 
-  pub size_none : (k p x q : ℕ) → t ≡ seen.Token k p x q → (k ≡ 40 → ⊥) → SizeIs s ns ts at 0
+  pub size_none : (w : Seen) → t ≡ Ok w → (w.kind ≡ 40 → ⊥) → SizeIs s ns ts at 0
   unfolding size
-  size_none k p x q j f = record { few = omega arith; is = λ names o d st. ap size (sym (domain-none s ts at t l names d st k p x q j f)) }
+  size_none z j f = record { few = omega arith; is = λ names o d st. ap size (sym (domain-none s ts at t l names d st z j f)) }
 
-  pub size-some : (k p x q n : ℕ) → t ≡ seen.Token k p x q → k ≡ 40 → EntriesAre s ns ts q n → SizeIs s ns ts at n
-  size-some k p x q n j f h = record { few = h.few; is = λ names o d st. h.is names o d (domain-some s ts at t l names d st k p x q j f) }
+  pub size-some : (w : Seen) (n : ℕ) → t ≡ Ok w → w.kind ≡ 40 → EntriesAre s ns ts w.next n → SizeIs s ns ts at n
+  size-some z n j f h = record { few = h.few; is = λ names o d st. h.is names o d (domain-some s ts at t l names d st z j f) }
 
 -- ---- the word
 

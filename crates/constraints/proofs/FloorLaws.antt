@@ -1,4 +1,6 @@
 -- Laws of a floor, over plain variables.
+use Rattle.std.specs.Prelude.{Err, Ok, Result}
+use Rattle.rules.specs.declared.Refused.{Refused}
 use mathlib.Core.Path.{◌≡◌, refl, sym, ◌∙◌, ap, subst}
 use mathlib.Core.Bool.{Bool, true, false, cond}
 use mathlib.Core.List.{List, ◌∷◌}
@@ -6,7 +8,6 @@ use Prim.Native.Nat.{ℕ}
 use native.Mathlib.Omega.{arith}
 use lib.Dec.{eqb}
 use borrow.Author.Tests.{eq-eqb, ne_eqb}
-use Rattle.rules.specs.declared.Refusal.{Refusal}
 use Rattle.rules.specs.Limits.{nesting_limit}
 use Rattle.lexer.specs.Text.{Token}
 use Rattle.lexer.specs.Marks as Marks
@@ -18,15 +19,11 @@ use Rattle.language.specs.Grammar.{read_floor}
 use Rattle.onepass.specs.Entries.{read}
 use Rattle.onepass.proofs.Steps.{after_read}
 use Rattle.onepass.proofs.Steps as Steps
-use Rattle.tokens.specs.declared.Move.{Move}
-use Rattle.tokens.specs.declared.Move.TheVariants.{At, Refused}
 use Rattle.tokens.specs.declared.Seen.{Seen}
-use Rattle.tokens.specs.declared.Seen.TheVariants as seen
 use Rattle.tokens.specs.Stored.{token, from, Sees, Looks, Moves, Gives}
 use Rattle.tokens.specs.Pieces.{expect_in}
 use Rattle.tokens.proofs.Moved.{stops, goes, stood, stuck, gives_at, gives-refused, follow-same, next-is, look_is, is-mark}
 use Rattle.formulas.specs.Cycle.{formula_in}
-use Rattle.constraints.specs.declared.Floor.{Floor}
 use Rattle.constraints.specs.Readers.{plain_by, floor_formula_in, floor_in}
 use Rattle.constraints.specs.Rows.{relation_mark, has_floor, FloorStands, FloorAt, IsFloor}
 
@@ -37,12 +34,12 @@ follow-follow (refused n p) f g = refl
 
 -- ---- behind its comma
 
-module _ (s ns ts : List ℕ) (at : ℕ) (r : Move) (h : Moves (expect_in 62) s ns ts at r) where
-  pub floor-unsigned : (n : Refusal) (p : ℕ) → r ≡ Refused n p → Moves floor_formula_in s ns ts at r
+module _ (s ns ts : List ℕ) (at : ℕ) (r : Result ℕ Refused) (h : Moves (expect_in 62) s ns ts at r) where
+  pub floor-unsigned : (e : Refused) → r ≡ Err e → Moves floor_formula_in s ns ts at r
   unfolding floor_formula_in expect_in formula_in nesting_limit
-  floor-unsigned n p e = stops (expect_in 62) (λ names _. formula_in 12 names) s ns ts at r h n p e
+  floor-unsigned z e = stops (expect_in 62) (λ names _. formula_in 12 names) s ns ts at r h z e
 
-  pub floor-signed : (a : ℕ) (q : Move) → r ≡ At a → Moves (formula_in 12) s ns ts a q → Moves floor_formula_in s ns ts at q
+  pub floor-signed : (a : ℕ) (q : Result ℕ Refused) → r ≡ Ok a → Moves (formula_in 12) s ns ts a q → Moves floor_formula_in s ns ts at q
   unfolding floor_formula_in expect_in formula_in nesting_limit
   floor-signed a q e k = goes (expect_in 62) (λ names _. formula_in 12 names) s ns ts at r h a q e (λ w. k)
 
@@ -82,18 +79,15 @@ alone names l true = (refl, refl, tt)
 alone names l false = (refl, refl, tt)
 
 module _ (s ns ts : List ℕ) (m at : ℕ) where
-  abbrev Answer : Floor → Type 0
-  Answer q = Gives (floor_in m) (IsFloor m (from s ts at) q.present) s ns ts at q.end
-
-  pub floor-other : (q : Floor) → (m ≡ 60 → ⊥) → q ≡ record { present = false; end = At at } → Gives (floor_in m) (IsFloor m (from s ts at) q.present) s ns ts at q.end
+  pub floor-other : (m ≡ 60 → ⊥) → Gives (floor_in m) (IsFloor m (from s ts at) false) s ns ts at (Ok at)
   unfolding floor_in
-  floor-other q e f =
-      subst Answer (sym f) (gives_at (floor_in m) (IsFloor m (from s ts at) false) s ns ts at at λ names d.
+  floor-other e =
+      gives_at (floor_in m) (IsFloor m (from s ts at) false) s ns ts at at λ names d.
       let x = subst (Alone names (from s ts at)) (sym (other-plain m e)) (alone names (from s ts at) (eqb m 62)) in
-      record { what = plain_by m; reads = x.0; holds = record { mark = refl; floor = x.1; stands = x.2 } })
+      record { what = plain_by m; reads = x.0; holds = record { mark = refl; floor = x.1; stands = x.2 } }
 
-  module _ (t : Seen) (e : m ≡ 60) (l : Looks ts at t) where
-    sees : (w : Seen) → t ≡ w → Sees s ts at w
+  module _ (t : Result Seen Refused) (e : m ≡ 60) (l : Looks ts at t) where
+    sees : (w : Result Seen Refused) → t ≡ w → Sees s ts at w
     sees w e = subst (Sees s ts at) e (l.sees s)
 
     same-mark : relation_mark at_most ≡ relation_mark (plain_by m)
@@ -104,42 +98,47 @@ module _ (s ns ts : List ℕ) (m at : ℕ) where
     unfolding floor_in plain_by read_floor written
     floor-looks names = ap (λ m. floor_in m names (from s ts at)) e
 
-    pub floor-wrong : (n : Refusal) (p : ℕ) (q : Floor) → t ≡ seen.Refused n p → q ≡ record { present = false; end = Refused n p }
-        → Gives (floor_in m) (IsFloor m (from s ts at) q.present) s ns ts at q.end
-    floor-wrong n p q i f =
-        subst Answer (sym f) (gives-refused (floor_in m) (IsFloor m (from s ts at) false) s ns ts at n p
-        (λ names d. floor-looks names ∙ ap (λ o. follow o (λ t. written names (is_mark Marks.comma t))) (sees (seen.Refused n p) i).looks))
+    pub floor-wrong : (e : Refused) → t ≡ Err e → Moves (floor_in m) s ns ts at (Err e)
+    floor-wrong z i =
+        (gives-refused (floor_in m) (IsFloor m (from s ts at) false) s ns ts at z
+        (λ names d. floor-looks names ∙ ap (λ o. follow o (λ t. written names (is_mark Marks.comma t))) (sees (Err z) i).looks)).moves
 
-    module _ (k p x a : ℕ) (i : t ≡ seen.Token k p x a) where
-      floor-is : (names : List Name) (b : Bool) → eqb k 44 ≡ b → floor_in m names (from s ts at) ≡ written names b (from s ts at)
+    module _ (w : Seen) (i : t ≡ Ok w) where
+      floor-is : (names : List Name) (b : Bool) → eqb w.kind 44 ≡ b → floor_in m names (from s ts at) ≡ written names b (from s ts at)
       floor-is names b j =
-          floor-looks names ∙ ap (λ o. follow o (λ t. written names (is_mark Marks.comma t))) (look_is s ts at k p x a (sees _ i))
-          ∙ ap (λ b. written names b (from s ts at)) (is-mark s 44 k p x (omega arith) ∙ j)
+          floor-looks names ∙ ap (λ o. follow o (λ t. written names (is_mark Marks.comma t))) (look_is s ts at w (sees _ i))
+          ∙ ap (λ b. written names b (from s ts at)) (is-mark s 44 w.kind w.place w.payload (omega arith) ∙ j)
 
-      pub floor-none : (q : Floor) → (k ≡ 44 → ⊥) → q ≡ record { present = false; end = At at } → Gives (floor_in m) (IsFloor m (from s ts at) q.present) s ns ts at q.end
+      pub floor-none : (w.kind ≡ 44 → ⊥) → Gives (floor_in m) (IsFloor m (from s ts at) false) s ns ts at (Ok at)
       unfolding written
-      floor-none q j f =
-          subst Answer (sym f) (gives_at (floor_in m) (IsFloor m (from s ts at) false) s ns ts at at λ names d.
-          record { what = at_most; reads = floor-is names false (ne_eqb k 44 j); holds = record { mark = same-mark; floor = refl; stands = tt } })
+      floor-none j =
+          gives_at (floor_in m) (IsFloor m (from s ts at) false) s ns ts at at λ names d.
+          record { what = at_most; reads = floor-is names false (ne_eqb w.kind 44 j); holds = record { mark = same-mark; floor = refl; stands = tt } }
 
-      floor-then : (names : List Name) → k ≡ 44 → floor_in m names (from s ts at) ≡ follow (floor_formula_in names (from s ts a)) (λ h. give (between h))
+      floor-then : (names : List Name) → w.kind ≡ 44 → floor_in m names (from s ts at) ≡ follow (floor_formula_in names (from s ts w.next)) (λ h. give (between h))
       floor-then names j =
-          floor-is names true (eq-eqb k 44 j) ∙ written-formula names (from s ts at)
-          ∙ ap (λ o. follow o (λ _. floor_formula_in names >>= (λ h. give (between h)))) (next-is s ts at k p x a (sees _ i))
+          floor-is names true (eq-eqb w.kind 44 j) ∙ written-formula names (from s ts at)
+          ∙ ap (λ o. follow o (λ _. floor_formula_in names >>= (λ h. give (between h)))) (next-is s ts at w (sees _ i))
 
-      pub floor-some : (r : Move) → k ≡ 44 → Moves floor_formula_in s ns ts a r → Gives (floor_in m) (IsFloor m (from s ts at) true) s ns ts at r
-      floor-some (Refused n p) j h =
-          gives-refused (floor_in m) (IsFloor m (from s ts at) true) s ns ts at n p
-          (λ names d. floor-then names j ∙ ap (λ o. follow o (λ h. give (between h))) (stuck floor_formula_in s ns ts a (Refused n p) h names d n p refl))
-      floor-some (At b) j h =
+      floor-by : (r : Result ℕ Refused) → w.kind ≡ 44 → Moves floor_formula_in s ns ts w.next r → Gives (floor_in m) (IsFloor m (from s ts at) true) s ns ts at r
+      floor-by (Err e) j h =
+          gives-refused (floor_in m) (IsFloor m (from s ts at) true) s ns ts at e
+          (λ names d. floor-then names j ∙ ap (λ o. follow o (λ h. give (between h))) (stuck floor_formula_in s ns ts w.next (Err e) h names d e refl))
+      floor-by (Ok b) j h =
           gives_at (floor_in m) (IsFloor m (from s ts at) true) s ns ts at b λ names d.
-          let y = stood floor_formula_in s ns ts a (At b) h names d b refl in
+          let y = stood floor_formula_in s ns ts w.next (Ok b) h names d b refl in
           record {
             what = between y.what;
             reads = floor-then names j ∙ ap (λ o. follow o (λ h. give (between h))) y.reads;
             holds = record {
               mark = same-mark;
               floor = refl;
-              stands = subst (λ l. FloorStands names l y.what) (sym (sees _ i).1) (formula-stands names (token s k p x) (from s ts a) y.what (from s ts b) y.reads);
+              stands = subst (λ l. FloorStands names l y.what) (sym (sees _ i).1) (formula-stands names (token s w.kind w.place w.payload) (from s ts w.next) y.what (from s ts b) y.reads);
             };
           }
+
+      pub floor-refused : (r : Result ℕ Refused) (e : Refused) → w.kind ≡ 44 → Moves floor_formula_in s ns ts w.next r → r ≡ Err e → Moves (floor_in m) s ns ts at r
+      floor-refused r z j h f = (floor-by r j h).moves
+
+      pub floor-some : (r : Result ℕ Refused) (b : ℕ) → w.kind ≡ 44 → Moves floor_formula_in s ns ts w.next r → r ≡ Ok b → Gives (floor_in m) (IsFloor m (from s ts at) true) s ns ts at (Ok b)
+      floor-some r b j h f = subst (Gives (floor_in m) (IsFloor m (from s ts at) true) s ns ts at) f (floor-by r j h)

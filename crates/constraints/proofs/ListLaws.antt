@@ -1,4 +1,6 @@
 -- Laws of the list of constraints and of their table, over plain variables.
+use Rattle.std.specs.Prelude.{Err, Ok, Result}
+use Rattle.rules.specs.declared.Refused.{Refused}
 use mathlib.Core.Path.{◌≡◌, refl, sym, ◌∙◌, ap, subst}
 use mathlib.Core.Bool.{Bool, true, false}
 use mathlib.Core.List.{List, [], ◌∷◌, ◌++◌, append_assoc}
@@ -6,45 +8,31 @@ use Prim.Native.Nat.{ℕ, suc, ◌+◌, ◌*◌, ◌-◌, ◌<◌, ◌≤◌}
 use native.Mathlib.Omega.{arith}
 use lib.ListN.{length, drop}
 use lib.Seq.{drop-drop}
-use Rattle.rules.specs.declared.Refusal.{Refusal}
 use Rattle.rules.specs.declared.Refusal.TheVariants.{Full}
 use Rattle.rules.specs.Limits.{constraint_limit}
 use Rattle.lexer.specs.Text.{Token}
 use Rattle.language.specs.Outcome.{Outcome, done, refused}
-use Rattle.language.proofs.Outcome.{refused-done}
 use Rattle.language.specs.Syntax.{Name, Constraint}
-use Rattle.language.specs.Reader.{Reader, Read, follow, ◌>>=◌, give, refuse, look, is_string}
+use Rattle.language.specs.Reader.{Reader, Read, follow, ◌>>=◌, give, look, is_string}
 use Rattle.language.specs.Grammar.{constraints_of}
-use Rattle.tokens.specs.declared.Move.{Move}
-use Rattle.tokens.specs.declared.Move.TheVariants.{At, Refused}
 use Rattle.tokens.specs.declared.Seen.{Seen}
-use Rattle.tokens.specs.declared.Seen.TheVariants as seen
 use Rattle.tokens.specs.Stored.{token, from, Sees, Looks, Named, rows_of, Put, Moves, Gives}
 use Rattle.tokens.proofs.Tables.{put-rows}
-use Rattle.tokens.proofs.Moved.{Got, got, stood, stuck, gives_at, gives-refused, follow-same, look_is}
+use Rattle.tokens.proofs.Moved.{Got, got, stuck, gives_at, gives-refused, follow-same, look_is}
 use Rattle.constraints.specs.declared.Row.{Row}
-use Rattle.constraints.specs.declared.Joint.{Joint}
 use Rattle.constraints.specs.Readers.{constraint_in, more_in, constraints_in}
 use Rattle.constraints.specs.Rows.{IsTrue, RowOf, words_of, Rows, Constrained}
 
 -- ---- no constraint more
 
-module _ (s ns ts : List ℕ) (at : ℕ) (t : Seen) (l : Looks ts at t) where
-  pub full-token : (k p x a : ℕ) → t ≡ seen.Token k p x a → Moves (constraints_in 0) s ns ts at (Refused Full p)
+module _ (s ns ts : List ℕ) (at : ℕ) (t : Result Seen Refused) (l : Looks ts at t) where
+  pub full-token : (w : Seen) → t ≡ Ok w → Moves (constraints_in 0) s ns ts at (Err (record { refusal = Full; place = w.place }))
   unfolding constraints_in constraints_of token
-  full-token k p x a e = record { matches = λ names d. rw (look_is s ts at k p x a (subst (Sees s ts at) e (l.sees s))) (refl, refl) }
+  full-token z e = record { matches = λ names d. rw (look_is s ts at z (subst (Sees s ts at) e (l.sees s))) (refl, refl) }
 
-  pub full-wrong : (n : Refusal) (p : ℕ) → t ≡ seen.Refused n p → Moves (constraints_in 0) s ns ts at (Refused n p)
+  pub full-wrong : (e : Refused) → t ≡ Err e → Moves (constraints_in 0) s ns ts at (Err e)
   unfolding constraints_in constraints_of
-  full-wrong n p e = let u = subst (Sees s ts at) e (l.sees s) in record { matches = λ names d. rw u.looks (refl, refl) }
-
-never : (names : List Name) (l : List Token) (y : Read (List Constraint)) → constraints_in 0 names l ≡ done y → ⊥
-unfolding constraints_in constraints_of
-never names l y e = go (look l) e
-  where
-    go : (o : Outcome (Read Token)) → follow o (λ t. refuse {A = List Constraint} Full t.place) ≡ done y → ⊥
-    go (done x) e = refused-done e
-    go (refused n p) e = refused-done e
+  full-wrong z e = let u = subst (Sees s ts at) e (l.sees s) in record { matches = λ names d. rw u.looks (refl, refl) }
 
 -- ---- one row more
 
@@ -105,50 +93,32 @@ module _ (s ns ts t : List ℕ) (at : ℕ) where
   constraints-start =
       record { size = refl; within = omega arith; rest = refl; reached = λ names d. record { before = []; are = tt; same = behind-none (constraints_in 64 names (from s ts at)) } }
 
-  refused-with : (n : ℕ) (t' : List ℕ) (e : Refusal) (p : ℕ) (r : Move) → r ≡ Refused e p → length t' ≡ length t → n ≤ 64 → drop (n * 5) t' ≡ drop (n * 5) t
-      → ((names : List Name) → Named s ns names → constraints_in 64 names (from s ts at) ≡ refused e p) → Constrained s ns ts t at (record { count = n; end = r }) t'
+  refused-with : (t' : List ℕ) (w : Refused) → length t' ≡ length t → ((names : List Name) → Named s ns names → constraints_in 64 names (from s ts at) ≡ refused w.refusal w.place) → Constrained s ns ts t at (Err w) t'
   unfolding constraint_limit
-  refused-with n t' e p r f size within rest g =
-      record {
-        size = size;
-        within = within;
-        gives = subst (Gives (constraints_in 64) (Rows s ts (rows_of n t')) s ns ts at) (sym f) (gives-refused (constraints_in 64) (Rows s ts (rows_of n t')) s ns ts at e p g);
-        rest = rest;
-      }
+  refused-with t' z size g = record { size = size; within = tt; gives = (gives-refused (constraints_in 64) (λ _ _. Unit {0}) s ns ts at z g).moves; rest = tt }
 
   module _ (n a : ℕ) (t' : List ℕ) (o : ConstraintsOn s ns ts t at n a t') where
-    not_at : (g : ℕ) → Moves (constraints_in 0) s ns ts a (At g) → (names : List Name) → Named s ns names → ⊥
-    not_at g m names d = never names (from s ts a) _ (stood (constraints_in 0) s ns ts a (At g) m names d g refl).reads
-
-    pub constraints-full : (q : Move) → 64 ≤ n → Moves (constraints_in 0) s ns ts a q → Constrained s ns ts t at (record { count = n; end = q }) t'
-    unfolding constraint_limit
-    constraints-full (Refused e p) h m =
+    pub constraints-full : (e : Refused) → 64 ≤ n → Moves (constraints_in 0) s ns ts a (Err e) → Constrained s ns ts t at (Err e) t'
+    constraints-full w h m =
         let z : 64 - n ≡ 0 = omega arith in
-        refused-with n t' e p (Refused e p) refl o.size o.within o.rest (λ names d.
+        refused-with t' w o.size (λ names d.
         let x = o.reached names d in
-        x.same ∙ ap (behind x.before) (ap (λ k. constraints_in k names (from s ts a)) z ∙ stuck (constraints_in 0) s ns ts a (Refused e p) m names d e p refl))
-    constraints-full (At g) h m =
-        record {
-          size = o.size;
-          within = o.within;
-          gives = record { moves = record { matches = λ names d. absurd (not_at g m names d) }; tells = λ names d x e. absurd (not_at g m names d) };
-          rest = o.rest;
-        }
+        x.same ∙ ap (behind x.before) (ap (λ k. constraints_in k names (from s ts a)) z ∙ stuck (constraints_in 0) s ns ts a (Err w) m names d w refl))
 
-    module _ (m : n < 64) (row : Row) (h : Gives constraint_in (RowOf s ts (words_of row)) s ns ts a row.end) where
+    module _ (m : n < 64) where
       one : (names : List Name) → constraints_in (64 - n) names (from s ts a) ≡ follow (constraint_in names (from s ts a)) (λ c. more_in names >>= turn (64 - (n + 1)) c names)
       one names = let e : 64 - n ≡ suc (64 - (n + 1)) = omega arith in ap (λ j. constraints_in j names (from s ts a)) e ∙ constraints-is (64 - (n + 1)) names (from s ts a)
 
-      pub constraints-refused : (e : Refusal) (p : ℕ) → row.end ≡ Refused e p → Constrained s ns ts t at (record { count = n; end = row.end }) t'
-      constraints-refused e p f =
-          refused-with n t' e p row.end f o.size o.within o.rest (λ names d.
+      pub constraints-refused : (e : Refused) → Moves constraint_in s ns ts a (Err e) → Constrained s ns ts t at (Err e) t'
+      constraints-refused z h =
+          refused-with t' z o.size (λ names d.
           let x = o.reached names d in
-          x.same ∙ ap (behind x.before) (one names ∙ ap (λ o. follow o (λ c. more_in names >>= turn (64 - (n + 1)) c names)) (stuck constraint_in s ns ts a row.end h.moves names d e p f)))
+          x.same ∙ ap (behind x.before) (one names ∙ ap (λ o. follow o (λ c. more_in names >>= turn (64 - (n + 1)) c names)) (stuck constraint_in s ns ts a (Err z) h names d z refl)))
 
-      module _ (b : ℕ) (t'' : List ℕ) (j : Joint) (f : row.end ≡ At b) (room : 320 ≤ length t) (w : Put t' n (row.title ∷ row.left ∷ row.shape ∷ row.right ∷ row.domain ∷ []) t'')
-          (k : Gives more_in (IsTrue j.more) s ns ts b j.end) where
+      module _ (row : Row) (b : ℕ) (h : Gives constraint_in (RowOf s ts (words_of row)) s ns ts a (Ok b)) (t'' : List ℕ) (room : 320 ≤ length t)
+          (w : Put t' n (row.title ∷ row.left ∷ row.shape ∷ row.right ∷ row.domain ∷ []) t'') where
         row-got : (names : List Name) → Named s ns names → Got (constraint_in names) (RowOf s ts (words_of row) names) s ts a b
-        row-got names d = got constraint_in (RowOf s ts (words_of row)) s ns ts a b (subst (Gives constraint_in (RowOf s ts (words_of row)) s ns ts a) f h) names d
+        row-got names d = got constraint_in (RowOf s ts (words_of row)) s ns ts a b h names d
 
         grown : (names : List Name) (d : Named s ns names) → Rows s ts (rows_of (n + 1) t'') names ((o.reached names d).before ++ ((row-got names d).what ∷ []))
         grown names d =
@@ -163,33 +133,33 @@ module _ (s ns ts t : List ℕ) (at : ℕ) where
         two : (names : List Name) (d : Named s ns names) → constraints_in (64 - n) names (from s ts a) ≡ follow (more_in names (from s ts b)) (turn (64 - (n + 1)) (row-got names d).what names)
         two names d = one names ∙ ap (λ o. follow o (λ c. more_in names >>= turn (64 - (n + 1)) c names)) (row-got names d).reads
 
-        pub constraints-wrong : (e : Refusal) (p : ℕ) → j.end ≡ Refused e p → Constrained s ns ts t at (record { count = n + 1; end = j.end }) t''
-        constraints-wrong e p i =
-            refused-with (n + 1) t'' e p j.end i (w.size ∙ o.size) (omega arith) rest-same (λ names d.
+        pub constraints-wrong : (e : Refused) → Moves more_in s ns ts b (Err e) → Constrained s ns ts t at (Err e) t''
+        constraints-wrong z k =
+            refused-with t'' z (w.size ∙ o.size) (λ names d.
             let x = o.reached names d in
-            x.same ∙ ap (behind x.before) (two names d ∙ ap (λ o. follow o (turn (64 - (n + 1)) (row-got names d).what names)) (stuck more_in s ns ts b j.end k.moves names d e p i)))
+            x.same ∙ ap (behind x.before) (two names d ∙ ap (λ o. follow o (turn (64 - (n + 1)) (row-got names d).what names)) (stuck more_in s ns ts b (Err z) k names d z refl)))
 
-        module _ (g : ℕ) (i : j.end ≡ At g) where
+        module _ (v : Bool) (k : Gives more_in (IsTrue v) s ns ts b (Ok b)) where
           -- the list goes on or not
-          three : (v : Bool) (names : List Name) (d : Named s ns names) → j.more ≡ v → constraints_in (64 - n) names (from s ts a) ≡ turn (64 - (n + 1)) (row-got names d).what names v (from s ts g)
-          three v names d e =
-              let x = got more_in (IsTrue j.more) s ns ts b g (subst (Gives more_in (IsTrue j.more) s ns ts b) i k) names d in
+          three : (u : Bool) (names : List Name) (d : Named s ns names) → v ≡ u → constraints_in (64 - n) names (from s ts a) ≡ turn (64 - (n + 1)) (row-got names d).what names u (from s ts b)
+          three u names d e =
+              let x = got more_in (IsTrue v) s ns ts b b k names d in
               two names d ∙ ap (λ o. follow o (turn (64 - (n + 1)) (row-got names d).what names)) x.reads
-              ∙ ap (λ v. turn (64 - (n + 1)) (row-got names d).what names v (from s ts g)) (x.holds.same ∙ e)
+              ∙ ap (λ v. turn (64 - (n + 1)) (row-got names d).what names v (from s ts b)) (x.holds.same ∙ e)
 
-          pub constraints-end : j.more ≡ false → Constrained s ns ts t at (record { count = n + 1; end = At g }) t''
+          pub constraints-end : v ≡ false → Constrained s ns ts t at (Ok (n + 1, b)) t''
           unfolding turn constraint_limit
           constraints-end e =
               record {
                 size = w.size ∙ o.size;
                 within = omega arith;
-                gives = gives_at (constraints_in 64) (Rows s ts (rows_of (n + 1) t'')) s ns ts at g (λ names d.
+                gives = gives_at (constraints_in 64) (Rows s ts (rows_of (n + 1) t'')) s ns ts at b (λ names d.
                     let x = o.reached names d in
                     record { what = x.before ++ ((row-got names d).what ∷ []); reads = x.same ∙ ap (behind x.before) (three false names d e); holds = grown names d });
                 rest = rest-same;
               }
 
-          pub constraints-on : j.more ≡ true → ConstraintsOn s ns ts t at (n + 1) g t''
+          pub constraints-on : v ≡ true → ConstraintsOn s ns ts t at (n + 1) b t''
           unfolding turn
           constraints-on e =
               record {
@@ -201,6 +171,6 @@ module _ (s ns ts t : List ℕ) (at : ℕ) where
                     record {
                       before = x.before ++ ((row-got names d).what ∷ []);
                       are = grown names d;
-                      same = x.same ∙ ap (behind x.before) (three true names d e) ∙ behind-one x.before (row-got names d).what (constraints_in (64 - (n + 1)) names (from s ts g));
+                      same = x.same ∙ ap (behind x.before) (three true names d e) ∙ behind-one x.before (row-got names d).what (constraints_in (64 - (n + 1)) names (from s ts b));
                     };
               }

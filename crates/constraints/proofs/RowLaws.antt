@@ -1,18 +1,16 @@
 -- Laws of one constraint, over plain variables.
+use Rattle.std.specs.Prelude.{Err, Ok, Result}
+use Rattle.rules.specs.declared.Refused.{Refused}
 use mathlib.Core.Path.{◌≡◌, refl, sym, ◌∙◌, ap, subst}
-use mathlib.Core.Bool.{false}
 use mathlib.Core.List.{List, [], ◌∷◌}
 use Prim.Native.Nat.{ℕ, ◌<◌}
 use native.Mathlib.Omega.{arith}
-use Rattle.rules.specs.declared.Refusal.{Refusal}
 use Rattle.rules.specs.Limits.{nesting_limit}
 use Rattle.language.specs.Outcome.{refused}
 use Rattle.language.specs.Syntax.{Name, Relation, at_most, at_least, equal, between, Spans, Constraint}
 use Rattle.language.specs.Reader.{Reader, follow, ◌>>=◌, give, Titled}
 use Rattle.language.specs.Linear.{Linear, side_of}
 use Rattle.language.specs.Grammar.{constraint_of}
-use Rattle.tokens.specs.declared.Move.{Move}
-use Rattle.tokens.specs.declared.Move.TheVariants.{At, Refused}
 use Rattle.tokens.specs.Stored.{from, Named, Moves, Gives}
 use Rattle.tokens.proofs.Moved.{Stood, stood, stuck, Got, got, gives_at, gives-refused, follow-same}
 use Rattle.formulas.specs.Cycle.{formula_in}
@@ -38,10 +36,6 @@ sign_rest s l names = comparison_in names >>= (λ c. domain_rest s l c names)
 left_rest : Titled → List Name → Reader Constraint
 left_rest s names = linear_in 12 names >>= (λ l. sign_rest s l names)
 
--- the answer of a refusal
-abbrev nowhere : Move → Sites
-nowhere r = record { title = 0; left = 0; mark = 0; right = 0; floor = false; domain = 0; end = r }
-
 module _ (s ns ts : List ℕ) (at : ℕ) where
   constraint-is : (names : List Name) → constraint_in names (from s ts at) ≡ follow (title_in names (from s ts at)) (λ x. left_rest x names)
   unfolding constraint_in constraint_of title_in left_rest linear_in sign_rest relation_in formula_in domain_rest optional_in nesting_limit
@@ -49,18 +43,16 @@ module _ (s ns ts : List ℕ) (at : ℕ) where
       follow-same (title_in names (from s ts at)) _ _ (λ x l.
       follow-same (linear_in 12 names l) _ _ (λ y l. sym (comparison-then names (λ c. domain_rest x y c names) l)))
 
-  abbrev Answer : Sites → Type 0
-  Answer q = Gives constraint_in (Located s ts q) s ns ts at q.end
+  no-sites : (e : Refused) → ((names : List Name) → Named s ns names → constraint_in names (from s ts at) ≡ refused e.refusal e.place) → Moves constraint_in s ns ts at (Err e)
+  no-sites z g = (gives-refused constraint_in (λ _ _. Unit {0}) s ns ts at z g).moves
 
-  no-sites : (n : Refusal) (p : ℕ) (r : Move) (q : Sites) → r ≡ Refused n p → q ≡ nowhere r → ((names : List Name) → Named s ns names → constraint_in names (from s ts at) ≡ refused n p) → Answer q
-  no-sites n p r q e f g = subst Answer (sym (f ∙ ap nowhere e)) (gives-refused constraint_in (Located s ts (nowhere (Refused n p))) s ns ts at n p g)
+  module _ (r : Result ℕ Refused) (h : Moves title_in s ns ts at r) where
+    pub row-title : (e : Refused) → r ≡ Err e → Moves constraint_in s ns ts at r
+    row-title z e =
+        subst (Moves constraint_in s ns ts at) (sym e)
+        (no-sites z (λ names d. constraint-is names ∙ ap (λ o. follow o (λ x. left_rest x names)) (stuck title_in s ns ts at r h names d z e)))
 
-  module _ (r : Move) (h : Moves title_in s ns ts at r) where
-    pub row-title : (n : Refusal) (p : ℕ) (q : Sites) → r ≡ Refused n p → q ≡ record { title = 0; left = 0; mark = 0; right = 0; floor = false; domain = 0; end = r }
-        → Gives constraint_in (Located s ts q) s ns ts at q.end
-    row-title n p q e f = no-sites n p r q e f (λ names d. constraint-is names ∙ ap (λ o. follow o (λ x. left_rest x names)) (stuck title_in s ns ts at r h names d n p e))
-
-    module _ (a : ℕ) (r₂ : Move) (e : r ≡ At a) (h₂ : Moves (linear_in 12) s ns ts a r₂) where
+    module _ (a : ℕ) (r₂ : Result ℕ Refused) (e : r ≡ Ok a) (h₂ : Moves (linear_in 12) s ns ts a r₂) where
       title-read : (names : List Name) → Named s ns names → Stood (title_in names) s ts at a
       title-read names d = stood title_in s ns ts at r h names d a e
 
@@ -68,12 +60,12 @@ module _ (s ns ts : List ℕ) (at : ℕ) where
       unfolding left_rest
       two names d = constraint-is names ∙ ap (λ o. follow o (λ x. left_rest x names)) (title-read names d).reads
 
-      pub row-left : (n : Refusal) (p : ℕ) (q : Sites) → r₂ ≡ Refused n p → q ≡ record { title = 0; left = 0; mark = 0; right = 0; floor = false; domain = 0; end = r₂ }
-          → Gives constraint_in (Located s ts q) s ns ts at q.end
-      row-left n p q z f =
-          no-sites n p r₂ q z f (λ names d. two names d ∙ ap (λ o. follow o (λ l. sign_rest (title-read names d).what l names)) (stuck (linear_in 12) s ns ts a r₂ h₂ names d n p z))
+      pub row-left : (e : Refused) → r₂ ≡ Err e → Moves constraint_in s ns ts at r₂
+      row-left w z =
+          subst (Moves constraint_in s ns ts at) (sym z)
+          (no-sites w (λ names d. two names d ∙ ap (λ o. follow o (λ l. sign_rest (title-read names d).what l names)) (stuck (linear_in 12) s ns ts a r₂ h₂ names d w z)))
 
-      module _ (b : ℕ) (r₃ : Bounds) (e₂ : r₂ ≡ At b) (h₃ : Gives comparison_in (Compares s ts r₃) s ns ts b r₃.end) where
+      module _ (b : ℕ) (e₂ : r₂ ≡ Ok b) where
         left-read : (names : List Name) → Named s ns names → Stood (linear_in 12 names) s ts a b
         left-read names d = stood (linear_in 12) s ns ts a r₂ h₂ names d b e₂
 
@@ -82,15 +74,14 @@ module _ (s ns ts : List ℕ) (at : ℕ) where
         unfolding sign_rest
         three names d = two names d ∙ ap (λ o. follow o (λ l. sign_rest (title-read names d).what l names)) (left-read names d).reads
 
-        pub row-right : (n : Refusal) (p : ℕ) (q : Sites) → r₃.end ≡ Refused n p → q ≡ record { title = 0; left = 0; mark = 0; right = 0; floor = false; domain = 0; end = r₃.end }
-            → Gives constraint_in (Located s ts q) s ns ts at q.end
-        row-right n p q z f =
-            no-sites n p r₃.end q z f (λ names d.
-            three names d ∙ ap (λ o. follow o (λ c. domain_rest (title-read names d).what (left-read names d).what c names)) (stuck comparison_in s ns ts b r₃.end h₃.moves names d n p z))
+        pub row-right : (e : Refused) → Moves comparison_in s ns ts b (Err e) → Moves constraint_in s ns ts at (Err e)
+        row-right w h₃ =
+            no-sites w (λ names d.
+            three names d ∙ ap (λ o. follow o (λ c. domain_rest (title-read names d).what (left-read names d).what c names)) (stuck comparison_in s ns ts b (Err w) h₃ names d w refl))
 
-        module _ (c : ℕ) (e₃ : r₃.end ≡ At c) where
+        module _ (r₃ : Bounds) (c : ℕ) (h₃ : Gives comparison_in (Compares s ts r₃) s ns ts b (Ok c)) (q : Result ℕ Refused) (u : Moves optional_in s ns ts c q) where
           right-read : (names : List Name) → Named s ns names → Got (comparison_in names) (Compares s ts r₃ names) s ts b c
-          right-read names d = got comparison_in (Compares s ts r₃) s ns ts b c (subst (Gives comparison_in (Compares s ts r₃) s ns ts b) e₃ h₃) names d
+          right-read names d = got comparison_in (Compares s ts r₃) s ns ts b c h₃ names d
 
           abbrev all : (names : List Name) → Named s ns names → Spans → Constraint
           all names d w = made (title-read names d).what (left-read names d).what (right-read names d).what w
@@ -99,10 +90,15 @@ module _ (s ns ts : List ℕ) (at : ℕ) where
           unfolding domain_rest
           four names d = three names d ∙ ap (λ o. follow o (λ c. domain_rest (title-read names d).what (left-read names d).what c names)) (right-read names d).reads
 
-          abbrev sites : Move → Sites
-          sites q = record { title = at; left = a; mark = r₃.mark; right = r₃.right; floor = r₃.floor; domain = c; end = q }
+          pub row-domain : (e : Refused) → q ≡ Err e → Moves constraint_in s ns ts at q
+          row-domain e z =
+              subst (Moves constraint_in s ns ts at) (sym z)
+              (no-sites e (λ names d. four names d ∙ ap (λ o. follow o (λ w. give (all names d w))) (stuck optional_in s ns ts c q u names d e z)))
 
-          row-of : (names : List Name) (d : Named s ns names) (j : ℕ) (w : Stood (optional_in names) s ts c j) → Located s ts (sites (At j)) names (all names d w.what)
+          abbrev sites : Sites
+          sites = record { title = at; left = a; mark = r₃.mark; right = r₃.right; floor = r₃.floor; domain = c }
+
+          row-of : (names : List Name) (d : Named s ns names) (j : ℕ) (w : Stood (optional_in names) s ts c j) → Located s ts sites names (all names d w.what)
           unfolding title_in linear_in optional_in nesting_limit
           row-of names d j w =
               let y = (right-read names d).holds in
@@ -116,18 +112,12 @@ module _ (s ns ts : List ℕ) (at : ℕ) where
                 domain = record { rest = from s ts j; reads = w.reads };
               }
 
-          row-end : (q : Move) → Moves optional_in s ns ts c q → Answer (sites q)
-          row-end (Refused n p) u =
-              gives-refused constraint_in (Located s ts (sites (Refused n p))) s ns ts at n p
-              (λ names d. four names d ∙ ap (λ o. follow o (λ w. give (all names d w))) (stuck optional_in s ns ts c (Refused n p) u names d n p refl))
-          row-end (At j) u =
-              gives_at constraint_in (Located s ts (sites (At j))) s ns ts at j (λ names d.
-              let w = stood optional_in s ns ts c (At j) u names d j refl in
+          pub row-all : (j : ℕ) → q ≡ Ok j
+              → Gives constraint_in (Located s ts (record { title = at; left = a; mark = r₃.mark; right = r₃.right; floor = r₃.floor; domain = c })) s ns ts at (Ok j)
+          row-all j z =
+              gives_at constraint_in (Located s ts sites) s ns ts at j (λ names d.
+              let w = stood optional_in s ns ts c q u names d j z in
               record { what = all names d w.what; reads = four names d ∙ ap (λ o. follow o (λ w. give (all names d w))) w.reads; holds = row-of names d j w })
-
-          pub row-domain : (q : Move) → Moves optional_in s ns ts c q
-              → Gives constraint_in (Located s ts (record { title = at; left = a; mark = r₃.mark; right = r₃.right; floor = r₃.floor; domain = c; end = q })) s ns ts at q
-          row-domain q u = row-end q u
 
 -- ---- its row
 
@@ -138,9 +128,9 @@ mark-small at_least m e = omega arith
 mark-small equal m e = omega arith
 mark-small (between h) m e = omega arith
 
-pub row_is : (s ns ts : List ℕ) (at : ℕ) (q : Sites) (v : ℕ) → Gives constraint_in (Located s ts q) s ns ts at q.end → ShapeIs s ns ts q.left q.mark q.floor q.domain v
-    → Gives constraint_in (RowOf s ts (q.title ∷ q.left ∷ v ∷ q.right ∷ q.domain ∷ [])) s ns ts at q.end
-row_is s ns ts at q v h w =
+pub row_is : (s ns ts : List ℕ) (at : ℕ) (q : Sites) (a v : ℕ) → Gives constraint_in (Located s ts q) s ns ts at (Ok a) → ShapeIs s ns ts q.left q.mark q.floor q.domain v
+    → Gives constraint_in (RowOf s ts (q.title ∷ q.left ∷ v ∷ q.right ∷ q.domain ∷ [])) s ns ts at (Ok a)
+row_is s ns ts at q a v h w =
     record {
       moves = h.moves;
       tells = λ names d x e.

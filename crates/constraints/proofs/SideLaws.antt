@@ -1,4 +1,6 @@
 -- Laws for a left side that is one variable, without sign or factor.
+use Rattle.std.specs.Prelude.{Err, None, Ok, Option, Result, Some}
+use Rattle.rules.specs.declared.Refused.{Refused}
 use mathlib.Core.Path.{◌≡◌, refl, sym, ◌∙◌, ap, subst}
 use mathlib.Core.Bool.{Bool, true, false, not, ◌||◌, ◌&&◌, cond}
 use mathlib.Core.List.{List, []}
@@ -20,12 +22,8 @@ use Rattle.language.specs.Linear.{Head, a_sigma, a_variable, a_primary, head_by,
 use Rattle.onepass.specs.Entries.{read}
 use Rattle.onepass.proofs.Steps.{after_read, on, same-what, same_rest, look-stays}
 use Rattle.onepass.proofs.WalkedLinear.{bare-walk}
-use Rattle.tokens.specs.declared.Move.{Move}
-use Rattle.tokens.specs.declared.Move.TheVariants as move
 use Rattle.tokens.specs.declared.Seen.{Seen}
-use Rattle.tokens.specs.declared.Seen.TheVariants as seen
 use Rattle.tokens.specs.declared.Found.{Found}
-use Rattle.tokens.specs.declared.Found.TheVariants as found
 use Rattle.tokens.specs.Stored.{token, from, Sees, Looks, Named, Matches}
 use Rattle.tokens.proofs.Moved.{next-is, look_is, is_sum_lem}
 use Rattle.formulas.specs.Cycle.{Subscripts}
@@ -36,19 +34,16 @@ use Rattle.constraints.specs.Shape.{IsAlone, IsBare}
 
 -- ---- whether a sign stands at a position
 
-module _ (ts : List ℕ) (at : ℕ) (t : Seen) (h : Looks ts at t) where
-  module _ (k p x a : ℕ) (e : t ≡ seen.Token k p x a) where
-    sum-at : (s : List ℕ) (u : Token) (l : List Token) → look (from s ts at) ≡ read u l → is_sum u ≡ (eqb k 43 || eqb k 45)
-    sum-at s u l f = sym (ap is_sum (same-what (sym (look_is s ts at k p x a (subst (Sees s ts at) e (h.sees s))) ∙ f))) ∙ is_sum_lem s [] ts at t h k p x
+module _ (ts : List ℕ) (at : ℕ) (t : Result Seen Refused) (h : Looks ts at t) where
+  module _ (w : Seen) (e : t ≡ Ok w) where
+    sum-at : (s : List ℕ) (u : Token) (l : List Token) → look (from s ts at) ≡ read u l → is_sum u ≡ (eqb w.kind 43 || eqb w.kind 45)
+    sum-at s u l f = sym (ap is_sum (same-what (sym (look_is s ts at w (subst (Sees s ts at) e (h.sees s))) ∙ f))) ∙ is_sum_lem s [] ts at t h w.kind w.place w.payload
 
-    pub alone-sum : (eqb k 43 || eqb k 45) ≡ true → IsAlone ts at false
-    alone-sum i = record { is = λ s u l f. sym (ap not (sum-at s u l f ∙ i)) }
+    pub alone-by : IsAlone ts at (not (eqb w.kind 43 || eqb w.kind 45))
+    alone-by = record { is = λ s u l f. sym (ap not (sum-at s u l f)) }
 
-    pub alone-other : (eqb k 43 || eqb k 45) ≡ false → IsAlone ts at true
-    alone-other i = record { is = λ s u l f. sym (ap not (sum-at s u l f ∙ i)) }
-
-  pub alone-wrong : (m : Refusal) (p : ℕ) → t ≡ seen.Refused m p → IsAlone ts at false
-  alone-wrong m p e = record { is = λ s u l f. absurd (refused-done (sym (subst (Sees s ts at) e (h.sees s)).looks ∙ f)) }
+  pub alone-wrong : (e : Refused) → t ≡ Err e → IsAlone ts at false
+  alone-wrong z e = record { is = λ s u l f. absurd (refused-done (sym (subst (Sees s ts at) e (h.sees s)).looks ∙ f)) }
 
 -- ---- sides
 
@@ -179,23 +174,23 @@ module _ (names : List Name) (n : ℕ) where
 stop : {A B : Type 0} (o : Outcome (Read A)) (K : A → Reader B) (m : Refusal) (p : ℕ) → o ≡ refused m p → follow o K ≡ refused m p
 stop o K m p e = ap (λ o. follow o K) e
 
-module _ (s ns ts : List ℕ) (at : ℕ) (t : Seen) (h : Looks ts at t) where
-  pub bare-wrong : (m : Refusal) (p : ℕ) → t ≡ seen.Refused m p → IsBare s ns ts at false
+module _ (s ns ts : List ℕ) (at : ℕ) (t : Result Seen Refused) (h : Looks ts at t) where
+  pub bare-wrong : (e : Refused) → t ≡ Err e → IsBare s ns ts at false
   unfolding linear_at linear_of read_sign
-  bare-wrong m p e = record { is = λ names d l a. absurd (refused-done (sym (stop _ _ m p (stop _ _ m p (subst (Sees s ts at) e (h.sees s)).looks)) ∙ a.stands.reads)) }
+  bare-wrong z e = record { is = λ names d l a. absurd (refused-done (sym (stop _ _ z.refusal z.place (stop _ _ z.refusal z.place (subst (Sees s ts at) e (h.sees s)).looks)) ∙ a.stands.reads)) }
 
-  module _ (k p x a : ℕ) (e : t ≡ seen.Token k p x a) (v : Found) (b : v ≡ variable_of s ns k p x) where
-    nexts : next (from s ts at) ≡ read (token s k p x) (from s ts a)
-    nexts = next-is s ts at k p x a (subst (Sees s ts at) e (h.sees s))
+  module _ (seen : Seen) (e : t ≡ Ok seen) (v : Option Found) (b : v ≡ variable_of s ns seen.kind seen.place seen.payload) where
+    nexts : next (from s ts at) ≡ read (token s seen.kind seen.place seen.payload) (from s ts seen.next)
+    nexts = next-is s ts at seen (subst (Sees s ts at) e (h.sees s))
 
-    looks : look (from s ts at) ≡ read (token s k p x) (from s ts at)
-    looks = look_is s ts at k p x a (subst (Sees s ts at) e (h.sees s))
+    looks : look (from s ts at) ≡ read (token s seen.kind seen.place seen.payload) (from s ts at)
+    looks = look_is s ts at seen (subst (Sees s ts at) e (h.sees s))
 
-    heads : (y : Found) → v ≡ y → (names : List Name) → Named s ns names → Heads (head_by names true (token s k p x).kind) true k y
+    heads : (y : Option Found) → v ≡ y → (names : List Name) → Named s ns names → Heads (head_by names true (token s seen.kind seen.place seen.payload).kind) true seen.kind y
     unfolding token
-    heads y f names d = (subst (Begins s ns k p x) f (begins-of s ns p x k v b)).heads names d true
+    heads y f names d = (subst (Begins s ns seen.kind seen.place seen.payload) f (begins-of s ns seen.place seen.payload seen.kind v b)).heads names d true
 
-    pub bare-other : v ≡ found.Nothing → IsBare s ns ts at false
+    pub bare-other : v ≡ None → IsBare s ns ts at false
     bare-other f = record { is = λ names d l z. go names d l z }
       where
         go : (names : List Name) → Named s ns names → (l : Side) → SideAt s ts at names l → false ≡ is_bare l
@@ -204,33 +199,33 @@ module _ (s ns ts : List ℕ) (at : ℕ) (t : Seen) (h : Looks ts at t) where
             let w = bare-side z.linear.signed z.linear.form i c fs q z.side in
             let y = bare-walk [] names i c fs q nesting_limit (from s ts at) z.linear z.stands.rest z.stands.reads w.0 w.1 in
             let same = same-what (sym nexts ∙ y.stands) in
-            absurd (subst (λ o. Heads o true k found.Nothing) (ap (λ (t : Token). head_by names true t.kind) same ∙ y.begins) (heads found.Nothing f names d))
+            absurd (subst (λ o. Heads o true seen.kind None) (ap (λ (t : Token). head_by names true t.kind) same ∙ y.begins) (heads None f names d))
 
-    module _ (ι j c : ℕ) (f : v ≡ found.Name ι j c) (r : Move) (u : Subscripts s ns ts 12 c a r) where
-      record Starts (names : List Name) (y : Linear) (z : Move) : Type 0 where
+    module _ (one : Found) (f : v ≡ Some one) (r : Result ℕ Refused) (u : Subscripts s ns ts 12 one.count seen.next r) where
+      record Starts (names : List Name) (y : Linear) (z : Result ℕ Refused) : Type 0 where
         pub domain : Spans
-        pub first : Begun names 12 domain (from s ts a) y
+        pub first : Begun names 12 domain (from s ts seen.next) y
         pub rest : Matches (read first.formulas first.behind) s ts z
 
-      starts : (y : Move) → r ≡ y → (names : List Name) → Named s ns names → (l : Side) (z : SideAt s ts at names l) → Starts names z.linear y
+      starts : (y : Result ℕ Refused) → r ≡ y → (names : List Name) → Named s ns names → (l : Side) (z : SideAt s ts at names l) → Starts names z.linear y
       unfolding nesting_limit
-      starts y o names d l z = go (head_by names true (token s k p x).kind) refl (heads _ f names d)
+      starts y o names d l z = go (head_by names true (token s seen.kind seen.place seen.payload).kind) refl (heads _ f names d)
         where
-          go : (g : Head) → head_by names true (token s k p x).kind ≡ g → Heads g true k (found.Name ι j c) → Starts names z.linear y
+          go : (g : Head) → head_by names true (token s seen.kind seen.place seen.payload).kind ≡ g → Heads g true seen.kind (Some one) → Starts names z.linear y
           go a_sigma g q = absurd q
           go a_primary g q = absurd q
           go (a_variable i w) g q =
-              let m = begun names 12 (from s ts at) z.linear z.stands.rest z.stands.reads (token s k p x) (from s ts a) nexts looks i w g in
+              let m = begun names 12 (from s ts at) z.linear z.stands.rest z.stands.reads (token s seen.kind seen.place seen.payload) (from s ts seen.next) nexts looks i w g in
               record {
                 domain = w;
                 first = m;
                 rest = subst (λ r. Matches (read m.formulas m.behind) s ts r) o (subst (λ o. Matches o s ts r) m.subscripts ((u.moves w q.1).matches names d));
               }
 
-      pub bare-refused : (m : Refusal) (q : ℕ) → r ≡ move.Refused m q → IsBare s ns ts at false
-      bare-refused m q o = record { is = λ names d l z. absurd (starts _ o names d l z).rest }
+      pub bare-refused : (e : Refused) → r ≡ Err e → IsBare s ns ts at false
+      bare-refused w o = record { is = λ names d l z. absurd (starts _ o names d l z).rest }
 
-      pub bare-alone : (q : ℕ) → r ≡ move.At q → (y : Bool) → IsAlone ts q y → IsBare s ns ts at y
+      pub bare-alone : (q : ℕ) → r ≡ Ok q → (y : Bool) → IsAlone ts q y → IsBare s ns ts at y
       bare-alone q o y g =
           record {
             is = λ names d l z.

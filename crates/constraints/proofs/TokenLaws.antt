@@ -1,5 +1,6 @@
 -- Laws of strings, relations and objectives, over plain variables.
-use Rattle.std.specs.Prelude.{Option, Some, None}
+use Rattle.std.specs.Prelude.{Err, Ok, Result, Option, Some, None}
+use Rattle.rules.specs.declared.Refused.{Refused}
 use mathlib.Core.Path.{◌≡◌, refl, sym, ◌∙◌, ap, subst}
 use mathlib.Core.Bool.{Bool, true, false, cond, ◌||◌}
 use mathlib.Core.List.{List}
@@ -7,14 +8,11 @@ use Prim.Native.Nat.{ℕ, zero, suc}
 use native.Mathlib.Omega.{arith}
 use lib.Dec.{eqb}
 use borrow.Author.Tests.{eqb-true, ne_eqb}
-use Rattle.rules.specs.declared.Refusal.{Refusal}
 use Rattle.rules.specs.declared.Refusal.TheVariants.{Misplaced}
 use Rattle.language.specs.Syntax.{Name, Relation, at_most, at_least, equal}
 use Rattle.language.specs.Reader.{◌>>=◌, give, demand, require, is_string, string_of, read_string}
 use Rattle.language.specs.Grammar.{relation_of, read_relation, read_goal}
-use Rattle.tokens.specs.declared.Move.TheVariants.{At, Refused}
 use Rattle.tokens.specs.declared.Seen.{Seen}
-use Rattle.tokens.specs.declared.Seen.TheVariants as seen
 use Rattle.tokens.specs.Stored.{kind_of, token, from, Sees, Looks, Moves, Gives}
 use Rattle.tokens.proofs.Tables.{mark-of, mark-same, false-true, no-string}
 use Rattle.tokens.proofs.Moved.{gives_at, gives-refused, next-is, look_is}
@@ -60,82 +58,82 @@ chosen_none false true c h = absurd (false-true (sym h))
 chosen_none false false true h = absurd (false-true (sym h))
 chosen_none false false false h = refl
 
-module _ (s ns ts : List ℕ) (at : ℕ) (t : Seen) (l : Looks ts at t) where
-  sees : (w : Seen) → t ≡ w → Sees s ts at w
+module _ (s ns ts : List ℕ) (at : ℕ) (t : Result Seen Refused) (l : Looks ts at t) where
+  sees : (w : Result Seen Refused) → t ≡ w → Sees s ts at w
   sees w e = subst (Sees s ts at) e (l.sees s)
 
   -- ---- a string
 
-  pub title-wrong : (n : Refusal) (p : ℕ) → t ≡ seen.Refused n p → Moves title_in s ns ts at (Refused n p)
+  pub title-wrong : (e : Refused) → t ≡ Err e → Moves title_in s ns ts at (Err e)
   unfolding title_in read_string
-  title-wrong n p e = record { matches = λ names d. rw (sees (seen.Refused n p) e).nexts (refl, refl) }
+  title-wrong z e = record { matches = λ names d. rw (sees (Err z) e).nexts (refl, refl) }
 
-  pub title-yes : (k p x a : ℕ) → t ≡ seen.Token k p x a → k ≡ 4 → Moves title_in s ns ts at (At a)
+  pub title-yes : (w : Seen) → t ≡ Ok w → w.kind ≡ 4 → Moves title_in s ns ts at (Ok w.next)
   unfolding title_in read_string token kind_of string_of demand
-  title-yes k p x a e i = record { matches = λ names d. rw (next-is s ts at k p x a (sees _ e), i) refl }
+  title-yes z e i = record { matches = λ names d. rw (next-is s ts at z (sees _ e), i) refl }
 
-  pub title-no : (k p x a : ℕ) → t ≡ seen.Token k p x a → (k ≡ 4 → ⊥) → Moves title_in s ns ts at (Refused Misplaced p)
+  pub title-no : (w : Seen) → t ≡ Ok w → (w.kind ≡ 4 → ⊥) → Moves title_in s ns ts at (Err (record { refusal = Misplaced; place = w.place }))
   unfolding title_in read_string token demand
-  title-no k p x a e i = record { matches = λ names d. rw (next-is s ts at k p x a (sees _ e), no-string s k p x i) (refl, refl) }
+  title-no z e i = record { matches = λ names d. rw (next-is s ts at z (sees _ e), no-string s z.kind z.place z.payload i) (refl, refl) }
 
   -- ---- whether one stands there
 
-  pub more-token : (k p x a : ℕ) → t ≡ seen.Token k p x a → Gives more_in (IsTrue (eqb k 4)) s ns ts at (At at)
+  pub more-token : (w : Seen) → t ≡ Ok w → Gives more_in (IsTrue (eqb w.kind 4)) s ns ts at (Ok at)
   unfolding more_in
-  more-token k p x a e =
-      gives_at more_in (IsTrue (eqb k 4)) s ns ts at at
-      (λ names d. record { what = is_string (token s k p x); reads = rw (look_is s ts at k p x a (sees _ e)) refl; holds = record { same = is-string s k p x } })
+  more-token z e =
+      gives_at more_in (IsTrue (eqb z.kind 4)) s ns ts at at
+      (λ names d. record { what = is_string (token s z.kind z.place z.payload); reads = rw (look_is s ts at z (sees _ e)) refl; holds = record { same = is-string s z.kind z.place z.payload } })
 
-  pub more-wrong : (n : Refusal) (p : ℕ) → t ≡ seen.Refused n p → Gives more_in (IsTrue false) s ns ts at (Refused n p)
+  pub more-wrong : (e : Refused) → t ≡ Err e → Moves more_in s ns ts at (Err e)
   unfolding more_in
-  more-wrong n p e = gives-refused more_in (IsTrue false) s ns ts at n p (λ names d. rw (sees (seen.Refused n p) e).looks refl)
+  more-wrong z e = (gives-refused more_in (IsTrue false) s ns ts at z (λ names d. rw (sees (Err z) e).looks refl)).moves
 
   -- ---- a relation
 
-  relation-is : (k p x a : ℕ) (names : List Name) → t ≡ seen.Token k p x a → relation_in names (from s ts at) ≡ demand (chosen (eqb k 60) (eqb k 62) (eqb k 61)) p (from s ts a)
+  relation-is : (w : Seen) (names : List Name) → t ≡ Ok w → relation_in names (from s ts at) ≡ demand (chosen (eqb w.kind 60) (eqb w.kind 62) (eqb w.kind 61)) w.place (from s ts w.next)
   unfolding relation_in read_relation token
-  relation-is k p x a names e = rw (next-is s ts at k p x a (sees _ e)) (ap (λ o. demand o p (from s ts a)) (relation-of s k p x))
+  relation-is z names e = rw (next-is s ts at z (sees _ e)) (ap (λ o. demand o z.place (from s ts z.next)) (relation-of s z.kind z.place z.payload))
 
-  pub relation-yes : (k p x a : ℕ) → t ≡ seen.Token k p x a → (eqb k 60 || eqb k 62 || eqb k 61) ≡ true → Gives relation_in (IsRelation k) s ns ts at (At a)
+  pub relation-yes : (w : Seen) → t ≡ Ok w → (eqb w.kind 60 || eqb w.kind 62 || eqb w.kind 61) ≡ true → Gives relation_in (IsRelation w.kind) s ns ts at (Ok w.next)
   unfolding demand
-  relation-yes k p x a e i =
-      let o = chosen-some k (eqb k 60) (eqb k 62) (eqb k 61) refl refl refl i in
-      gives_at relation_in (IsRelation k) s ns ts at a
-      (λ names d. record { what = o.what; reads = relation-is k p x a names e ∙ ap (λ o. demand o p (from s ts a)) o.is; holds = record { mark = o.mark; plain = o.plain } })
+  relation-yes z e i =
+      let o = chosen-some z.kind (eqb z.kind 60) (eqb z.kind 62) (eqb z.kind 61) refl refl refl i in
+      gives_at relation_in (IsRelation z.kind) s ns ts at z.next
+      (λ names d. record { what = o.what; reads = relation-is z names e ∙ ap (λ o. demand o z.place (from s ts z.next)) o.is; holds = record { mark = o.mark; plain = o.plain } })
 
-  pub relation-no : (k p x a : ℕ) → t ≡ seen.Token k p x a → (eqb k 60 || eqb k 62 || eqb k 61) ≡ false → Gives relation_in (IsRelation 0) s ns ts at (Refused Misplaced p)
+  pub relation-no : (w : Seen) → t ≡ Ok w → (eqb w.kind 60 || eqb w.kind 62 || eqb w.kind 61) ≡ false → Moves relation_in s ns ts at (Err (record { refusal = Misplaced; place = w.place }))
   unfolding demand
-  relation-no k p x a e i =
-      gives-refused relation_in (IsRelation 0) s ns ts at Misplaced p
-      (λ names d. relation-is k p x a names e ∙ ap (λ o. demand o p (from s ts a)) (chosen_none (eqb k 60) (eqb k 62) (eqb k 61) i))
+  relation-no z e i =
+      (gives-refused relation_in (IsRelation 0) s ns ts at (record { refusal = Misplaced; place = z.place })
+      (λ names d. relation-is z names e ∙ ap (λ o. demand o z.place (from s ts z.next)) (chosen_none (eqb z.kind 60) (eqb z.kind 62) (eqb z.kind 61) i))).moves
 
-  pub relation-wrong : (n : Refusal) (p : ℕ) → t ≡ seen.Refused n p → Gives relation_in (IsRelation 0) s ns ts at (Refused n p)
+  pub relation-wrong : (e : Refused) → t ≡ Err e → Moves relation_in s ns ts at (Err e)
   unfolding relation_in read_relation
-  relation-wrong n p e = gives-refused relation_in (IsRelation 0) s ns ts at n p (λ names d. rw (sees (seen.Refused n p) e).nexts refl)
+  relation-wrong z e = (gives-refused relation_in (IsRelation 0) s ns ts at z (λ names d. rw (sees (Err z) e).nexts refl)).moves
 
   -- ---- an objective's word
 
-  goal-is : (k p x a : ℕ) (names : List Name) → t ≡ seen.Token k p x a
-      → goal_in names (from s ts at) ≡ (require (eqb k 130 || eqb k 131) Misplaced p >>= (λ _. give (eqb k 131))) (from s ts a)
+  goal-is : (w : Seen) (names : List Name) → t ≡ Ok w
+      → goal_in names (from s ts at) ≡ (require (eqb w.kind 130 || eqb w.kind 131) Misplaced w.place >>= (λ _. give (eqb w.kind 131))) (from s ts w.next)
   unfolding goal_in read_goal token
-  goal-is k p x a names e = rw (next-is s ts at k p x a (sees _ e), mark-of s k p x, mark-same k 130 (omega arith), mark-same k 131 (omega arith)) refl
+  goal-is z names e = rw (next-is s ts at z (sees _ e), mark-of s z.kind z.place z.payload, mark-same z.kind 130 (omega arith), mark-same z.kind 131 (omega arith)) refl
 
-  pub goal-yes : (k p x a : ℕ) → t ≡ seen.Token k p x a → (eqb k 130 || eqb k 131) ≡ true → Gives goal_in (IsTrue (eqb k 131)) s ns ts at (At a)
+  pub goal-yes : (w : Seen) → t ≡ Ok w → (eqb w.kind 130 || eqb w.kind 131) ≡ true → Gives goal_in (IsTrue (eqb w.kind 131)) s ns ts at (Ok w.next)
   unfolding require
-  goal-yes k p x a e i =
-      gives_at goal_in (IsTrue (eqb k 131)) s ns ts at a
+  goal-yes z e i =
+      gives_at goal_in (IsTrue (eqb z.kind 131)) s ns ts at z.next
       (λ names d. record {
-        what = eqb k 131;
-        reads = goal-is k p x a names e ∙ ap (λ b. (require b Misplaced p >>= (λ _. give (eqb k 131))) (from s ts a)) i;
+        what = eqb z.kind 131;
+        reads = goal-is z names e ∙ ap (λ b. (require b Misplaced z.place >>= (λ _. give (eqb z.kind 131))) (from s ts z.next)) i;
         holds = record { same = refl };
       })
 
-  pub goal-no : (k p x a : ℕ) → t ≡ seen.Token k p x a → (eqb k 130 || eqb k 131) ≡ false → Gives goal_in (IsTrue false) s ns ts at (Refused Misplaced p)
+  pub goal-no : (w : Seen) → t ≡ Ok w → (eqb w.kind 130 || eqb w.kind 131) ≡ false → Moves goal_in s ns ts at (Err (record { refusal = Misplaced; place = w.place }))
   unfolding require
-  goal-no k p x a e i =
-      gives-refused goal_in (IsTrue false) s ns ts at Misplaced p
-      (λ names d. goal-is k p x a names e ∙ ap (λ b. (require b Misplaced p >>= (λ _. give (eqb k 131))) (from s ts a)) i)
+  goal-no z e i =
+      (gives-refused goal_in (IsTrue false) s ns ts at (record { refusal = Misplaced; place = z.place })
+      (λ names d. goal-is z names e ∙ ap (λ b. (require b Misplaced z.place >>= (λ _. give (eqb z.kind 131))) (from s ts z.next)) i)).moves
 
-  pub goal-wrong : (n : Refusal) (p : ℕ) → t ≡ seen.Refused n p → Gives goal_in (IsTrue false) s ns ts at (Refused n p)
+  pub goal-wrong : (e : Refused) → t ≡ Err e → Moves goal_in s ns ts at (Err e)
   unfolding goal_in read_goal
-  goal-wrong n p e = gives-refused goal_in (IsTrue false) s ns ts at n p (λ names d. rw (sees (seen.Refused n p) e).nexts refl)
+  goal-wrong z e = (gives-refused goal_in (IsTrue false) s ns ts at z (λ names d. rw (sees (Err z) e).nexts refl)).moves

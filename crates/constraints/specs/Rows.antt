@@ -1,5 +1,5 @@
 -- What code tells of what it read, and what a table of constraints tells of them.
-use Rattle.std.specs.Prelude.{◌≡◌, Bool, true, false, List, [], ◌∷◌, ℕ, ◌*◌, ◌≤◌, length, drop, get_or}
+use Rattle.std.specs.Prelude.{Ok, Err, Result, IfOk, MatchResult, ◌≡◌, Bool, true, false, List, [], ◌∷◌, ℕ, ◌*◌, ◌≤◌, length, drop, get_or}
 use Rattle.rules.specs.Limits.{nesting_limit, constraint_limit}
 use Rattle.lexer.specs.Marks as Marks
 use Rattle.language.specs.Syntax.{Formula, Name, Relation, at_most, at_least, equal, between, Side, bare, form, Constraint}
@@ -8,11 +8,11 @@ use Rattle.language.specs.Outcome.{done}
 use Rattle.language.specs.Reader.{read_string}
 use Rattle.language.specs.Formulas.{formula_at, optional_domain}
 use Rattle.language.specs.Linear.{Linear, linear_at, side_of}
-use Rattle.tokens.specs.Stored.{size, Stands, Gives, rows_of}
+use Rattle.tokens.specs.Stored.{size, Stands, Moves, Gives, rows_of}
 use Rattle.constraints.specs.declared.Bounds.{Bounds}
 use Rattle.constraints.specs.declared.Sites.{Sites}
 use Rattle.constraints.specs.declared.Row.{Row}
-use Rattle.constraints.specs.declared.Listed.{Listed}
+use Rattle.rules.specs.declared.Refused.{Refused}
 use Rattle.constraints.specs.Readers.{plain_by, Comparison, constraints_in}
 use Rattle.constraints.specs.Layout.{mark_part, bare_part, floor_part, entries_part}
 
@@ -114,9 +114,9 @@ Rows s ts (a ∷ b ∷ c ∷ d ∷ []) names xs = ⊥
 Rows s ts (a ∷ b ∷ c ∷ d ∷ e ∷ rows) names [] = ⊥
 Rows s ts (a ∷ b ∷ c ∷ d ∷ e ∷ rows) names (x ∷ xs) = RowOf s ts (a ∷ b ∷ c ∷ d ∷ e ∷ []) names x × Rows s ts rows names xs
 
--- all constraints, in the first rows of a table t that becomes t'
-pub record Constrained (s ns ts t : List ℕ) (at : ℕ) (r : Listed) (t' : List ℕ) : Type 0 where
+-- all constraints, in the first rows of a table t that becomes t'; what stands behind these rows stays
+pub record Constrained (s ns ts t : List ℕ) (at : ℕ) (r : Result (ℕ × ℕ) Refused) (t' : List ℕ) : Type 0 where
   pub size : length t' ≡ length t
-  pub within : r.count ≤ 64
-  pub gives : Gives (constraints_in constraint_limit) (Rows s ts (rows_of r.count t')) s ns ts at r.end
-  pub rest : drop (r.count * 5) t' ≡ drop (r.count * 5) t
+  pub within : IfOk r (λ w. w.0 ≤ 64)
+  pub gives : MatchResult r (λ w. Gives (constraints_in constraint_limit) (Rows s ts (rows_of w.0 t')) s ns ts at (Ok w.1)) (λ e. Moves (constraints_in constraint_limit) s ns ts at (Err e))
+  pub rest : IfOk r (λ w. drop (w.0 * 5) t' ≡ drop (w.0 * 5) t)

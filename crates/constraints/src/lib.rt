@@ -4,53 +4,25 @@
 pub mod layout;
 mod shape;
 
-ghost use Rattle.std.specs.Prelude.{◌≡◌, false, ◌≤◌, length};
+ghost use Rattle.std.specs.Prelude.{Ok, Err, MatchResult, ◌≤◌, length};
 ghost use Rattle.tokens.specs.Stored.{from, Moves, Gives};
-ghost use Rattle.constraints.specs.Readers.{title_in, relation_in, floor_formula_in, floor_in, comparison_in, goal_in, constraint_in, more_in, constraints_in};
+ghost use Rattle.tokens.specs.Text.{In};
+ghost use Rattle.constraints.specs.Readers.{title_in, relation_in, floor_formula_in, floor_in, comparison_in, goal_in, constraint_in, more_in};
 ghost use Rattle.constraints.specs.Rows.{IsRelation, IsFloor, Compares, IsTrue, Located, RowOf, words_of, Constrained};
 
 use lexer::marks;
-use tokens::{Move, Seen, kinds};
+use rules::{Refused, refused};
+use tokens::{Text, kinds};
 
-// The mark of a relation, and where its reading ended.
-#[derive(Clone, Copy)]
-pub struct Compared {
-    pub mark: u64,
-    pub end: Move,
-}
-
-// Whether the objective is a minimum, and where its word's reading ended.
-#[derive(Clone, Copy)]
-pub struct Aim {
-    pub minimize: bool,
-    pub end: Move,
-}
-
-// Whether one more constraint stands there, and where the reading ended.
-#[derive(Clone, Copy)]
-struct Joint {
-    more: bool,
-    end: Move,
-}
-
-// Whether a floor stands there, and where its reading ended.
-#[derive(Clone, Copy)]
-struct Floor {
-    present: bool,
-    end: Move,
-}
-
-// The mark of a relation, where its right side stands, and whether it has a floor; and where its reading ended.
+// The mark of a relation, where its right side stands, and whether it has a floor.
 #[derive(Clone, Copy)]
 struct Bounds {
     mark: u64,
     right: u64,
     floor: bool,
-    end: Move,
 }
 
-// Where a constraint's string, sides and domain stand, the mark of its relation and whether it has a floor; and where its reading
-// ended.
+// Where a constraint's string, sides and domain stand, the mark of its relation and whether it has a floor.
 #[derive(Clone, Copy)]
 struct Sites {
     title: u64,
@@ -59,316 +31,187 @@ struct Sites {
     right: u64,
     floor: bool,
     domain: u64,
-    end: Move,
 }
 
-// The words of a constraint's row, and where its reading ended.
+// The words of a constraint's row.
 #[derive(Clone, Copy)]
-pub struct Row {
-    pub title: u64,
-    pub left: u64,
-    pub shape: u64,
-    pub right: u64,
-    pub domain: u64,
-    pub end: Move,
-}
-
-// How many constraints there are, and where their reading ended.
-#[derive(Clone, Copy)]
-pub struct Listed {
-    pub count: usize,
-    pub end: Move,
+struct Row {
+    title: u64,
+    left: u64,
+    shape: u64,
+    right: u64,
+    domain: u64,
 }
 
 // A string.
-pub fn title(text: &[u8], names: &[u64], tokens: &[u64], at: usize) -> Move
-    ensures { Moves title_in text.now names.now tokens.now at result }
+pub fn title(text: Text<'_>, at: usize) -> Result<usize, Refused>
+    ensures { In (Moves title_in) text.entry at result }
 {
-    let token = tokens::token_at(tokens, at);
-    match token {
-        Seen::Token(k, p, x, next) => {
-            if k == kinds::STRING {
-                Move::At(next)
-            } else {
-                Move::Refused(rules::Refusal::Misplaced, p)
-            }
-        }
-        Seen::Refused(n, p) => Move::Refused(n, p),
+    let token = tokens::token_at(text.tokens, at)?;
+    if token.kind != kinds::STRING {
+        return refused!(Misplaced, token.place);
     }
+    Ok(token.next)
 }
 
-// One of `<= >= =`.
-fn relation(text: &[u8], names: &[u64], tokens: &[u64], at: usize) -> Compared
-    ensures { Gives relation_in (IsRelation result.mark) text.now names.now tokens.now at result.end }
+// One of `<= >= =`: its mark, and the position after it.
+fn relation(text: Text<'_>, at: usize) -> Result<(u64, usize), Refused>
+    ensures { MatchResult result
+        (λ w. In (Gives relation_in (IsRelation w.0)) text.entry at (Ok w.1))
+        (λ e. In (Moves relation_in) text.entry at (Err e)) }
 {
-    let token = tokens::token_at(tokens, at);
-    match token {
-        Seen::Token(k, p, x, next) => {
-            if (k == marks::AT_MOST as u64)
-                | (k == marks::AT_LEAST as u64)
-                | (k == marks::EQUALS as u64)
-            {
-                Compared {
-                    mark: k,
-                    end: Move::At(next),
-                }
-            } else {
-                Compared {
-                    mark: 0,
-                    end: Move::Refused(rules::Refusal::Misplaced, p),
-                }
-            }
-        }
-        Seen::Refused(n, p) => Compared {
-            mark: 0,
-            end: Move::Refused(n, p),
-        },
+    let token = tokens::token_at(text.tokens, at)?;
+    let mark = token.kind;
+    if (mark == marks::AT_MOST as u64)
+        | (mark == marks::AT_LEAST as u64)
+        | (mark == marks::EQUALS as u64)
+    {
+        return Ok((mark, token.next));
     }
+    refused!(Misplaced, token.place)
 }
 
-// `MAXIMIZE` or `MINIMIZE`.
-pub fn goal(text: &[u8], names: &[u64], tokens: &[u64], at: usize) -> Aim
-    ensures { Gives goal_in (IsTrue result.minimize) text.now names.now tokens.now at result.end }
+// `MAXIMIZE` or `MINIMIZE`: whether the objective is a minimum, and the position after the word.
+pub fn goal(text: Text<'_>, at: usize) -> Result<(bool, usize), Refused>
+    ensures { MatchResult result
+        (λ w. In (Gives goal_in (IsTrue w.0)) text.entry at (Ok w.1))
+        (λ e. In (Moves goal_in) text.entry at (Err e)) }
 {
-    let token = tokens::token_at(tokens, at);
-    match token {
-        Seen::Token(k, p, x, next) => {
-            if (k == marks::MAXIMIZE as u64) | (k == marks::MINIMIZE as u64) {
-                Aim {
-                    minimize: k == marks::MINIMIZE as u64,
-                    end: Move::At(next),
-                }
-            } else {
-                Aim {
-                    minimize: false,
-                    end: Move::Refused(rules::Refusal::Misplaced, p),
-                }
-            }
-        }
-        Seen::Refused(n, p) => Aim {
-            minimize: false,
-            end: Move::Refused(n, p),
-        },
+    let token = tokens::token_at(text.tokens, at)?;
+    let maximize = token.kind == marks::MAXIMIZE as u64;
+    let minimize = token.kind == marks::MINIMIZE as u64;
+    if maximize | minimize {
+        return Ok((minimize, token.next));
     }
+    refused!(Misplaced, token.place)
 }
 
 // Whether a string stands there; it stays.
-fn more(text: &[u8], names: &[u64], tokens: &[u64], at: usize) -> Joint
-    ensures { Gives more_in (IsTrue result.more) text.now names.now tokens.now at result.end }
+fn more(text: Text<'_>, at: usize) -> Result<bool, Refused>
+    ensures { MatchResult result
+        (λ w. In (Gives more_in (IsTrue w)) text.entry at (Ok at))
+        (λ e. In (Moves more_in) text.entry at (Err e)) }
 {
-    let token = tokens::token_at(tokens, at);
-    match token {
-        Seen::Token(k, p, x, next) => Joint {
-            more: k == kinds::STRING,
-            end: Move::At(at),
-        },
-        Seen::Refused(n, p) => Joint {
-            more: false,
-            end: Move::Refused(n, p),
-        },
-    }
-}
-
-// No constraint stands there.
-fn nowhere(end: Move) -> Sites
-    ensures { result ≡ record { title = 0; left = 0; mark = 0; right = 0; floor = false; domain = 0; end = end } }
-{
-    Sites {
-        title: 0,
-        left: 0,
-        mark: 0,
-        right: 0,
-        floor: false,
-        domain: 0,
-        end: end,
-    }
-}
-
-// No floor stands there.
-fn no_floor(end: Move) -> Floor
-    ensures { result ≡ record { present = false; end = end } }
-{
-    Floor {
-        present: false,
-        end,
-    }
+    let token = tokens::token_at(text.tokens, at)?;
+    Ok(token.kind == kinds::STRING)
 }
 
 // `>=` and a formula: a floor behind its `,`.
-fn floor_formula(text: &[u8], names: &[u64], tokens: &[u64], at: usize) -> Move
-    ensures { Moves floor_formula_in text.now names.now tokens.now at result }
+fn floor_formula(text: Text<'_>, at: usize) -> Result<usize, Refused>
+    ensures { In (Moves floor_formula_in) text.entry at result }
 {
-    let sign = tokens::expect(text, names, tokens, at, marks::AT_LEAST);
-    let Move::At(a) = sign else {
-        return sign;
-    };
-    formulas::formula(text, names, tokens, a, rules::NESTING_LIMIT)
+    let sign = tokens::expect(text, at, marks::AT_LEAST)?;
+    formulas::formula(text, sign, rules::NESTING_LIMIT)
 }
 
-// A floor, which may follow the right side of a `<=`.
-fn optional_floor(text: &[u8], names: &[u64], tokens: &[u64], mark: u64, at: usize) -> Floor
-    ensures { Gives (floor_in mark) (IsFloor mark (from text.now tokens.now at) result.present) text.now names.now tokens.now at result.end }
+// A floor, which may follow the right side of a `<=`: whether it stands there, and the position after it.
+fn optional_floor(text: Text<'_>, mark: u64, at: usize) -> Result<(bool, usize), Refused>
+    ensures { MatchResult result
+        (λ w. In (Gives (floor_in mark) (IsFloor mark (from text.entry.bytes.now text.entry.tokens.now at) w.0)) text.entry at (Ok w.1))
+        (λ e. In (Moves (floor_in mark)) text.entry at (Err e)) }
 {
     if mark != marks::AT_MOST as u64 {
-        return no_floor(Move::At(at));
+        return Ok((false, at));
     }
-    let token = tokens::token_at(tokens, at);
-    match token {
-        Seen::Token(k, p, x, next) => {
-            if k != marks::COMMA as u64 {
-                return no_floor(Move::At(at));
-            }
-            let end = floor_formula(text, names, tokens, next);
-            Floor { present: true, end }
-        }
-        Seen::Refused(n, p) => no_floor(Move::Refused(n, p)),
+    let token = tokens::token_at(text.tokens, at)?;
+    if token.kind != marks::COMMA as u64 {
+        return Ok((false, at));
     }
+    let end = floor_formula(text, token.next)?;
+    Ok((true, end))
 }
 
-// No relation stands there.
-fn no_bounds(end: Move) -> Bounds
-    ensures { result ≡ record { mark = 0; right = 0; floor = false; end = end } }
+// Relation, formula, optional floor, and the position after them.
+fn comparison(text: Text<'_>, at: usize) -> Result<(Bounds, usize), Refused>
+    ensures { MatchResult result
+        (λ w. In (Gives comparison_in (Compares text.entry.bytes.now text.entry.tokens.now w.0)) text.entry at (Ok w.1))
+        (λ e. In (Moves comparison_in) text.entry at (Err e)) }
 {
-    Bounds {
-        mark: 0,
-        right: 0,
-        floor: false,
-        end,
-    }
+    let (mark, right) = relation(text, at)?;
+    let behind = formulas::formula(text, right, rules::NESTING_LIMIT)?;
+    let (floor, end) = optional_floor(text, mark, behind)?;
+    let bounds = Bounds {
+        mark,
+        right: right as u64,
+        floor,
+    };
+    Ok((bounds, end))
 }
 
-// Relation, formula, optional floor.
-fn comparison(text: &[u8], names: &[u64], tokens: &[u64], at: usize) -> Bounds
-    ensures { Gives comparison_in (Compares text.now tokens.now result) text.now names.now tokens.now at result.end }
+// String, linear form, relation with its right side, optional domain, and the position after them.
+fn locate(text: Text<'_>, at: usize) -> Result<(Sites, usize), Refused>
+    ensures { MatchResult result
+        (λ w. In (Gives constraint_in (Located text.entry.bytes.now text.entry.tokens.now w.0)) text.entry at (Ok w.1))
+        (λ e. In (Moves constraint_in) text.entry at (Err e)) }
 {
-    let compared = relation(text, names, tokens, at);
-    let sign = compared.end;
-    let Move::At(a) = sign else {
-        return no_bounds(sign);
-    };
-    let right = formulas::formula(text, names, tokens, a, rules::NESTING_LIMIT);
-    let Move::At(b) = right else {
-        return no_bounds(right);
-    };
-    let low = optional_floor(text, names, tokens, compared.mark, b);
-    let end = low.end;
-    Bounds {
-        mark: compared.mark,
-        right: a as u64,
-        floor: low.present,
-        end,
-    }
-}
-
-// String, linear form, relation with its right side, optional domain.
-fn locate(text: &[u8], names: &[u64], tokens: &[u64], at: usize) -> Sites
-    ensures { Gives constraint_in (Located text.now tokens.now result) text.now names.now tokens.now at result.end }
-{
-    let string = title(text, names, tokens, at);
-    let Move::At(a) = string else {
-        return nowhere(string);
-    };
-    let left = linear::linear(text, names, tokens, a, rules::NESTING_LIMIT);
-    let Move::At(b) = left else {
-        return nowhere(left);
-    };
-    let bounds = comparison(text, names, tokens, b);
-    let behind = bounds.end;
-    let Move::At(d) = behind else {
-        return nowhere(behind);
-    };
-    let end = domains::optional_domain(text, names, tokens, d);
-    Sites {
+    let left = title(text, at)?;
+    let behind = linear::linear(text, left, rules::NESTING_LIMIT)?;
+    let (bounds, domain) = comparison(text, behind)?;
+    let end = domains::optional_domain(text, domain)?;
+    let sites = Sites {
         title: at as u64,
-        left: a as u64,
+        left: left as u64,
         mark: bounds.mark,
         right: bounds.right,
         floor: bounds.floor,
-        domain: d as u64,
-        end: end,
-    }
+        domain: domain as u64,
+    };
+    Ok((sites, end))
 }
 
-// A constraint, and what its row keeps of it.
-fn constraint(text: &[u8], names: &[u64], tokens: &[u64], at: usize) -> Row
-    ensures { Gives constraint_in (RowOf text.now tokens.now (words_of result)) text.now names.now tokens.now at result.end }
+// A constraint: what its row keeps of it, and the position after it.
+fn constraint(text: Text<'_>, at: usize) -> Result<(Row, usize), Refused>
+    ensures { MatchResult result
+        (λ w. In (Gives constraint_in (RowOf text.entry.bytes.now text.entry.tokens.now (words_of w.0))) text.entry at (Ok w.1))
+        (λ e. In (Moves constraint_in) text.entry at (Err e)) }
 {
-    let sites = locate(text, names, tokens, at);
-    let end = sites.end;
+    let (sites, end) = locate(text, at)?;
     let shape = shape::word_at(
         text,
-        names,
-        tokens,
         sites.left as usize,
         sites.mark,
         sites.floor,
         sites.domain as usize,
     );
-    Row {
+    let row = Row {
         title: sites.title,
         left: sites.left,
         shape,
         right: sites.right,
         domain: sites.domain,
-        end,
-    }
+    };
+    Ok((row, end))
 }
 
-// No constraint more is allowed: 6 at the token that stands there.
-fn full(text: &[u8], names: &[u64], tokens: &[u64], at: usize) -> Move
-    ensures { Moves (constraints_in 0) text.now names.now tokens.now at result }
-{
-    let token = tokens::token_at(tokens, at);
-    match token {
-        Seen::Token(k, p, x, next) => Move::Refused(rules::Refusal::Full, p),
-        Seen::Refused(n, p) => Move::Refused(n, p),
-    }
-}
-
-// One or more constraints, into the first rows of the table.
-fn read_rows(text: &[u8], names: &[u64], tokens: &[u64], rows: &mut [u64], at: usize) -> Listed
+// One or more constraints, into the first rows of the table: how many there are, and the position after them. A 65th is refused with
+// 6 at its token.
+fn read_rows(text: Text<'_>, rows: &mut [u64], at: usize) -> Result<(usize, usize), Refused>
     requires { 320 ≤ length rows.old }
-    ensures { Constrained text.now names.now tokens.now rows.old at result rows.new }
+    ensures { In Constrained text.entry rows.old at result rows.new }
 {
-    let mut n = 0;
-    let mut a = at;
-    while n < rules::CONSTRAINT_LIMIT {
-        let row = constraint(text, names, tokens, a);
-        let read = row.end;
-        let Move::At(b) = read else {
-            return Listed {
-                count: n,
-                end: read,
-            };
-        };
+    let mut start = at;
+    for n in 0..rules::CONSTRAINT_LIMIT {
+        let (row, next) = constraint(text, start)?;
         tokens::put_row(
             rows, n, row.title, row.left, row.shape, row.right, row.domain,
         );
-        n += 1;
-        let joint = more(text, names, tokens, b);
-        let end = joint.end;
-        let Move::At(d) = end else {
-            return Listed { count: n, end: end };
-        };
-        if joint.more {
-            a = d;
-        } else {
-            return Listed { count: n, end: end };
+        let goes_on = more(text, next)?;
+        if !goes_on {
+            return Ok((n + 1, next));
         }
+        start = next;
     }
-    let end = full(text, names, tokens, a);
-    Listed { count: n, end: end }
+    let token = tokens::token_at(text.tokens, start)?;
+    refused!(Full, token.place)
 }
 
-// All constraints: 1 to 64 rows of five words.
+// All constraints: 1 to 64 rows of five words. How many there are, and the position after them.
 pub fn constraints(
-    text: &[u8],
-    names: &[u64],
-    tokens: &[u64],
+    text: Text<'_>,
     rows: &mut [u64; 320],
     at: usize,
-) -> Listed
-    ensures { Constrained text.now names.now tokens.now rows.old at result rows.new }
+) -> Result<(usize, usize), Refused>
+    ensures { In Constrained text.entry rows.old at result rows.new }
 {
-    read_rows(text, names, tokens, rows, at)
+    read_rows(text, rows, at)
 }

@@ -1,111 +1,86 @@
 // What the tokens of a constraint tell of its shape, beside its positions: whether its left side is one variable, and how many entries
 // its domain has.
 ghost use Rattle.constraints.specs.Shape.{IsAlone, IsBare, EntriesAre, SizeIs, ShapeIs};
+ghost use Rattle.tokens.specs.Text.{In};
 
 use super::layout;
 use lexer::marks;
-use tokens::{Found, Move, Seen};
+use tokens::Text;
 
 // Whether neither `+` nor `-` stands at a position.
 fn is_alone(tokens: &[u64], at: usize) -> bool
     ensures { IsAlone tokens.now at result }
 {
-    let token = tokens::token_at(tokens, at);
-    match token {
-        Seen::Token(k, p, x, next) => {
-            if (k == marks::PLUS as u64) | (k == marks::MINUS as u64) {
-                return false;
-            }
-            true
-        }
-        Seen::Refused(n, p) => false,
-    }
+    let Ok(token) = tokens::token_at(tokens, at) else {
+        return false;
+    };
+    !((token.kind == marks::PLUS as u64) | (token.kind == marks::MINUS as u64))
 }
 
 // Whether the left side at a position is one variable, without sign or factor.
-fn is_bare(text: &[u8], names: &[u64], tokens: &[u64], at: usize) -> bool
-    ensures { IsBare text.now names.now tokens.now at result }
+fn is_bare(text: Text<'_>, at: usize) -> bool
+    ensures { In IsBare text.entry at result }
 {
-    let token = tokens::token_at(tokens, at);
-    match token {
-        Seen::Token(k, p, x, next) => {
-            let name = linear::variable(text, names, k, p, x);
-            match name {
-                Found::Name(i, sort, count) => {
-                    let end = formulas::subscripts(
-                        text,
-                        names,
-                        tokens,
-                        next,
-                        rules::NESTING_LIMIT,
-                        count,
-                    );
-                    match end {
-                        Move::At(a) => is_alone(tokens, a),
-                        Move::Refused(n, q) => false,
-                    }
-                }
-                Found::Nothing => false,
-            }
-        }
-        Seen::Refused(n, p) => false,
-    }
+    let Ok(token) = tokens::token_at(text.tokens, at) else {
+        return false;
+    };
+    let name = linear::variable(
+        text.bytes,
+        text.names,
+        token.kind,
+        token.place,
+        token.payload,
+    );
+    let Some(name) = name else {
+        return false;
+    };
+    let nest = rules::NESTING_LIMIT;
+    let end = formulas::subscripts(text, token.next, nest, name.count);
+    let Ok(next) = end else {
+        return false;
+    };
+    is_alone(text.tokens, next)
 }
 
 // How many entries stand from a position on.
-fn entries(text: &[u8], names: &[u64], tokens: &[u64], at: usize) -> usize
-    ensures { EntriesAre text.now names.now tokens.now at result }
+fn entries(text: Text<'_>, at: usize) -> usize
+    ensures { In EntriesAre text.entry at result }
 {
-    let mut a = at;
-    let mut n = 1;
-    while n < rules::INDEX_LIMIT {
-        let entry = domains::entry(text, names, tokens, a);
-        let Move::At(b) = entry else {
+    let mut start = at;
+    for n in 1..rules::INDEX_LIMIT {
+        let Ok(end) = domains::entry(text, start) else {
             return n;
         };
-        let token = tokens::token_at(tokens, b);
-        let Seen::Token(k, p, x, next) = token else {
+        let Ok(token) = tokens::token_at(text.tokens, end) else {
             return n;
         };
-        if k != marks::COMMA as u64 {
+        if token.kind != marks::COMMA as u64 {
             return n;
         }
-        a = next;
-        n += 1;
+        start = token.next;
     }
-    n
+    rules::INDEX_LIMIT
 }
 
 // How many entries the domain at a position has, none where no domain stands there.
-fn entries_at(text: &[u8], names: &[u64], tokens: &[u64], at: usize) -> usize
-    ensures { SizeIs text.now names.now tokens.now at result }
+fn entries_at(text: Text<'_>, at: usize) -> usize
+    ensures { In SizeIs text.entry at result }
 {
-    let token = tokens::token_at(tokens, at);
-    match token {
-        Seen::Token(k, p, x, next) => {
-            if k == marks::LEFT_PAREN as u64 {
-                return entries(text, names, tokens, next);
-            }
-            0
-        }
-        Seen::Refused(n, p) => 0,
+    let Ok(token) = tokens::token_at(text.tokens, at) else {
+        return 0;
+    };
+    if token.kind != marks::LEFT_PAREN as u64 {
+        return 0;
     }
+    entries(text, token.next)
 }
 
 // The third word of the row of a constraint with the relation `mark`, whose left side and domain stand at these positions, and
 // which has a floor or not.
-pub fn word_at(
-    text: &[u8],
-    names: &[u64],
-    tokens: &[u64],
-    left: usize,
-    mark: u64,
-    floor: bool,
-    domain: usize,
-) -> u64
-    ensures { ShapeIs text.now names.now tokens.now left mark floor domain result }
+pub fn word_at(text: Text<'_>, left: usize, mark: u64, floor: bool, domain: usize) -> u64
+    ensures { In ShapeIs text.entry left mark floor domain result }
 {
-    let bare = is_bare(text, names, tokens, left);
-    let count = entries_at(text, names, tokens, domain);
+    let bare = is_bare(text, left);
+    let count = entries_at(text, domain);
     layout::packed(mark, bare, floor, count)
 }

@@ -1,4 +1,6 @@
 -- Laws of a portion carried out over plain variables: the positions still to run, and the turns of a run.
+use Rattle.std.specs.Prelude.{Err, Ok, Result}
+use Rattle.rules.specs.declared.Refused.{Refused}
 use mathlib.Core.Path.{◌≡◌, refl, sym, ◌∙◌, ap, subst}
 use mathlib.Core.List.{List, [], ◌∷◌}
 use Prim.Native.Nat.{ℕ, zero, suc, ◌+◌, ◌-◌, ◌<◌, ◌≤◌, ◌^◌}
@@ -10,7 +12,6 @@ use lib.Signed.{mag}
 use mir.Syntax.{w64}
 use mir.Val.{to_z, of_z}
 use Rattle.value.proofs.Integers.{back}
-use Rattle.rules.specs.declared.Refusal.{Refusal}
 use Rattle.rules.specs.Limits.{run_limit, index_limit}
 use Rattle.language.specs.Outcome.{Outcome, done, refused}
 use Rattle.language.specs.Reader.{Reader, Read, follow, as_read, look}
@@ -20,7 +21,6 @@ use Rattle.language.specs.Store as Store
 use Rattle.language.specs.Data.{bound_of, each_read, runs}
 use Rattle.language.proofs.ValidStore.{set_at-small, element_of-small}
 use Rattle.tokens.specs.declared.Seen.{Seen}
-use Rattle.tokens.specs.declared.Seen.TheVariants as seen
 use Rattle.tokens.specs.Stored.{from, Sees, Looks}
 use Rattle.tokens.proofs.Moved.{look_is}
 use Rattle.store.specs.declared.Element.{Element}
@@ -34,11 +34,7 @@ use Rattle.data.specs.declared.reading.entries.Entries.{Entries}
 use Rattle.data.specs.Reading.Few.{numbers_of}
 use Rattle.data.specs.Reading.Entries.{entries_of}
 use Rattle.data.proofs.reading.Lists.{length-few}
-use Rattle.data.specs.declared.entering.Taken.{Taken}
-use Rattle.data.specs.declared.entering.Taken.TheVariants as taken
 use Rattle.data.specs.declared.running.Portion.{Portion as Worked}
-use Rattle.data.specs.declared.running.Run.{Run}
-use Rattle.data.specs.declared.running.Run.TheVariants as run
 use Rattle.data.specs.Stores.{Stores}
 use Rattle.data.specs.Running.{Carries, run_outcome, ShortRun, PositionRuns}
 use Rattle.data.specs.Taking.{TakenIs, Takes}
@@ -49,7 +45,7 @@ use Rattle.data.proofs.Positions.{bound-length, element-length}
 -- ---- no position is left
 
 module _ (ns ts ds : List ℕ) (given at : ℕ) (h : Worked) (k : ℕ) (e : Entries) (n : ℕ) (c : n ≡ length (numbers_of h.order)) where
-  pub runs_number : (w : Element) (r : Taken) (ds' : List ℕ) → n ≤ k → list_of w ≡ element_of (bound_of (entries_of e)) → Takes ns ts ds given at h w r ds' → RunsTo ns ts ds given at h k e r ds'
+  pub runs_number : (w : Element) (r : Result (ℕ × ℕ) Refused) (ds' : List ℕ) → n ≤ k → list_of w ≡ element_of (bound_of (entries_of e)) → Takes ns ts ds given at h w r ds' → RunsTo ns ts ds given at h k e r ds'
   unfolding runs index_limit
   runs_number w r ds' i d t =
       record {
@@ -65,8 +61,8 @@ module _ (ns ts ds : List ℕ) (given at : ℕ) (h : Worked) (k : ℕ) (e : Entr
             st g);
       }
 
-  module _ (i : k < n) (t : Seen) (l : Looks ts at t) where
-    sees : (s : List ℕ) (w : Seen) → t ≡ w → Sees s ts at w
+  module _ (i : k < n) (t : Result Seen Refused) (l : Looks ts at t) where
+    sees : (s : List ℕ) (w : Result Seen Refused) → t ≡ w → Sees s ts at w
     sees s w q = subst (Sees s ts at) q (l.sees s)
 
     next-position : left h k ≡ get_or (numbers_of h.order) k 0 ∷ left h (k + 1)
@@ -82,27 +78,27 @@ module _ (ns ts ds : List ℕ) (given at : ℕ) (h : Worked) (k : ℕ) (e : Entr
     unfolding runs turns
     stepped s x st = ap (λ js. runs x js (bound_of (entries_of e)) st (from s ts at)) next-position
 
-    pub runs-wrong : (m : Refusal) (q : ℕ) (ds' : List ℕ) → t ≡ seen.Refused m q → RunsTo ns ts ds given at h k e (taken.Refused m q) ds'
-    runs-wrong m q ds' d = record { is = λ s x a st g. rw (stepped s x st, (sees s (seen.Refused m q) d).looks) (refl, refl) }
+    pub runs-wrong : (w : Refused) (ds' : List ℕ) → t ≡ Err w → RunsTo ns ts ds given at h k e (Err w) ds'
+    runs-wrong z ds' d = record { is = λ s x a st g. rw (stepped s x st, (sees s (Err z) d).looks) (refl, refl) }
 
-    module _ (y p z b j : ℕ) (d : t ≡ seen.Token y p z b) (f : j ≡ get_or (numbers_of h.order) k 0) (u : Run) (v : PositionRuns ns ts ds given h e j u) where
-      run_is : (s : List ℕ) (x : Portion) (a : Carries s ns ts h e x) (st : Store) → Stores ds given st → (o : Run) → u ≡ o
+    module _ (y : Seen) (j : ℕ) (d : t ≡ Ok y) (f : j ≡ get_or (numbers_of h.order) k 0) (u : Result (Limits × ℕ) Refused) (v : PositionRuns ns ts ds given h e j u) where
+      run_is : (s : List ℕ) (x : Portion) (a : Carries s ns ts h e x) (st : Store) → Stores ds given st → (o : Result (Limits × ℕ) Refused) → u ≡ o
           → runs x (left h k) (bound_of (entries_of e)) st (from s ts at) ≡ follow (as_read (run_outcome o) (from s ts at)) (turns x st)
       run_is s x a st g o q =
           stepped s x st
-          ∙ ap (λ r. follow r (λ _ ts. follow (as_read (position_run x.domain (bound_of (entries_of e)) (get_or (numbers_of h.order) k 0) (Store.scope_of st)) ts) (turns x st))) (look_is s ts at y p z b (sees s (seen.Token y p z b) d))
+          ∙ ap (λ r. follow r (λ _ ts. follow (as_read (position_run x.domain (bound_of (entries_of e)) (get_or (numbers_of h.order) k 0) (Store.scope_of st)) ts) (turns x st))) (look_is s ts at y (sees s (Ok y) d))
           ∙ ap (λ r. follow (as_read r (from s ts at)) (turns x st)) (ap (λ j. position_run x.domain (bound_of (entries_of e)) j (Store.scope_of st)) (sym f) ∙ v.is s x a st g ∙ ap run_outcome q)
 
-      pub runs-refused : (m : Refusal) (q : ℕ) (ds' : List ℕ) → u ≡ run.Refused m q → RunsTo ns ts ds given at h k e (taken.Refused m q) ds'
-      runs-refused m q ds' o = record { is = λ s x a st g. rw (run_is s x a st g (run.Refused m q) o) (refl, refl) }
+      pub runs-refused : (w : Refused) (ds' : List ℕ) → u ≡ Err w → RunsTo ns ts ds given at h k e (Err w) ds'
+      runs-refused z ds' o = record { is = λ s x a st g. rw (run_is s x a st g (Err z) o) (refl, refl) }
 
-      pub runs-each : (w : Limits) (o : ℕ) (r : Taken) (ds' : List ℕ) → u ≡ run.Of w o → EachTo ns ts ds given at h k e w o r ds' → RunsTo ns ts ds given at h k e r ds'
+      pub runs-each : (w : Limits) (o : ℕ) (r : Result (ℕ × ℕ) Refused) (ds' : List ℕ) → u ≡ Ok (w, o) → EachTo ns ts ds given at h k e w o r ds' → RunsTo ns ts ds given at h k e r ds'
       unfolding turns
       runs-each w o r ds' q g =
           record {
             is = λ s x a st i.
                 let (small, within, short) = subst ShortRun q (v.short s x a st i) in
-                rw (run_is s x a st i (run.Of w o) q) (g.is s x a (record { small = small; within = within; short = short }) st i);
+                rw (run_is s x a st i (Ok (w, o)) q) (g.is s x a (record { small = small; within = within; short = short }) st i);
           }
 
 pub few-positions : (h : Worked) (k n : ℕ) → n ≡ length (numbers_of h.order) → k < n → k < 4
@@ -141,17 +137,17 @@ module _ (ns ts ds : List ℕ) (given at : ℕ) (h : Worked) (k : ℕ) (e : Entr
       record { on = λ s x a c st g. record { store = st; holds = g; same = rw (d, +ℤ_idr l.lower) refl } }
 
   module _ (a count i : ℕ) (us : List ℕ) (o : EachOn a count i us) where
-    pub each-end : n ≤ i → EachTo ns ts ds given at h k e l n (taken.At a count) us
+    pub each-end : n ≤ i → EachTo ns ts ds given at h k e l n (Ok (a, count)) us
     unfolding turn each_read
     each-end q =
         record {
           is = λ s x b c st g.
               let d : n - i ≡ 0 = omega arith in
               let m = o.on s x b c st g in
-              subst (λ r. TakenIs r s ts us (taken.At a count)) (sym (m.same ∙ ap (λ j. each_read (turn x) (up_from (l.lower +ℤ pos i) j) m.store (from s ts a)) d)) (refl, m.holds);
+              subst (λ r. TakenIs r s ts us (Ok (a, count))) (sym (m.same ∙ ap (λ j. each_read (turn x) (up_from (l.lower +ℤ pos i) j) m.store (from s ts a)) d)) (refl, m.holds);
         }
 
-    module _ (q : i < n) (j : ℕ) (f : j ≡ get_or (numbers_of h.order) k 0) (z : ℤ) (v : z ≡ number_in l i) (fits : mag z < 2 ^ 63) (e' : Entries) (held : bound_of (entries_of e') ≡ set_at j (to_z w64 (of_z w64 z)) (bound_of (entries_of e))) (r : Taken) (us' : List ℕ)
+    module _ (q : i < n) (j : ℕ) (f : j ≡ get_or (numbers_of h.order) k 0) (z : ℤ) (v : z ≡ number_in l i) (fits : mag z < 2 ^ 63) (e' : Entries) (held : bound_of (entries_of e') ≡ set_at j (to_z w64 (of_z w64 z)) (bound_of (entries_of e))) (r : Result (ℕ × ℕ) Refused) (us' : List ℕ)
         (p : RunsTo ns ts us count a h (k + 1) e' r us') where
       w : bound_of (entries_of e') ≡ set_at j z (bound_of (entries_of e))
       w = held ∙ ap (λ z. set_at j z (bound_of (entries_of e))) (back {z = z} fits)
@@ -184,19 +180,19 @@ module _ (ns ts ds : List ℕ) (given at : ℕ) (h : Worked) (k : ℕ) (e : Entr
       unfolding each_read
       unrolled s x b c st g = (o.on s x b c st g).same ∙ ap (λ ks. each_read (turn x) ks (o.on s x b c st g).store (from s ts a)) (up_first l.lower i n q)
 
-      pub each-wrong : (m : Refusal) (y : ℕ) → r ≡ taken.Refused m y → EachTo ns ts ds given at h k e l n r us'
+      pub each-wrong : (w : Refused) → r ≡ Err w → EachTo ns ts ds given at h k e l n r us'
       unfolding turn
-      each-wrong m y d =
+      each-wrong z d =
           record {
-            is = λ s x b c st g. rw d (subst (λ u. TakenIs u s ts us' (taken.Refused m y)) (sym (unrolled s x b c st g)) (go s x (turn x (l.lower +ℤ pos i) (o.on s x b c st g).store (from s ts a)) (subst (TakenIs (turn x (l.lower +ℤ pos i) (o.on s x b c st g).store (from s ts a)) s ts us') d (turned s x b c st g))));
+            is = λ s x b c st g. rw d (subst (λ u. TakenIs u s ts us' (Err z)) (sym (unrolled s x b c st g)) (go s x (turn x (l.lower +ℤ pos i) (o.on s x b c st g).store (from s ts a)) (subst (TakenIs (turn x (l.lower +ℤ pos i) (o.on s x b c st g).store (from s ts a)) s ts us') d (turned s x b c st g))));
           }
         where
-          go : (s : List ℕ) (x : Portion) (u : Outcome (Read Store)) → TakenIs u s ts us' (taken.Refused m y)
-              → TakenIs (follow u (λ st. each_read (turn x) (up_from (l.lower +ℤ pos (i + 1)) (n - (i + 1))) st)) s ts us' (taken.Refused m y)
+          go : (s : List ℕ) (x : Portion) (u : Outcome (Read Store)) → TakenIs u s ts us' (Err z)
+              → TakenIs (follow u (λ st. each_read (turn x) (up_from (l.lower +ℤ pos (i + 1)) (n - (i + 1))) st)) s ts us' (Err z)
           go s x (done u) t = absurd t
           go s x (refused m' y') t = t
 
-      pub each_on : (b c : ℕ) → r ≡ taken.At b c → EachOn b c (i + 1) us'
+      pub each_on : (b c : ℕ) → r ≡ Ok (b, c) → EachOn b c (i + 1) us'
       each_on b c d =
           record {
             on = λ s x m t st g. go s x st (turn x (l.lower +ℤ pos i) (o.on s x m t st g).store (from s ts a)) (unrolled s x m t st g) (subst (TakenIs (turn x (l.lower +ℤ pos i) (o.on s x m t st g).store (from s ts a)) s ts us') d (turned s x m t st g));
@@ -204,6 +200,6 @@ module _ (ns ts ds : List ℕ) (given at : ℕ) (h : Worked) (k : ℕ) (e : Entr
         where
           go : (s : List ℕ) (x : Portion) (st : Store) (u : Outcome (Read Store))
               → each_read (turn x) (up_from l.lower n) st (from s ts at) ≡ follow u (λ st. each_read (turn x) (up_from (l.lower +ℤ pos (i + 1)) (n - (i + 1))) st)
-              → TakenIs u s ts us' (taken.At b c) → EachSo s x st b c (i + 1) us'
+              → TakenIs u s ts us' (Ok (b, c)) → EachSo s x st b c (i + 1) us'
           go s x st (done u) m t = record { store = u.what; holds = t.1; same = m ∙ ap (λ y. each_read (turn x) (up_from (l.lower +ℤ pos (i + 1)) (n - (i + 1))) u.what y) t.0 }
           go s x st (refused m' y') m t = absurd t

@@ -1,5 +1,6 @@
 -- Laws of a portion from its name on over plain variables.
-use Rattle.std.specs.Prelude.{Some, slice_get}
+use Rattle.std.specs.Prelude.{Err, Ok, Result, Some, slice_get}
+use Rattle.rules.specs.declared.Refused.{Refused}
 use mathlib.Core.Path.{◌≡◌, refl, sym, ◌∙◌, ap, subst}
 use mathlib.Core.Bool.{Bool, true, false, ◌||◌}
 use mathlib.Core.List.{List, []}
@@ -7,7 +8,6 @@ use Prim.Native.Nat.{ℕ, zero, suc}
 use native.Mathlib.Omega.{arith}
 use lib.Dec.{eqb}
 use lib.ListN.{length, take}
-use Rattle.rules.specs.declared.Refusal.{Refusal}
 use Rattle.rules.specs.declared.Refusal.TheVariants.{Misplaced, BadIndex}
 use Rattle.rules.specs.Limits.{nesting_limit, index_limit}
 use Rattle.lexer.specs.Marks.{opens_list}
@@ -25,7 +25,6 @@ use Rattle.language.specs.Data as Data
 use Rattle.language.proofs.Meant.{found}
 use Rattle.language.proofs.Taken.{after_read, expect-read, name-read}
 use Rattle.tokens.specs.declared.Known.{Known}
-use Rattle.tokens.specs.declared.Known.TheVariants as known
 use Rattle.tokens.specs.Stored.{from, size, Shaped, Knowing, KnownAt, Knows}
 use Rattle.tokens.proofs.Moved.{knows-of}
 use Rattle.tokens.proofs.Tables.{false-true}
@@ -37,13 +36,10 @@ use Rattle.evaluator.proofs.Names.{below_length}
 use Rattle.data.specs.declared.reading.few.Few.{Few}
 use Rattle.data.specs.declared.reading.entries.Entries.{Entries}
 use Rattle.data.specs.declared.reading.heads.Plan.{Plan}
-use Rattle.data.specs.declared.reading.heads.Plan.TheVariants as plan
 use Rattle.data.specs.Reading.Few.{Holds}
 use Rattle.data.specs.Reading.Entries.{entries_of}
 use Rattle.data.specs.Reading.Lists.{list_in, Head, order_in, rest_in, head_in, planned, Heads}
 use Rattle.data.proofs.reading.Joined.{entries-joined, portion-joined}
-use Rattle.data.specs.declared.entering.Taken.{Taken}
-use Rattle.data.specs.declared.entering.Taken.TheVariants as taken
 use Rattle.data.specs.declared.layouts.Layout.{Layout}
 use Rattle.data.specs.Stores.{Stores}
 use Rattle.data.specs.Layouts.{Lays}
@@ -56,11 +52,11 @@ use Rattle.data.proofs.Smalls.{Fitting, SmallEntry, fitting-from, made, entries-
 -- ---- the head of a portion
 
 module _ (s ns ts : List ℕ) (at p n : ℕ) where
-  pub head-none : (f : Few) (e : Entries) → n ≡ 0 → Holds f [] → entries_of e ≡ [] → Heads (head_for p n) s ns ts at n (plan.Runs f e at)
+  pub head-none : (f : Few) (e : Entries) → n ≡ 0 → Holds f [] → entries_of e ≡ [] → Heads (head_for p n) s ns ts at n (Ok (record { runs = f; entries = e; next = at }))
   unfolding head_for
   head-none f e z k h = record { is = λ names d few. rw (z, k.numbers, h) refl }
 
-  pub head-some : (r : Plan) → (n ≡ 0 → ⊥) → Heads (head_in p n) s ns ts at n r → Heads (head_for p n) s ns ts at n r
+  pub head-some : (r : Result Plan Refused) → (n ≡ 0 → ⊥) → Heads (head_in p n) s ns ts at n r → Heads (head_for p n) s ns ts at n r
   unfolding head_for
   head-some r z h = record { is = λ names d few. go names n z ∙ h.is names d few }
     where
@@ -121,25 +117,25 @@ carry-joined names x st l = go (is_point x.domain) refl
     go true e = sym (ap (λ o. follow o (λ (h : Head). runs x h.positions (bound_of h.entries) st)) (head-point x.place names l x.domain e))
     go false e = portion-joined names x st l ∙ ap (λ o. follow o (λ (h : Head). runs x h.positions (bound_of h.entries) st)) (head-span x.place names l x.domain e)
 
-module _ (s ns ts ds : List ℕ) (given at i c p : ℕ) (whole : Bool) (h : Plan) (w : Heads (head_for p c) s ns ts at c h) where
-  head-is : (x : Portion) (d : Declares s ns ts i c p whole x) (o : Plan) → h ≡ o → head_for x.place (size x.domain) d.ground.names (from s ts at) ≡ planned s ts o
+module _ (s ns ts ds : List ℕ) (given at i c p : ℕ) (whole : Bool) (h : Result Plan Refused) (w : Heads (head_for p c) s ns ts at c h) where
+  head-is : (x : Portion) (d : Declares s ns ts i c p whole x) (o : Result Plan Refused) → h ≡ o → head_for x.place (size x.domain) d.ground.names (from s ts at) ≡ planned s ts o
   unfolding index_limit
   head-is x d o e = rw (d.place, d.long) (w.is d.ground.names d.ground.named (omega (arith, d.domain.few, d.long)) ∙ ap (planned s ts) e)
 
-  pub carry-refused : (n : Refusal) (q : ℕ) (ds' : List ℕ) → h ≡ plan.Refused n q → CarriesOut s ns ts ds given at i c p whole (taken.Refused n q) ds'
+  pub carry-refused : (e : Refused) (ds' : List ℕ) → h ≡ Err e → CarriesOut s ns ts ds given at i c p whole (Err e) ds'
   unfolding carry_in
-  carry-refused n q ds' e = record { is = λ x d st g. rw (head-is x d (plan.Refused n q) e) (refl, refl) }
+  carry-refused z ds' e = record { is = λ x d st g. rw (head-is x d (Err z) e) (refl, refl) }
 
-  pub carry-runs : (f : Few) (e : Entries) (a q : ℕ) (y : Layout) (r : Taken) (ds' : List ℕ) → h ≡ plan.Runs f e a → q ≡ row_word ns i 4 → Lays s ns ts i q c y
-      → RunsTo ns ts ds given a (record { name = i; place = p; whole = whole; start = q; layout = y; order = f }) 0 e r ds' → CarriesOut s ns ts ds given at i c p whole r ds'
+  pub carry-runs : (w : Plan) (q : ℕ) (y : Layout) (r : Result (ℕ × ℕ) Refused) (ds' : List ℕ) → h ≡ Ok w → q ≡ row_word ns i 4 → Lays s ns ts i q c y
+      → RunsTo ns ts ds given w.next (record { name = i; place = p; whole = whole; start = q; layout = y; order = w.runs }) 0 w.entries r ds' → CarriesOut s ns ts ds given at i c p whole r ds'
   unfolding carry_in index_limit
-  carry-runs f e a q y r ds' k v l z =
-      record { is = λ x d st g. rw (head-is x d (plan.Runs f e a) k) (z.is s x (carries x d) st g) }
+  carry-runs w q y r ds' k v l z =
+      record { is = λ x d st g. rw (head-is x d (Ok w) k) (z.is s x (carries x d) st g) }
     where
-      carries : (x : Portion) → Declares s ns ts i c p whole x → Carries s ns ts (record { name = i; place = p; whole = whole; start = q; layout = y; order = f }) e x
+      carries : (x : Portion) → Declares s ns ts i c p whole x → Carries s ns ts (record { name = i; place = p; whole = whole; start = q; layout = y; order = w.runs }) w.entries x
       carries x d =
           let domain : DomainAt s ts (take i d.ground.names) x.domain q = subst (DomainAt s ts (take i d.ground.names) x.domain) (sym v) d.domain in
-          let fit = fit-head d.ground.names x.place x.domain (from s ts at) _ (fitting-from s ts d.ground.literals at) (head-is x d (plan.Runs f e a) k) in
+          let fit = fit-head d.ground.names x.place x.domain (from s ts at) _ (fitting-from s ts d.ground.literals at) (head-is x d (Ok w) k) in
           record {
             ground = d.ground;
             portrays = record {
@@ -157,11 +153,11 @@ module _ (s ns ts ds : List ℕ) (given at i c p : ℕ) (whole : Bool) (h : Plan
 -- ---- behind a name
 
 module _ (s ns ts ds : List ℕ) (given at i k c p : ℕ) where
-  pub name-other : (ds' : List ℕ) → (eqb k 1 || eqb k 2) ≡ false → Uses s ns ts ds given at i k c p (taken.Refused Misplaced p) ds'
+  pub name-other : (ds' : List ℕ) → (eqb k 1 || eqb k 2) ≡ false → Uses s ns ts ds given at i k c p (Err (record { refusal = Misplaced; place = p })) ds'
   unfolding used_in demand portion_by
   name-other ds' e = record { is = λ u d st g. go u d st u.sort refl d.shaped }
     where
-      go : (u : Used) (d : Names s ns ts i k c p u) (st : Store) (z : Sort) → u.sort ≡ z → Shaped z k c → TakenIs (used_in d.ground.names st u (from s ts at)) s ts ds' (taken.Refused Misplaced p)
+      go : (u : Used) (d : Names s ns ts i k c p u) (st : Store) (z : Sort) → u.sort ≡ z → Shaped z k c → TakenIs (used_in d.ground.names st u (from s ts at)) s ts ds' (Err (record { refusal = Misplaced; place = p }))
       go u d st Syntax.index q w = rw q (refl, d.place)
       go u d st (Syntax.integer b) q w = absurd (false-true (sym e ∙ rw w.0 refl))
       go u d st (Syntax.real b) q w = absurd (false-true (sym e ∙ rw w.0 refl))
@@ -169,7 +165,7 @@ module _ (s ns ts ds : List ℕ) (given at i k c p : ℕ) where
       go u d st (Syntax.discrete b) q w = rw q (refl, d.place)
       go u d st (Syntax.continuous b) q w = rw q (refl, d.place)
 
-  pub name-carries : (r : Taken) (ds' : List ℕ) → (eqb k 1 || eqb k 2) ≡ true → CarriesOut s ns ts ds given at i c p (eqb k 1) r ds' → Uses s ns ts ds given at i k c p r ds'
+  pub name-carries : (r : Result (ℕ × ℕ) Refused) (ds' : List ℕ) → (eqb k 1 || eqb k 2) ≡ true → CarriesOut s ns ts ds given at i c p (eqb k 1) r ds' → Uses s ns ts ds given at i k c p r ds'
   unfolding used_in demand portion_by
   name-carries r ds' e h = record { is = λ u d st g. go u d st g u.sort refl d.shaped }
     where
@@ -212,26 +208,26 @@ named-is s ns ts g l x i k c p e n w q =
       sorted = y.sorted;
     }
 
-module _ (s ns ts ds : List ℕ) (given at : ℕ) (r : Known) (told : KnownAt s ns ts at r) where
+module _ (s ns ts ds : List ℕ) (given at : ℕ) (r : Result Known Refused) (told : KnownAt s ns ts at r) where
   h : Knows s ns ts at r
   h = knows-of s ns ts at r told
 
-  pub portion-unknown : (n : Refusal) (p : ℕ) (ds' : List ℕ) → r ≡ known.Refused n p → Fills portion_of s ns ts ds given at (taken.Refused n p) ds'
+  pub portion-unknown : (e : Refused) (ds' : List ℕ) → r ≡ Err e → Fills portion_of s ns ts ds given at (Err e) ds'
   unfolding portion_of used_in
-  portion-unknown n p ds' e =
+  portion-unknown z ds' e =
       record { is = λ g st _. go g st (read_known g.names (from s ts at)) (subst (Knowing (read_known g.names (from s ts at)) s ts) e (h.knows g.names g.named)) }
     where
-      go : (g : Ground s ns ts) (st : Store) (o : Outcome (Read Used)) → Knowing o s ts (known.Refused n p) → TakenIs (follow o (used_in g.names st)) s ts ds' (taken.Refused n p)
+      go : (g : Ground s ns ts) (st : Store) (o : Outcome (Read Used)) → Knowing o s ts (Err z) → TakenIs (follow o (used_in g.names st)) s ts ds' (Err z)
       go g st (done x) k = absurd k
       go g st (refused m q) k = k
 
-  pub portion-named : (i k c p a : ℕ) (z : Taken) (ds' : List ℕ) → r ≡ known.Name i k c p a → Uses s ns ts ds given a i k c p z ds' → Fills portion_of s ns ts ds given at z ds'
+  pub portion-named : (w : Known) (z : Result (ℕ × ℕ) Refused) (ds' : List ℕ) → r ≡ Ok w → Uses s ns ts ds given w.next w.number w.sort w.count w.place z ds' → Fills portion_of s ns ts ds given at z ds'
   unfolding portion_of used_in named-is
-  portion-named i k c p a z ds' e w =
+  portion-named v z ds' e w =
       record { is = λ g st b. go g st b (read_known g.names (from s ts at)) refl (subst (Knowing (read_known g.names (from s ts at)) s ts) e (h.knows g.names g.named)) }
     where
-      go : (g : Ground s ns ts) (st : Store) → Stores ds given st → (o : Outcome (Read Used)) → read_known g.names (from s ts at) ≡ o → Knowing o s ts (known.Name i k c p a)
+      go : (g : Ground s ns ts) (st : Store) → Stores ds given st → (o : Outcome (Read Used)) → read_known g.names (from s ts at) ≡ o → Knowing o s ts (Ok v)
           → TakenIs (follow o (used_in g.names st)) s ts ds' z
       go g st b (done x) q y =
-          subst (λ l. TakenIs (used_in g.names st x.what l) s ts ds' z) (sym y.0) (w.is x.what (named-is s ns ts g (from s ts at) x i k c p q y.1 y.2 y.3) st b)
+          subst (λ l. TakenIs (used_in g.names st x.what l) s ts ds' z) (sym y.0) (w.is x.what (named-is s ns ts g (from s ts at) x v.number v.sort v.count v.place q y.1 y.2 y.3) st b)
       go g st b (refused m q) f y = absurd y

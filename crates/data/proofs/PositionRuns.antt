@@ -1,4 +1,6 @@
 -- Laws of the run of a position over plain variables.
+use Rattle.std.specs.Prelude.{Err, Ok, Result}
+use Rattle.rules.specs.declared.Refused.{Refused}
 use mathlib.Core.Path.{◌≡◌, refl, sym, ◌∙◌, ap, subst}
 use mathlib.Core.List.{List, [], ◌∷◌}
 use Prim.Native.Nat.{ℕ, zero, suc, ◌<◌, ◌≤◌}
@@ -23,22 +25,17 @@ use Rattle.onepass.specs.Entries.{ReadsEntry}
 use Rattle.onepass.proofs.WalkedDomain.{entry-walk}
 use Rattle.evaluator.specs.declared.steps.scope.Scope.{Scope as Held}
 use Rattle.evaluator.specs.declared.steps.values.Bounds.{Bounds}
-use Rattle.evaluator.specs.declared.steps.values.Runs.{Runs}
-use Rattle.evaluator.specs.declared.steps.values.Runs.TheVariants as runs
+use Rattle.evaluator.specs.declared.steps.values.Limits.{Limits as Reach}
 use Rattle.evaluator.specs.Steps.Scopes.{scope_of}
 use Rattle.evaluator.specs.Steps.Values.{limits_in, SmallLimits, run_answer, RunIs}
 use Rattle.evaluator.proofs.steps.Runs.{run_is}
 use Rattle.evaluator.specs.Steps.Values as Values
 use Rattle.evaluator.specs.Tables.{World}
 use Rattle.evaluator.specs.Cycle.{entry_in, bounds_outcome, SmallEntered, EntryIs}
-use Rattle.evaluator.specs.declared.Entered.{Entered}
-use Rattle.evaluator.specs.declared.Entered.TheVariants as entered
 use Rattle.data.specs.declared.reading.entries.Entries.{Entries}
 use Rattle.data.specs.Reading.Few.{numbers_of}
 use Rattle.data.specs.Reading.Entries.{entries_of}
 use Rattle.data.specs.declared.running.Portion.{Portion as Worked}
-use Rattle.data.specs.declared.running.Run.{Run}
-use Rattle.data.specs.declared.running.Run.TheVariants as run
 use Rattle.data.specs.Stores.{Stores}
 use Rattle.evaluator.specs.Ground.{Ground, world_on}
 use Rattle.data.specs.Layouts.{Laid}
@@ -54,14 +51,14 @@ world s ns ts ds given st g h = world_on g (stores-given ds given st h)
 
 -- ---- the run of an entry
 
-module _ (sc : Held) (b : Bounds) (r : Runs) (told : r ≡ run_answer b.limits b.number sc b.place) where
+module _ (sc : Held) (b : Bounds) (r : Result ℕ Refused) (told : r ≡ run_answer b.limits b.number sc b.place) where
   h : RunIs b.limits b.number sc b.place r
   h = run_is b.limits b.number sc b.place r told
 
-  pub run-wrong : (n : Refusal) (p : ℕ) → r ≡ runs.Refused n p → RunsFrom sc b (run.Refused n p)
-  run-wrong n p e = record { is = λ s known. h.is s known ∙ ap (λ r. Values.run_outcome b.limits r) e; short = λ s. tt }
+  pub run-wrong : (e : Refused) → r ≡ Err e → RunsFrom sc b (Err e)
+  run-wrong z e = record { is = λ s known. h.is s known ∙ ap (λ r. Values.run_outcome b.limits r) e; short = λ s. tt }
 
-  pub run-counted : (n : ℕ) → r ≡ runs.Count n → RunsFrom sc b (run.Of b.limits n)
+  pub run-counted : (n : ℕ) → r ≡ Ok n → RunsFrom sc b (Ok (b.limits, n))
   run-counted n e =
       record {
         is = λ s known. h.is s known ∙ ap (λ r. Values.run_outcome b.limits r) e;
@@ -123,7 +120,7 @@ limits-done (refused n p) i q l b m e = absurd (refused-done e)
 -- ---- the run of a position
 
 module _ (ns ts ds : List ℕ) (given : ℕ) (h : Worked) (e : Entries) (j : ℕ) where
-  pub position_past : (n : ℕ) → n ≡ length (numbers_of h.layout.starts) → n ≤ j → PositionRuns ns ts ds given h e j (run.Of (record { lower = pos 1; upper = pos 0 }) 0)
+  pub position_past : (n : ℕ) → n ≡ length (numbers_of h.layout.starts) → n ≤ j → PositionRuns ns ts ds given h e j (Ok ((record { lower = pos 1; upper = pos 0 }), 0))
   unfolding mantissa_limit
   position_past n f i =
       record {
@@ -133,7 +130,7 @@ module _ (ns ts ds : List ℕ) (given : ℕ) (h : Worked) (e : Entries) (j : ℕ
         short = λ s x c st k. (record { low = omega arith; high = omega arith }, omega arith, omega arith);
       }
 
-  module _ (n : ℕ) (f : n ≡ length (numbers_of h.layout.starts)) (i : j < n) (sc : Held) (w : Before e h.layout.indices j sc) (a : ℕ) (y : a ≡ get_or (numbers_of h.layout.starts) j 0) (z : Entered)
+  module _ (n : ℕ) (f : n ≡ length (numbers_of h.layout.starts)) (i : j < n) (sc : Held) (w : Before e h.layout.indices j sc) (a : ℕ) (y : a ≡ get_or (numbers_of h.layout.starts) j 0) (z : Result (Bounds × ℕ) Refused)
       (v : EntryIs (entry_in 12) ns ts ds given h.name sc a z) where
     -- the entry, with what its tokens give
     module _ (s : List ℕ) (x : Portion) (c : Carries s ns ts h e x) (st : Store) (k : Stores ds given st) where
@@ -159,29 +156,29 @@ module _ (ns ts ds : List ℕ) (given : ℕ) (h : Worked) (e : Entries) (j : ℕ
       abbrev limits : Outcome Limits
       limits = limits_of (eval entry.lower (scope_of (stored st) sc)) (eval entry.upper (scope_of (stored st) sc))
 
-      walked : (o : Entered) → z ≡ o → as_read (limits >>= λ l. done (record { number = entry.index; place = entry.place; limits = l })) entry.rest ≡ bounds_outcome s ts o
+      walked : (o : Result (Bounds × ℕ) Refused) → z ≡ o → as_read (limits >>= λ l. done (record { number = entry.index; place = entry.place; limits = l })) entry.rest ≡ bounds_outcome s ts o
       unfolding entry_in nesting_limit world
       walked o q =
           sym (entry-walk visible entry.index entry.lower entry.upper entry.place (from s ts a) entry.rest entry.reads (scope_of (stored st) sc))
           ∙ v.is here (w.small c.small) ∙ ap (bounds_outcome s ts) q
 
-    pub position-wrong : (m : Refusal) (p : ℕ) → z ≡ entered.Refused m p → PositionRuns ns ts ds given h e j (run.Refused m p)
+    pub position-wrong : (w : Refused) → z ≡ Err w → PositionRuns ns ts ds given h e j (Err w)
     unfolding Store.scope_of
-    position-wrong m p q =
+    position-wrong z q =
         record {
           is = λ s x c st k.
               let t = entry s x c st k in
-              t.runs ∙ ap (λ o. o >>= λ l. run_of l t.index (scope_of (stored st) sc) t.place) (limits-refused (limits s x c st k) t.index t.place t.rest m p (walked s x c st k (entered.Refused m p) q));
+              t.runs ∙ ap (λ o. o >>= λ l. run_of l t.index (scope_of (stored st) sc) t.place) (limits-refused (limits s x c st k) t.index t.place t.rest z.refusal z.place (walked s x c st k (Err z) q));
           short = λ s x c st k. tt;
         }
 
-    pub position_runs : (b : Bounds) (o : ℕ) (r : Run) → z ≡ entered.Bounds b o → RunsFrom sc b r → PositionRuns ns ts ds given h e j r
+    pub position_runs : (b : Bounds) (o : ℕ) (r : Result (Reach × ℕ) Refused) → z ≡ Ok (b, o) → RunsFrom sc b r → PositionRuns ns ts ds given h e j r
     unfolding Store.scope_of
     position_runs b o r q g =
         record {
           is = λ s x c st k.
               let t = entry s x c st k in
-              let (d, i, p) = limits-done (limits s x c st k) t.index t.place t.rest (record { number = b.number; place = b.place; limits = limits_in b.limits }) (from s ts o) (walked s x c st k (entered.Bounds b o) q) in
+              let (d, i, p) = limits-done (limits s x c st k) t.index t.place t.rest (record { number = b.number; place = b.place; limits = limits_in b.limits }) (from s ts o) (walked s x c st k (Ok (b, o)) q) in
               t.runs ∙ ap (λ o. o >>= λ l. run_of l t.index (scope_of (stored st) sc) t.place) d
               ∙ ap (λ i. run_of (limits_in b.limits) i (scope_of (stored st) sc) t.place) i ∙ ap (run_of (limits_in b.limits) b.number (scope_of (stored st) sc)) p
               ∙ g.is (small s x c st k) (stored st);

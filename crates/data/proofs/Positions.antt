@@ -145,12 +145,12 @@ module _ (e : Entries) (f : Few) (j : ℕ) where
       let z : j - k ≡ 0 = omega arith in
       record { is = λ l known. ap (λ n. before (drop k (numbers_of f)) (bound_of (drop k (entries_of e))) n (scope_of known sc)) (sym z) ∙ s.is l known; small = s.small }
 
-  module _ (k i : ℕ) (sc : Held) (x : Slot) (s : Scoping e f j k sc) (h : k < j) (g : entry_of x ≡ get_or (entries_of e) k (marked 0)) (n : i ≡ get_or (numbers_of f) k 0) where
+  module _ (k : ℕ) (sc : Held) (x : Slot) (s : Scoping e f j k sc) (h : k < j) (g : entry_of x ≡ get_or (entries_of e) k (marked 0)) where
     -- one position less is left
-    step : length (numbers_of f) ≡ length (entries_of e) → k < length (entries_of e) → (t : Scope)
+    step : (i : ℕ) → i ≡ get_or (numbers_of f) k 0 → length (numbers_of f) ≡ length (entries_of e) → k < length (entries_of e) → (t : Scope)
         → before (drop k (numbers_of f)) (bound_of (drop k (entries_of e))) (j - k) t ≡ before (drop (k + 1) (numbers_of f)) (bound_of (drop (k + 1) (entries_of e))) (j - (k + 1)) (bind_if i (slot (entry_of x)) t)
     unfolding before
-    step l w t =
+    step i n l w t =
         let z : j - k ≡ suc (j - (k + 1)) = omega arith in
         let y : k + 1 ≡ suc k = omega arith in
         let a : drop k (numbers_of f) ≡ i ∷ drop (k + 1) (numbers_of f) = rw y (drop-cons (numbers_of f) k 0 (omega arith) ∙ ap (λ i. i ∷ drop (suc k) (numbers_of f)) (sym n)) in
@@ -166,8 +166,8 @@ module _ (e : Entries) (f : Few) (j : ℕ) where
             → before (drop (k + 1) (numbers_of f)) (bound_of (drop (k + 1) (entries_of e))) (j - (k + 1)) (scope_of known sc)
             ≡ before (numbers_of f) (bound_of (entries_of e)) j (record { known = known; bound = [] })
         go l known true w =
-            ap (λ y. before (drop (k + 1) (numbers_of f)) (bound_of (drop (k + 1) (entries_of e))) (j - (k + 1)) (bind_if i y (scope_of known sc))) (sym (ap (λ x. slot (entry_of x)) d))
-            ∙ sym (step l (ltb-true k (length (entries_of e)) w) (scope_of known sc)) ∙ s.is l known
+            ap (λ y. before (drop (k + 1) (numbers_of f)) (bound_of (drop (k + 1) (entries_of e))) (j - (k + 1)) (bind_if (get_or (numbers_of f) k 0) y (scope_of known sc))) (sym (ap (λ x. slot (entry_of x)) d))
+            ∙ sym (step (get_or (numbers_of f) k 0) refl l (ltb-true k (length (entries_of e)) w) (scope_of known sc)) ∙ s.is l known
         go l known false w =
             let long : length (entries_of e) ≤ k = ltb-false k (length (entries_of e)) w in
             ap (λ m. before m (bound_of (drop (k + 1) (entries_of e))) (j - (k + 1)) (scope_of known sc)) (drop_of_length-le (numbers_of f) {i = k + 1} (omega arith))
@@ -176,9 +176,9 @@ module _ (e : Entries) (f : Few) (j : ℕ) where
             ∙ ap (λ m. before m (bound_of (drop k (entries_of e))) (j - k) (scope_of known sc)) (sym (drop_of_length-le (numbers_of f) {i = k} (omega arith)))
             ∙ s.is l known
 
-    pub scoping-fixed : (z : ℤ) (t : Held) → x ≡ Fixed z → mag z < 2 ^ 63 → bindings_of t ≡ bound_more i (to_z w64 (of_z w64 z)) (bindings_of sc) → Scoping e f j (k + 1) t
+    pub scoping-fixed : (i : ℕ) (z : ℤ) (t : Held) → i ≡ get_or (numbers_of f) k 0 → x ≡ Fixed z → mag z < 2 ^ 63 → bindings_of t ≡ bound_more i (to_z w64 (of_z w64 z)) (bindings_of sc) → Scoping e f j (k + 1) t
     unfolding index_limit bound_more
-    scoping-fixed z t d b w =
+    scoping-fixed i z t n d b w =
         let at : get_or (entries_of e) k (marked 0) ≡ fixed z = sym g ∙ ap entry_of d in
         let here : k < length (entries_of e) = fixed-within (entries_of e) k z at in
         let bound : bindings_of t ≡ bound_more i z (bindings_of sc) = w ∙ ap (λ z. bound_more i z (bindings_of sc)) (back {z = z} b) in
@@ -187,7 +187,7 @@ module _ (e : Entries) (f : Few) (j : ℕ) where
           is = λ l known.
               ap (before (drop (k + 1) (numbers_of f)) (bound_of (drop (k + 1) (entries_of e))) (j - (k + 1)))
               (scope-bind known sc t i z bound room ∙ ap (λ y. bind_if i y (scope_of known sc)) (sym (ap (λ x. slot (entry_of x)) d)))
-              ∙ sym (step l here (scope_of known sc)) ∙ s.is l known;
+              ∙ sym (step i n l here (scope_of known sc)) ∙ s.is l known;
           count = rw (bound, more i z room) (omega (arith, s.count));
           small = λ p. small-bind sc t i z bound (small_at (entries_of e) k z p at) (s.small p);
         }

@@ -1,5 +1,5 @@
 -- Laws of the store's table: what it holds by name and element, and one datum more.
-use Rattle.std.specs.Prelude.{Option, Some, None}
+use Rattle.std.specs.Prelude.{Result, Err, Ok, Option, Some, None}
 use mathlib.Core.Path.{◌≡◌, refl, sym, ◌∙◌, ap, subst}
 use mathlib.Core.Bool.{Bool, true, false, cond, ◌&&◌}
 use mathlib.Core.List.{List, [], ◌∷◌, map}
@@ -17,8 +17,8 @@ use Rattle.language.specs.Evaluation.{is_none}
 use Rattle.language.specs.Store.{Store, stored, scope_of}
 use Rattle.language.specs.Valid.{SmallElement, ValidStore}
 use Rattle.language.proofs.ValidStore.{scope-valid}
-use Rattle.store.specs.declared.Insertion.{Insertion}
-use Rattle.store.specs.declared.Insertion.TheVariants.{Done, Present, NoRoom}
+use Rattle.store.specs.declared.InsertError.{InsertError}
+use Rattle.store.specs.declared.InsertError.TheVariants.{Present, NoRoom}
 use Rattle.store.specs.Key.{key_of}
 use Rattle.store.specs.Table.{has_room, Says, Inserted}
 use Rattle.store.specs.Packed.{packed}
@@ -27,7 +27,6 @@ use Rattle.store.proofs.Words.{unpacked-packed}
 use Rattle.store.proofs.Rows.{room-rows}
 use Rattle.store.proofs.Held.{holds-none, holds-answer, holds-insert}
 use Rattle.evaluator.specs.Tables.{value_in, Given}
-use Rattle.data.specs.declared.entering.Accepted.TheVariants as accepted
 use Rattle.data.specs.Stores.{row_of, Stores, entering, Enters}
 
 -- ---- elements
@@ -79,7 +78,7 @@ module _ (ds : List ℕ) (n : ℕ) (st : Store) (h : Stores ds n st) where
 
 -- ---- one datum more
 
-module _ (ds : List ℕ) (given i : ℕ) (e : List ℤ) (p : ℕ) (v : Value) (key word : ℕ) (r : Insertion) (ds' : List ℕ) (k : key ≡ key_of i e) (w : word ≡ packed v)
+module _ (ds : List ℕ) (given i : ℕ) (e : List ℤ) (p : ℕ) (v : Value) (key word : ℕ) (r : Result (Unit {0}) InsertError) (ds' : List ℕ) (k : key ≡ key_of i e) (w : word ≡ packed v)
     (f : Inserted ds given key word r ds') where
   -- what the answer says of the store
   says : (st : Store) → Stores ds given st → Keyed i e → Says r (word_of (map row_of st) i e) (has_room ds given)
@@ -88,7 +87,7 @@ module _ (ds : List ℕ) (given i : ℕ) (e : List ℤ) (p : ℕ) (v : Value) (k
   unset : (st : Store) → Stores ds given st → word_of (map row_of st) i e ≡ None → is_none (stored st i e) ≡ true
   unset st h o = ap is_none (stored-word st h.valid i e ∙ ap value_in o)
 
-  pub enter-present : r ≡ Present → Enters ds given i e p v (accepted.Refused Missing p) ds'
+  pub enter-present : r ≡ Err Present → Enters ds given i e p v (Err (record { refusal = Missing; place = p })) ds'
   unfolding entering
   enter-present d =
       record {
@@ -102,7 +101,7 @@ module _ (ds : List ℕ) (given i : ℕ) (e : List ℤ) (p : ℕ) (v : Value) (k
     unfolding data_limit
     room st h b o = ap (λ n. ltb n 2048) (stores-count ds given st h) ∙ sym (room-rows ds given 2048 size) ∙ o
 
-    pub enter-full : r ≡ NoRoom → Enters ds given i e p v (accepted.Refused Full p) ds'
+    pub enter-full : r ≡ Err NoRoom → Enters ds given i e p v (Err (record { refusal = Full; place = p })) ds'
     unfolding entering
     enter-full d =
         record {
@@ -111,7 +110,7 @@ module _ (ds : List ℕ) (given i : ℕ) (e : List ℤ) (p : ℕ) (v : Value) (k
               rw (unset st h o, room st h false q) (refl, refl);
         }
 
-    pub enter-done : (c : ℕ) → r ≡ Done → c ≡ cond (ltb given data_limit) (given + 1) given → Enters ds given i e p v (accepted.Count c) ds'
+    pub enter-done : (c : ℕ) → r ≡ Ok tt → c ≡ cond (ltb given data_limit) (given + 1) given → Enters ds given i e p v (Ok c) ds'
     unfolding entering
     enter-done c d g =
         record {

@@ -1,5 +1,6 @@
 -- A portion carried out from one of its positions on.
-use Rattle.std.specs.Prelude.{List, ℕ, ◌+◌, ◌≤◌, get_or, drop}
+use Rattle.std.specs.Prelude.{Result, List, ℕ, ◌+◌, ◌≤◌, get_or, drop}
+use Rattle.rules.specs.declared.Refused.{Refused}
 use Rattle.rules.specs.Limits.{run_limit}
 use Rattle.language.specs.Ranges.{up_from}
 use Rattle.language.specs.Evaluation.{length_of}
@@ -11,7 +12,6 @@ use Rattle.evaluator.specs.Steps.Values.{limits_in, SmallLimits}
 use Rattle.data.specs.declared.reading.entries.Entries.{Entries}
 use Rattle.data.specs.Reading.Few.{numbers_of}
 use Rattle.data.specs.Reading.Entries.{entries_of}
-use Rattle.data.specs.declared.entering.Taken.{Taken}
 use Rattle.data.specs.declared.running.Portion.{Portion as Worked}
 use Rattle.data.specs.Stores.{Stores}
 use Rattle.data.specs.Running.{Carries}
@@ -21,7 +21,7 @@ use Rattle.data.specs.Taking.{TakenIs}
 abbrev pub left : Worked → ℕ → List ℕ
 left h k = drop k (numbers_of h.order)
 
-pub record RunsTo (ns ts ds : List ℕ) (given at : ℕ) (h : Worked) (k : ℕ) (e : Entries) (r : Taken) (ds' : List ℕ) : Type 0 where
+pub record RunsTo (ns ts ds : List ℕ) (given at : ℕ) (h : Worked) (k : ℕ) (e : Entries) (r : Result (ℕ × ℕ) Refused) (ds' : List ℕ) : Type 0 where
   pub is : (s : List ℕ) (x : Portion) → Carries s ns ts h e x → (st : Store) → Stores ds given st
       → TakenIs (runs x (left h k) (bound_of (entries_of e)) st (from s ts at)) s ts ds' r
 
@@ -31,6 +31,6 @@ pub record Counts (l : Limits) (n : ℕ) : Type 0 where
   pub within : n ≤ length_of (limits_in l)
   pub short : n ≤ run_limit
 
-pub record EachTo (ns ts ds : List ℕ) (given at : ℕ) (h : Worked) (k : ℕ) (e : Entries) (l : Limits) (n : ℕ) (r : Taken) (ds' : List ℕ) : Type 0 where
+pub record EachTo (ns ts ds : List ℕ) (given at : ℕ) (h : Worked) (k : ℕ) (e : Entries) (l : Limits) (n : ℕ) (r : Result (ℕ × ℕ) Refused) (ds' : List ℕ) : Type 0 where
   pub is : (s : List ℕ) (x : Portion) → Carries s ns ts h e x → Counts l n → (st : Store) → Stores ds given st
       → TakenIs (each_read (λ z st. runs x (left h (k + 1)) (set_at (get_or (numbers_of h.order) k 0) z (bound_of (entries_of e))) st) (up_from l.lower n) st (from s ts at)) s ts ds' r

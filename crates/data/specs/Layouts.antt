@@ -1,17 +1,15 @@
 -- A declared domain laid out.
-use Rattle.std.specs.Prelude.{◌≡◌, List, [], ◌∷◌, ℕ, ◌<◌, ◌≤◌, length, take, get_or}
+use Rattle.std.specs.Prelude.{None, Ok, Option, Some, ◌≡◌, List, [], ◌∷◌, ℕ, ◌<◌, ◌≤◌, length, take, get_or}
+use Rattle.tokens.specs.declared.Seen.{Seen}
 use Rattle.lexer.specs.Text.{Token}
 use Rattle.language.specs.Syntax.{Name, Formula, Spans, point}
 use Rattle.language.specs.Syntax
-use Rattle.tokens.specs.declared.Seen.TheVariants as seen
 use Rattle.tokens.specs.Stored.{token, from, size, Sees, Named}
 use Rattle.onepass.specs.Walk.{name_number}
 use Rattle.onepass.specs.Entries.{ReadsEntry, ReadsSpans}
 use Rattle.evaluator.specs.Steps.Names.{index_number}
 use Rattle.evaluator.specs.Ground.{Ground}
 use Rattle.data.specs.Reading.Few.{numbers_of}
-use Rattle.data.specs.declared.layouts.Span.{Span}
-use Rattle.data.specs.declared.layouts.Span.TheVariants as passed
 use Rattle.data.specs.declared.layouts.Layout.{Layout}
 
 -- ---- a domain laid out
@@ -31,13 +29,13 @@ LaidBy names s ts d r = Laid names s ts d (numbers_of r.starts) (numbers_of r.in
 -- the first `level` names are those of the rows ns, and tokens hold their numbers
 pub record Sight (s ns ts : List ℕ) (level : ℕ) (names : List Name) : Type 0 where
   pub visible : Named s ns (take level names)
-  pub number : (at k p x a : ℕ) → Sees s ts at (seen.Token k p x a) → name_number (take level names) (token s k p x).kind ≡ index_number level (get_or ts at 0)
+  pub number : (at : ℕ) (w : Seen) → Sees s ts at (Ok w) → name_number (take level names) (token s w.kind w.place w.payload).kind ≡ index_number level (get_or ts at 0)
 
-abbrev pub SpanIs : List ℕ → List ℕ → Span → ℕ → List Token → Type 0
-SpanIs s ts (passed.Of j a) i m = (j ≡ i) × (from s ts a ≡ m)
-SpanIs s ts passed.Nothing i m = ⊥
+abbrev pub SpanIs : List ℕ → List ℕ → Option (ℕ × ℕ) → ℕ → List Token → Type 0
+SpanIs s ts (Some (j, a)) i m = (j ≡ i) × (from s ts a ≡ m)
+SpanIs s ts None i m = ⊥
 
-pub record Passes (s ns ts : List ℕ) (level at : ℕ) (r : Span) : Type 0 where
+pub record Passes (s ns ts : List ℕ) (level at : ℕ) (r : Option (ℕ × ℕ)) : Type 0 where
   pub is : (names : List Name) → Sight s ns ts level names → (i : ℕ) (f g : Formula) (q : ℕ) (m : List Token) → ReadsEntry (take level names) i f g q (from s ts at) m → SpanIs s ts r i m
 
 pub record LaysOut (s ns ts : List ℕ) (level at n : ℕ) (r : Layout) : Type 0 where

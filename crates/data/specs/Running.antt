@@ -1,5 +1,7 @@
 -- The positions of a portion that run.
-use Rattle.std.specs.Prelude.{◌≡◌, List, [], ◌∷◌, ℕ, zero, suc, ◌<◌, ◌≤◌, length, take, ℤ, Option, Some, None}
+use Rattle.std.specs.Prelude.{Err, Ok, Result, ◌≡◌, List, [], ◌∷◌, ℕ, zero, suc, ◌<◌, ◌≤◌, length, take, ℤ, Option, Some, None}
+use Rattle.rules.specs.declared.Refused.{Refused}
+use Rattle.evaluator.specs.declared.steps.values.Limits.{Limits}
 use Rattle.rules.specs.Limits.{run_limit}
 use Rattle.value.specs.declared.Value.{Value}
 use Rattle.language.specs.Outcome.{Outcome, done, refused}
@@ -23,8 +25,6 @@ use Rattle.data.specs.declared.reading.entries.Entries.{Entries}
 use Rattle.data.specs.Reading.Few.{numbers_of}
 use Rattle.data.specs.Reading.Entries.{entries_of}
 use Rattle.data.specs.declared.running.Portion.{Portion as Worked}
-use Rattle.data.specs.declared.running.Run.{Run}
-use Rattle.data.specs.declared.running.Run.TheVariants as run
 use Rattle.data.specs.Stores.{Stores}
 use Rattle.evaluator.specs.Ground.{Ground}
 use Rattle.data.specs.Layouts.{LaidBy}
@@ -68,19 +68,19 @@ pub record Carries (s ns ts : List ℕ) (h : Worked) (e : Entries) (x : Portion)
 
 -- ---- runs
 
-abbrev pub run_outcome : Run → Outcome (List ℤ)
-run_outcome (run.Of l n) = done (up_from l.lower n)
-run_outcome (run.Refused r p) = refused r p
+abbrev pub run_outcome : Result (Limits × ℕ) Refused → Outcome (List ℤ)
+run_outcome (Ok (l, n)) = done (up_from l.lower n)
+run_outcome (Err e) = refused e.refusal e.place
 
 -- what is known of a run's numbers
-abbrev pub ShortRun : Run → Type 0
-ShortRun (run.Of l n) = SmallLimits l × (n ≤ length_of (limits_in l)) × (n ≤ run_limit)
-ShortRun (run.Refused r p) = Unit {0}
+abbrev pub ShortRun : Result (Limits × ℕ) Refused → Type 0
+ShortRun (Ok (l, n)) = SmallLimits l × (n ≤ length_of (limits_in l)) × (n ≤ run_limit)
+ShortRun (Err e) = Unit {0}
 
-pub record RunsFrom (sc : Held) (b : Bounds) (r : Run) : Type 0 where
+pub record RunsFrom (sc : Held) (b : Bounds) (r : Result (Limits × ℕ) Refused) : Type 0 where
   pub is : SmallLimits b.limits → (known : ℕ → List ℤ → Option Value) → run_of (limits_in b.limits) b.number (scope_of known sc) b.place ≡ run_outcome r
   pub short : SmallLimits b.limits → ShortRun r
 
-pub record PositionRuns (ns ts ds : List ℕ) (given : ℕ) (h : Worked) (e : Entries) (j : ℕ) (r : Run) : Type 0 where
+pub record PositionRuns (ns ts ds : List ℕ) (given : ℕ) (h : Worked) (e : Entries) (j : ℕ) (r : Result (Limits × ℕ) Refused) : Type 0 where
   pub is : (s : List ℕ) (x : Portion) → Carries s ns ts h e x → (st : Store) → Stores ds given st → position_run x.domain (bound_of (entries_of e)) j (Store.scope_of st) ≡ run_outcome r
   pub short : (s : List ℕ) (x : Portion) → Carries s ns ts h e x → (st : Store) → Stores ds given st → ShortRun r

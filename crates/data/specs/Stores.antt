@@ -1,5 +1,6 @@
 -- The store as a table of rows, and a number's row in it.
-use Rattle.std.specs.Prelude.{◌≡◌, List, ◌∷◌, map, ℕ, ltb, length, ℤ}
+use Rattle.std.specs.Prelude.{Err, Ok, Result, ◌≡◌, List, ◌∷◌, map, ℕ, ltb, length, ℤ}
+use Rattle.rules.specs.declared.Refused.{Refused}
 use Rattle.rules.specs.declared.Refusal.TheVariants.{Missing, Full}
 use Rattle.rules.specs.Limits.{data_limit}
 use Rattle.value.specs.declared.Value.{Value}
@@ -10,8 +11,6 @@ use Rattle.language.specs.Store.{Datum, Store, stored}
 use Rattle.language.specs.Valid.{ValidStore}
 use Rattle.store.specs.Packed.{packed}
 use Rattle.store.specs.Entries.{Keyed, Entry, Holds}
-use Rattle.data.specs.declared.entering.Accepted.{Accepted}
-use Rattle.data.specs.declared.entering.Accepted.TheVariants as accepted
 
 -- a datum's row
 abbrev pub row_of : Datum → Entry
@@ -23,11 +22,11 @@ pub record Stores (ds : List ℕ) (n : ℕ) (st : Store) : Type 0 where
   pub valid : ValidStore st
 
 -- the same refusal, or a table that holds the store
-abbrev pub StoreIs : Outcome Store → List ℕ → Accepted → Type 0
-StoreIs (done st) ds (accepted.Count n) = Stores ds n st
-StoreIs (done st) ds (accepted.Refused r p) = ⊥
-StoreIs (refused r q) ds (accepted.Count n) = ⊥
-StoreIs (refused r q) ds (accepted.Refused r' p) = (r ≡ r') × (q ≡ p)
+abbrev pub StoreIs : Outcome Store → List ℕ → Result ℕ Refused → Type 0
+StoreIs (done st) ds (Ok n) = Stores ds n st
+StoreIs (done st) ds (Err e) = ⊥
+StoreIs (refused r q) ds (Ok n) = ⊥
+StoreIs (refused r q) ds (Err e) = (r ≡ e.refusal) × (q ≡ e.place)
 
 -- a new datum: 10 at its sign p if it is given twice, 6 if there are too many
 unfoldable pub entering : ℕ → List ℤ → ℕ → Value → Store → Outcome Store
@@ -36,5 +35,5 @@ entering i e p v st = do
   _ ← check Full p (ltb (length st) data_limit)
   done (record { name = i; element = e; value = v } ∷ st)
 
-pub record Enters (ds : List ℕ) (given i : ℕ) (e : List ℤ) (p : ℕ) (v : Value) (r : Accepted) (ds' : List ℕ) : Type 0 where
+pub record Enters (ds : List ℕ) (given i : ℕ) (e : List ℤ) (p : ℕ) (v : Value) (r : Result ℕ Refused) (ds' : List ℕ) : Type 0 where
   pub is : (st : Store) → Stores ds given st → Keyed i e → Valid v → StoreIs (entering i e p v st) ds' r

@@ -2,99 +2,89 @@
 ghost use Rattle.language.specs.Data.{portion_of};
 ghost use Rattle.data.specs.Reading.Lists.{Heads};
 ghost use Rattle.data.specs.Portions.{head_for, CarriesOut, Uses, Fills};
+ghost use Rattle.tokens.specs.Text.{In};
 
-use super::entering::Taken;
 use super::reading::entries::Entries;
 use super::reading::few::Few;
 use super::reading::heads::Plan;
 use super::running::Portion;
 use super::{layouts, running};
-use tokens::{Known, sorts};
+use rules::{Refused, refused};
+use tokens::{Known, Text, sorts};
 
 // The head of a portion whose name stands at `place` and has `count` indices; without indices there is none.
-fn head_of(text: &[u8], names: &[u64], tokens: &[u64], at: usize, place: u64, count: usize) -> Plan
-    ensures { Heads (head_for place count) text.now names.now tokens.now at count result }
+fn head_of(text: Text<'_>, at: usize, place: u64, count: usize) -> Result<Plan, Refused>
+    ensures { In (Heads (head_for place count)) text.entry at count result }
 {
     if count == 0 {
-        return Plan::Runs(Few::none(), Entries::none(), at);
+        return Ok(Plan {
+            runs: Few::none(),
+            entries: Entries::none(),
+            next: at,
+        });
     }
-    super::reading::heads::head(text, names, tokens, at, place, count)
+    super::reading::heads::head(text, at, place, count)
 }
 
-// The head and the numbers of a portion: its name's number and place, how many indices it has, whether it is an integer.
+// The head and the numbers of a portion behind its name; whether the name is an integer.
 fn carry_out(
-    text: &[u8],
-    names: &[u64],
-    tokens: &[u64],
+    text: Text<'_>,
     table: &mut [u64; 8192],
     given: usize,
-    at: usize,
-    name: usize,
-    count: u64,
-    place: u64,
+    name: Known,
     whole: bool,
-) -> Taken
-    ensures { CarriesOut text.now names.now tokens.now table.old given at name count place whole result table.new }
+) -> Result<(usize, usize), Refused>
+    ensures { In CarriesOut text.entry table.old given name.next name.number name.count name.place whole result table.new }
 {
-    let head = head_of(text, names, tokens, at, place, count as usize);
-    match head {
-        Plan::Runs(order, entries, a) => {
-            let start = evaluator::steps::names::word_of(names, name, 4) as usize;
-            let layout = layouts::layout_of(text, names, tokens, name, start, count);
-            let x = Portion {
-                name,
-                place,
-                whole,
-                start,
-                layout,
-                order,
-            };
-            running::runs(names, tokens, table, given, a, x, 0, entries)
-        }
-        Plan::Refused(n, q) => Taken::Refused(n, q),
-    }
+    let count = name.count as usize;
+    let head = head_of(text, name.next, name.place, count)?;
+    let start = evaluator::steps::names::word_of(text.names, name.number, 4) as usize;
+    let layout = layouts::layout_of(text, name.number, start, name.count);
+    let portion = Portion {
+        name: name.number,
+        place: name.place,
+        whole,
+        start,
+        layout,
+        order: head.runs,
+    };
+    running::runs(
+        text.names,
+        text.tokens,
+        table,
+        given,
+        head.next,
+        portion,
+        0,
+        head.entries,
+    )
 }
 
 // The portion of a name that was read: an integer or a real.
 fn of_name(
-    text: &[u8],
-    names: &[u64],
-    tokens: &[u64],
+    text: Text<'_>,
     table: &mut [u64; 8192],
     given: usize,
-    at: usize,
-    name: usize,
-    sort: u64,
-    count: u64,
-    place: u64,
-) -> Taken
-    ensures { Uses text.now names.now tokens.now table.old given at name sort count place result table.new }
+    name: Known,
+) -> Result<(usize, usize), Refused>
+    ensures { In Uses text.entry table.old given name.next name.number name.sort name.count name.place result table.new }
 {
-    let whole = sort == sorts::INTEGER;
-    if whole | (sort == sorts::REAL) {
-        return carry_out(
-            text, names, tokens, table, given, at, name, count, place, whole,
-        );
+    let whole = name.sort == sorts::INTEGER;
+    if whole | (name.sort == sorts::REAL) {
+        return carry_out(text, table, given, name, whole);
     }
-    Taken::Refused(rules::Refusal::Misplaced, place)
+    refused!(Misplaced, name.place)
 }
 
 // The portion at a position.
 pub fn portion(
-    text: &[u8],
-    names: &[u64],
-    tokens: &[u64],
+    text: Text<'_>,
     table: &mut [u64; 8192],
     given: usize,
     at: usize,
-) -> Taken
-    ensures { Fills portion_of text.now names.now tokens.now table.old given at result table.new }
+) -> Result<(usize, usize), Refused>
+    ensures { In (Fills portion_of) text.entry table.old given at result table.new }
 {
-    let name = tokens::known_name(text, names, tokens, at);
-    match name {
-        Known::Name(i, sort, count, p, a) => {
-            of_name(text, names, tokens, table, given, a, i, sort, count, p)
-        }
-        Known::Refused(n, q) => Taken::Refused(n, q),
-    }
+    let name = tokens::known_name(text, at)?;
+    of_name(text, table, given, name)
 }

@@ -5,25 +5,13 @@ ghost use Rattle.store.specs.Element.{list_of};
 ghost use Rattle.data.specs.Stores.{Enters};
 ghost use Rattle.data.specs.Taking.{Suits, Accepts, Takes};
 
+use super::reading::numbers;
 use super::reading::numbers::Numbered;
 use super::running::Portion;
-use evaluator::Passed;
-use store::{Element, Insertion};
+use evaluator::Stored;
+use rules::{Refused, refused};
+use store::{Element, InsertError};
 use value::Value;
-
-// How many data elements there are now, or a refusal.
-#[derive(Clone, Copy)]
-pub enum Accepted {
-    Count(usize),
-    Refused(rules::Refusal, u64),
-}
-
-// The position behind what was read and how many data elements there are, or a refusal.
-#[derive(Clone, Copy)]
-pub enum Taken {
-    At(usize, usize),
-    Refused(rules::Refusal, u64),
-}
 
 // One more, up to the limit.
 fn one_more(n: usize) -> usize
@@ -43,15 +31,15 @@ fn enter(
     e: Element,
     p: u64,
     v: Value,
-) -> Accepted
+) -> Result<usize, Refused>
     ensures { Enters table.old given name (list_of e) p v result table.new }
 {
     let key = store::key_of(name, e);
     let word = store::pack(v);
     match store::insert(table, given, key, word) {
-        Insertion::Done => Accepted::Count(one_more(given)),
-        Insertion::Present => Accepted::Refused(rules::Refusal::Missing, p),
-        Insertion::NoRoom => Accepted::Refused(rules::Refusal::Full, p),
+        Ok(()) => Ok(one_more(given)),
+        Err(InsertError::Present) => refused!(Missing, p),
+        Err(InsertError::NoRoom) => refused!(Full, p),
     }
 }
 
@@ -62,13 +50,10 @@ fn suits(whole: bool, v: Value) -> bool
     if !whole {
         return true;
     }
-    match value::whole_of(v) {
-        Some(_) => true,
-        None => false,
-    }
+    value::whole_of(v).is_some()
 }
 
-// A number for the element e, whose sign stands at p: whole for an integer, inside the domain, given once.
+// A number for the element e: whole for an integer, inside the domain, given once.
 fn accept(
     names: &[u64],
     tokens: &[u64],
@@ -76,19 +61,21 @@ fn accept(
     given: usize,
     x: Portion,
     e: Element,
-    p: u64,
-    v: Value,
-) -> Accepted
-    ensures { Accepts names.now tokens.now table.old given x e p v result table.new }
+    number: Numbered,
+) -> Result<usize, Refused>
+    ensures { Accepts names.now tokens.now table.old given x e number.place number.value result table.new }
 {
-    if !suits(x.whole, v) {
-        return Accepted::Refused(rules::Refusal::NotWhole, p);
+    if !suits(x.whole, number.value) {
+        return refused!(NotWhole, number.place);
     }
-    let test = evaluator::within(names, tokens, table, given, x.name, x.start, e, x.place);
-    match test {
-        Passed::Inside => enter(table, given, x.name, e, p, v),
-        Passed::Refused(n, q) => Accepted::Refused(n, q),
-    }
+    let stored = Stored {
+        names,
+        tokens,
+        table,
+        given,
+    };
+    evaluator::within(stored, x.name, x.start, e, x.place)?;
+    enter(table, given, x.name, e, number.place, number.value)
 }
 
 // The number at a position, for the element e.
@@ -100,18 +87,10 @@ pub fn take(
     at: usize,
     x: Portion,
     e: Element,
-) -> Taken
+) -> Result<(usize, usize), Refused>
     ensures { Takes names.now tokens.now table.old given at x e result table.new }
 {
-    let number = super::reading::numbers::number(tokens, at);
-    match number {
-        Numbered::Of(v, p, a) => {
-            let done = accept(names, tokens, table, given, x, e, p, v);
-            match done {
-                Accepted::Count(n) => Taken::At(a, n),
-                Accepted::Refused(n, q) => Taken::Refused(n, q),
-            }
-        }
-        Numbered::Refused(n, q) => Taken::Refused(n, q),
-    }
+    let number = numbers::number(tokens, at)?;
+    let count = accept(names, tokens, table, given, x, e, number)?;
+    Ok((number.next, count))
 }

@@ -1,17 +1,11 @@
 // A declared domain laid out: where each of its entries begins, and its index. So the limits of any position can be read by
 // themselves.
 ghost use Rattle.data.specs.Layouts.{Passes, LaysOut, Lays};
+ghost use Rattle.tokens.specs.Text.{In};
 
 use super::reading::few::Few;
 use lexer::marks;
-use tokens::{Move, Seen};
-
-// An index's number, and the position behind its entry and the sign after it.
-#[derive(Clone, Copy)]
-enum Span {
-    Of(usize, usize),
-    Nothing,
-}
+use tokens::Text;
 
 #[derive(Clone, Copy)]
 pub struct Layout {
@@ -20,32 +14,24 @@ pub struct Layout {
 }
 
 // Lower formula `<=` index `<=` upper formula, and the sign behind it, passed over with the names before the declared one.
-fn pass_entry(text: &[u8], names: &[u64], tokens: &[u64], level: usize, at: usize) -> Span
-    ensures { Passes text.now names.now tokens.now level at result }
+fn pass_entry(text: Text<'_>, level: usize, at: usize) -> Option<(usize, usize)>
+    ensures { In Passes text.entry level at result }
 {
-    let lower = formulas::part(
-        text,
-        names,
-        tokens,
-        at,
-        rules::NESTING_LIMIT,
-        marks::AT_MOST,
-    );
-    let Move::At(a) = lower else {
-        return Span::Nothing;
+    let lower = formulas::part(text, at, rules::NESTING_LIMIT, marks::AT_MOST);
+    let Ok(index) = lower else {
+        return None;
     };
-    let token = tokens::token_at(tokens, a);
-    let Seen::Token(k, p, x, b) = token else {
-        return Span::Nothing;
+    let Ok(token) = tokens::token_at(text.tokens, index) else {
+        return None;
     };
-    let i = evaluator::steps::names::index_number(tokens, level, a);
-    let c = evaluator::steps::passing::skip(tokens, b);
-    let upper = formulas::inside(text, names, tokens, c, rules::NESTING_LIMIT);
-    let Move::At(d) = upper else {
-        return Span::Nothing;
+    let i = evaluator::steps::names::index_number(text.tokens, level, index);
+    let sign = evaluator::steps::passing::skip(text.tokens, token.next);
+    let upper = formulas::inside(text, sign, rules::NESTING_LIMIT);
+    let Ok(end) = upper else {
+        return None;
     };
-    let next = evaluator::steps::passing::skip(tokens, d);
-    Span::Of(i, next)
+    let next = evaluator::steps::passing::skip(text.tokens, end);
+    Some((i, next))
 }
 
 fn no_layout() -> Layout {
@@ -55,47 +41,34 @@ fn no_layout() -> Layout {
 }
 
 // The entries of a domain of `count` indices, with the names before the declared one.
-fn lay_out(
-    text: &[u8],
-    names: &[u64],
-    tokens: &[u64],
-    level: usize,
-    at: usize,
-    count: u64,
-) -> Layout
-    ensures { LaysOut text.now names.now tokens.now level at count result }
+fn lay_out(text: Text<'_>, level: usize, at: usize, count: u64) -> Layout
+    ensures { In LaysOut text.entry level at count result }
 {
     let mut starts = Few::none();
     let mut indices = Few::none();
     let mut a = at;
-    let mut left = count;
-    while 0 < left {
-        let span = pass_entry(text, names, tokens, level, a);
-        let Span::Of(i, b) = span else {
+    for _ in 0..count {
+        let Some((i, next)) = pass_entry(text, level, a) else {
             return no_layout();
         };
         starts = starts.with(a);
         indices = indices.with(i);
-        a = b;
-        left -= 1;
+        a = next;
     }
     Layout { starts, indices }
 }
 
 // The same with all names, of which the first `level` stand before the declared one.
-pub fn layout_of(
-    text: &[u8],
-    names: &[u64],
-    tokens: &[u64],
-    level: usize,
-    at: usize,
-    count: u64,
-) -> Layout
-    ensures { Lays text.now names.now tokens.now level at count result }
+pub fn layout_of(text: Text<'_>, level: usize, at: usize, count: u64) -> Layout
+    ensures { In Lays text.entry level at count result }
 {
-    if names.len() / 5 < level {
+    if text.names.len() / 5 < level {
         return no_layout();
     }
     let n = level * 5;
-    lay_out(text, &names[..n], tokens, level, at, count)
+    let earlier = Text {
+        names: &text.names[..n],
+        ..text
+    };
+    lay_out(earlier, level, at, count)
 }

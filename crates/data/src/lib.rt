@@ -9,31 +9,29 @@ mod running;
 mod sections;
 
 ghost use Rattle.data.specs.Sections.{ReadsData};
+ghost use Rattle.tokens.specs.Text.{In};
 
-use sections::Section;
-use tokens::Move;
+use rules::Refused;
+use tokens::Text;
 
 // The place of the data section's title and the number of its bytes, 0 where there is no data section; and how many data
 // elements there are. Or a refusal.
 #[derive(Clone, Copy)]
-pub enum Given {
-    Of(u64, u64, usize),
-    Refused(rules::Refusal, u64),
+pub struct Given {
+    pub place: u64,
+    pub length: u64,
+    pub count: usize,
 }
 
 // At most one data section, `CLOSE` and the text's end. The store starts empty.
-pub fn read(text: &[u8], names: &[u64], tokens: &[u64], table: &mut [u64; 8192], at: usize) -> Given
-    ensures { ReadsData text.now names.now tokens.now at result table.new }
+pub fn read(text: Text<'_>, table: &mut [u64; 8192], at: usize) -> Result<Given, Refused>
+    ensures { In ReadsData text.entry at result table.new }
 {
-    let data = sections::optional_section(text, names, tokens, table, at);
-    match data {
-        Section::Of(p, n, count, a) => {
-            let end = reading::ends::end(tokens, a);
-            match end {
-                Move::At(b) => Given::Of(p, n, count),
-                Move::Refused(m, q) => Given::Refused(m, q),
-            }
-        }
-        Section::Refused(m, q) => Given::Refused(m, q),
-    }
+    let section = sections::optional_section(text, table, at)?;
+    reading::ends::end(text.tokens, section.next)?;
+    Ok(Given {
+        place: section.place,
+        length: section.length,
+        count: section.count,
+    })
 }

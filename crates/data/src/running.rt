@@ -4,18 +4,19 @@ ghost use Rattle.language.specs.Data.{bound_of};
 ghost use Rattle.language.specs.Store.{element_of};
 ghost use Rattle.data.specs.Reading.Entries.{entries_of};
 ghost use Rattle.store.specs.Element.{list_of};
-ghost use Rattle.data.specs.Running.{Before, RunsFrom, PositionRuns};
+ghost use Rattle.data.specs.Running.{Before, PositionRuns};
 ghost use Rattle.data.specs.Carrying.{RunsTo, EachTo};
+ghost use Rattle.evaluator.specs.Context.{Over};
 
-use super::entering::Taken;
 use super::layouts::Layout;
 use super::reading::entries::{Entries, Entry};
 use super::reading::few::Few;
 use evaluator::steps::scope::Scope;
-use evaluator::steps::values::{Bounds, Limits, Runs};
-use evaluator::{Context, Entered};
+use evaluator::steps::values;
+use evaluator::steps::values::Limits;
+use evaluator::{Context, Stored};
+use rules::Refused;
 use store::Element;
-use tokens::Seen;
 
 // A portion: its name's number and place, whether it is an integer, its declared domain, and the positions that run, the
 // outermost first.
@@ -29,31 +30,17 @@ pub struct Portion {
     pub order: Few,
 }
 
-// A run's limits, and how many numbers it has.
-#[derive(Clone, Copy)]
-pub enum Run {
-    Of(Limits, usize),
-    Refused(rules::Refusal, u64),
-}
-
 // The element, once all positions are bound.
 fn element(bound: Entries) -> Element
     ensures { list_of result ≡ element_of (bound_of (entries_of bound)) }
 {
-    let n = bound.length();
     let mut e = Element::none();
-    let mut k = 0;
-    while k < n {
-        let entry = bound.at(k);
-        k += 1;
-        match entry {
-            Entry::Fixed(z) => {
-                e = e.with(z);
-            }
-            Entry::Marked(_) => {
-                e = e.with(0);
-            }
-        }
+    for k in 0..bound.length() {
+        let Entry::Fixed(z) = bound.at(k) else {
+            e = e.with(0);
+            continue;
+        };
+        e = e.with(z);
     }
     e
 }
@@ -63,60 +50,39 @@ fn scope_before(bound: Entries, indices: Few, j: usize) -> Scope
     ensures { Before bound indices j result }
 {
     let mut sc = Scope::none();
-    let mut k = 0;
-    while k < j {
-        let entry = bound.at(k);
-        let i = indices.at(k);
-        k += 1;
-        let Entry::Fixed(z) = entry else {
+    for k in 0..j {
+        let Entry::Fixed(z) = bound.at(k) else {
             continue;
         };
-        sc = sc.bind(i, z);
+        sc = sc.bind(indices.at(k), z);
     }
     sc
 }
 
-// The run of a domain's entry.
-fn run_of(sc: Scope, b: Bounds) -> Run
-    ensures { RunsFrom sc b result }
-{
-    let l = b.limits;
-    let run = evaluator::steps::values::run(sc, l, b.number, b.place);
-    match run {
-        Runs::Count(n) => Run::Of(l, n),
-        Runs::Refused(n, p) => Run::Refused(n, p),
-    }
-}
-
 // The run of position j: its own declared limits, which see the earlier positions that are bound by now.
 fn position_run(
-    names: &[u64],
-    tokens: &[u64],
-    table: &[u64],
-    given: usize,
+    stored: Stored<'_>,
     x: Portion,
     bound: Entries,
     j: usize,
-) -> Run
-    ensures { PositionRuns names.now tokens.now table.now given x bound j result }
+) -> Result<(Limits, usize), Refused>
+    ensures { Over PositionRuns stored.entry x bound j result }
 {
     let layout = x.layout;
     let starts = layout.starts;
     if starts.length() <= j {
-        return Run::Of(Limits { lower: 1, upper: 0 }, 0);
+        return Ok((Limits { lower: 1, upper: 0 }, 0));
     }
     let scope = scope_before(bound, layout.indices, j);
     let cx = Context {
-        given,
+        stored,
         level: x.name,
         nest: rules::NESTING_LIMIT,
         scope,
     };
-    let entry = evaluator::entry(names, tokens, table, cx, starts.at(j));
-    match entry {
-        Entered::Bounds(b, a) => run_of(scope, b),
-        Entered::Refused(n, p) => Run::Refused(n, p),
-    }
+    let (bounds, _) = evaluator::entry(&cx, starts.at(j))?;
+    let n = values::run(scope, bounds.limits, bounds.number, bounds.place)?;
+    Ok((bounds.limits, n))
 }
 
 // The positions from the k-th of the order on run; each run takes one number.
@@ -130,7 +96,7 @@ pub fn runs(
     x: Portion,
     k: usize,
     bound: Entries,
-) -> Taken
+) -> Result<(usize, usize), Refused>
     ensures { RunsTo names.now tokens.now table.old given at x k bound result table.new }
 {
     let order = x.order;
@@ -138,18 +104,15 @@ pub fn runs(
         let e = element(bound);
         return super::entering::take(names, tokens, table, given, at, x, e);
     }
-    let token = tokens::token_at(tokens, at);
-    match token {
-        Seen::Token(c, p, y, next) => {
-            let j = order.at(k);
-            let run = position_run(names, tokens, table, given, x, bound, j);
-            match run {
-                Run::Of(l, n) => each(names, tokens, table, given, at, x, k, bound, l, n),
-                Run::Refused(m, q) => Taken::Refused(m, q),
-            }
-        }
-        Seen::Refused(m, q) => Taken::Refused(m, q),
-    }
+    tokens::token_at(tokens, at)?;
+    let stored = Stored {
+        names,
+        tokens,
+        table,
+        given,
+    };
+    let (l, n) = position_run(stored, x, bound, order.at(k))?;
+    each(names, tokens, table, given, at, x, k, bound, l, n)
 }
 
 // The later positions for each of the n numbers of the run of the k-th position.
@@ -165,7 +128,7 @@ fn each(
     bound: Entries,
     l: Limits,
     n: usize,
-) -> Taken
+) -> Result<(usize, usize), Refused>
     requires { k < 4 }
     ensures { EachTo names.now tokens.now table.old given at x k bound l n result table.new }
 {
@@ -173,17 +136,12 @@ fn each(
     let j = order.at(k);
     let mut a = at;
     let mut count = given;
-    let mut i = 0;
-    while i < n {
-        let z = evaluator::steps::values::nth_number(l, i);
+    for i in 0..n {
+        let z = values::nth_number(l, i);
         let inner = bound.fix(j, z);
-        let r = runs(names, tokens, table, count, a, x, k + 1, inner);
-        let Taken::At(b, c) = r else {
-            return r;
-        };
-        a = b;
-        count = c;
-        i += 1;
+        let (next, more) = runs(names, tokens, table, count, a, x, k + 1, inner)?;
+        a = next;
+        count = more;
     }
-    Taken::At(a, count)
+    Ok((a, count))
 }

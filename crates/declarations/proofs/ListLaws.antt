@@ -1,14 +1,15 @@
 -- Laws of the lists of declarations and of the name table, over plain variables.
+use Rattle.std.specs.Prelude.{Err, Ok, Result}
+use Rattle.rules.specs.declared.Refused.{Refused}
 use mathlib.Core.Path.{◌≡◌, refl, sym, ◌∙◌, ap, subst}
 use mathlib.Core.Bool.{Bool, true, false}
 use mathlib.Core.List.{List, [], ◌∷◌, ◌++◌, append_assoc, append-nil}
 use Prim.Native.Nat.{ℕ, suc, ◌+◌, ◌*◌, ◌-◌, ◌/◌, ◌<◌, ◌≤◌}
 use native.Mathlib.Omega.{arith}
 use lib.Dec.{eqb}
-use lib.ListN.{length, take}
+use lib.ListN.{length}
 use lib.Seq.{length-take-le}
 use borrow.Author.Tests.{eq-eqb, ne_eqb}
-use Rattle.rules.specs.declared.Refusal.{Refusal}
 use Rattle.rules.specs.declared.Refusal.TheVariants.{Misplaced, Full}
 use Rattle.rules.specs.Limits.{token_limit}
 use Rattle.lexer.specs.Text.{Token}
@@ -17,16 +18,13 @@ use Rattle.language.specs.Outcome.{Outcome, done, refused}
 use Rattle.language.specs.Syntax.{Name, Sort}
 use Rattle.language.specs.Reader.{Reader, Read, follow, ◌>>=◌, give, next, look, is_mark, require, Titled}
 use Rattle.language.specs.Declarations.{new_name, entries_from, list_of, declarations}
-use Rattle.tokens.specs.declared.Move.TheVariants.{At, Refused}
 use Rattle.tokens.specs.declared.Seen.{Seen}
-use Rattle.tokens.specs.declared.Seen.TheVariants as seen
-use Rattle.tokens.specs.Stored.{spelling, from, Sees, Looks, Shaped, Named, rows_of, Put, Gives}
+use Rattle.tokens.specs.Stored.{spelling, from, Sees, Looks, Shaped, Named, rows_of, Put, Moves}
 use Rattle.tokens.proofs.Tables.{put-rows}
 use Rattle.tokens.proofs.Moved.{Got, got, stuck, follow-same, look_is, next-is, is-mark}
 use Rattle.declarations.specs.declared.Row.{Row}
-use Rattle.declarations.specs.declared.Listed.{Listed}
 use Rattle.declarations.specs.Readers.{separator_in, entry_in, One, row_in, entries_in, list_in, lists_in}
-use Rattle.declarations.specs.Tables.{Room, IsRow, RowedAt, Declares, Told, NamesAre, Listing, Lists, Declared}
+use Rattle.declarations.specs.Tables.{IsRow, RowedAt, Declares, Told, NamesAre, Listing, Lists, Declared}
 
 -- ---- one row more
 
@@ -124,49 +122,43 @@ pub record Reached (s ts : List ℕ) (k left : ℕ) (start : List Name) (at a : 
   pub are : NamesAre s ts ns names
   pub same : entries_in k token_limit start (from s ts at) ≡ entries_in k left names (from s ts a)
 
-pub record EntriesOn (s ts ns : List ℕ) (k count at left n a : ℕ) (ns' : List ℕ) : Type 0 where
+pub record EntriesOn (s ts ns : List ℕ) (k count at i n a : ℕ) (ns' : List ℕ) : Type 0 where
   pub size : length ns' ≡ length ns
   pub within : n ≤ 64
-  pub reached : (start : List Name) → NamesAre s ts (rows_of count ns) start → Reached s ts k left start at a (rows_of n ns')
+  pub reached : (start : List Name) → NamesAre s ts (rows_of count ns) start → Reached s ts k (4096 - i) start at a (rows_of n ns')
 
 module _ (s ts ns : List ℕ) (k count at : ℕ) where
-  pub entries-start : count ≤ 64 → EntriesOn s ts ns k count at 4096 count at ns
+  pub entries-start : count ≤ 64 → EntriesOn s ts ns k count at 0 count at ns
   unfolding token_limit
   entries-start h = record { size = refl; within = h; reached = λ start d. record { names = start; are = d; same = refl } }
 
   -- a refusal, whatever was written
-  refused-with : (n : ℕ) (ns' : List ℕ) (e : Refusal) (p : ℕ) → length ns' ≡ length ns → n ≤ 64 → ((start : List Name) → NamesAre s ts (rows_of count ns) start → entries_in k token_limit start (from s ts at) ≡ refused e p)
-      → Lists (entries_in k token_limit) s ts ns count at (record { count = n; end = Refused e p }) ns'
-  refused-with n ns' e p z w g =
-      record { size = z; within = w; lists = λ start d. subst (λ o. Listing o s ts (Refused e p) (rows_of n ns')) (sym (g start d)) (refl, refl) }
+  refused-with : (ns' : List ℕ) (w : Refused) → length ns' ≡ length ns → ((start : List Name) → NamesAre s ts (rows_of count ns) start → entries_in k token_limit start (from s ts at) ≡ refused w.refusal w.place)
+      → Lists (entries_in k token_limit) s ts ns count at (Err w) ns'
+  refused-with ns' y z g = record { size = z; within = tt; lists = λ start d. subst (λ o. Listing o s ts (Err y) ns') (sym (g start d)) (refl, refl) }
 
-  module _ (left n a : ℕ) (ns' : List ℕ) (o : EntriesOn s ts ns k count at left n a ns') where
-    -- the filled part of the table
-    pub entries-part : 320 ≤ length ns → n * 5 ≡ length (take (n * 5) ns')
-    entries-part h = sym (length-take-le (n * 5) ns' (omega (arith, o.size, o.within)))
-
-    pub entries_none : left ≤ 0 → Lists (entries_in k token_limit) s ts ns count at (record { count = n; end = Refused Full 0 }) ns'
+  module _ (i n a : ℕ) (ns' : List ℕ) (o : EntriesOn s ts ns k count at i n a ns') where
+    pub entries_none : 4096 ≤ i → Lists (entries_in k token_limit) s ts ns count at (Err (record { refusal = Full; place = 0 })) ns'
     unfolding entries_in entries_from
     entries_none h =
-        let e : left ≡ 0 = omega arith in
-        refused-with n ns' Full 0 o.size o.within (λ start d. let x = o.reached start d in x.same ∙ ap (λ j. entries_in k j x.names (from s ts a)) e)
+        let e : 4096 - i ≡ 0 = omega arith in
+        refused-with ns' (record { refusal = Full; place = 0 }) o.size (λ start d. let x = o.reached start d in x.same ∙ ap (λ j. entries_in k j x.names (from s ts a)) e)
 
-    module _ (m : 0 < left) (row : Row) (h : RowedAt s (rows_of n ns') ts k a row) where
+    module _ (m : i < 4096) where
       -- one entry more
-      one : (names : List Name) → entries_in k left names (from s ts a) ≡ follow (row_in k names (from s ts a)) (entries_then k (left - 1) names)
-      one names = let e : left ≡ suc (left - 1) = omega arith in ap (λ j. entries_in k j names (from s ts a)) e ∙ entries-is k (left - 1) names (from s ts a)
+      one : (names : List Name) → entries_in k (4096 - i) names (from s ts a) ≡ follow (row_in k names (from s ts a)) (entries_then k (4096 - (i + 1)) names)
+      one names = let e : 4096 - i ≡ suc (4096 - (i + 1)) = omega arith in ap (λ j. entries_in k j names (from s ts a)) e ∙ entries-is k (4096 - (i + 1)) names (from s ts a)
 
-      pub entries-refused : (e : Refusal) (p : ℕ) → row.end ≡ Refused e p → Lists (entries_in k token_limit) s ts ns count at (record { count = n; end = row.end }) ns'
-      entries-refused e p f =
-          subst (λ r. Lists (entries_in k token_limit) s ts ns count at (record { count = n; end = r }) ns') (sym f)
-          (refused-with n ns' e p o.size o.within (λ start d.
+      pub entries-refused : (w : Refused) → Moves (row_in k) s (rows_of n ns') ts a (Err w) → Lists (entries_in k token_limit) s ts ns count at (Err w) ns'
+      entries-refused z h =
+          refused-with ns' z o.size (λ start d.
           let x = o.reached start d in
-          x.same ∙ one x.names ∙ ap (λ o. follow o (entries_then k (left - 1) x.names)) (stuck (row_in k) s (rows_of n ns') ts a row.end h.gives.moves x.names x.are.named e p f)))
+          x.same ∙ one x.names ∙ ap (λ o. follow o (entries_then k (4096 - (i + 1)) x.names)) (stuck (row_in k) s (rows_of n ns') ts a (Err z) h x.names x.are.named z refl))
 
-      module _ (b : ℕ) (ns'' : List ℕ) (f : row.end ≡ At b) (room : 320 ≤ length ns) (l : k ≤ 5) (w : Put ns' n (row.place ∷ row.bytes ∷ k ∷ row.count ∷ row.position ∷ []) ns'') where
+      module _ (row : Row) (b : ℕ) (h : RowedAt s (rows_of n ns') ts k a row b) (ns'' : List ℕ) (room : 320 ≤ length ns) (l : k ≤ 5) (w : Put ns' n (row.place ∷ row.bytes ∷ k ∷ row.count ∷ row.position ∷ []) ns'') where
         below : n < 64
         below =
-            let r : length (rows_of n ns') / 5 < 64 = subst (Room (rows_of n ns')) f h.room in
+            let r : length (rows_of n ns') / 5 < 64 = h.room in
             let e : length (rows_of n ns') ≡ n * 5 = length-take-le (n * 5) ns' (omega (arith, o.size, o.within)) in
             omega (arith, r, e)
 
@@ -177,7 +169,7 @@ module _ (s ts ns : List ℕ) (k count at : ℕ) where
         Is = IsRow s ts k row.place row.bytes row.count row.position row.more
 
         row-got : (names : List Name) → Named s (rows_of n ns') names → Got (row_in k names) (Is names) s ts a b
-        row-got names d = got (row_in k) Is s (rows_of n ns') ts a b (subst (Gives (row_in k) Is s (rows_of n ns') ts a) f h.gives) names d
+        row-got names d = got (row_in k) Is s (rows_of n ns') ts a b h.gives names d
 
         grown : (names : List Name) (d : NamesAre s ts (rows_of n ns') names) → NamesAre s ts (rows_of (n + 1) ns'') (names ++ ((row-got names d.named).what.name ∷ []))
         grown names d =
@@ -186,15 +178,15 @@ module _ (s ts ns : List ℕ) (k count at : ℕ) where
 
         -- the entry was read, and the list goes on or not
         turn : Bool → List Name → Name → Reader (List Name)
-        turn v names x = elim v as (λ _. Reader (List Name)) [ true ↦ entries_in k (left - 1) (names ++ (x ∷ [])) | false ↦ give (names ++ (x ∷ [])) ]
+        turn v names x = elim v as (λ _. Reader (List Name)) [ true ↦ entries_in k (4096 - (i + 1)) (names ++ (x ∷ [])) | false ↦ give (names ++ (x ∷ [])) ]
 
-        two : (v : Bool) → row.more ≡ v → (names : List Name) (d : Named s (rows_of n ns') names) → entries_in k left names (from s ts a) ≡ turn v names (row-got names d).what.name (from s ts b)
+        two : (v : Bool) → row.more ≡ v → (names : List Name) (d : Named s (rows_of n ns') names) → entries_in k (4096 - i) names (from s ts a) ≡ turn v names (row-got names d).what.name (from s ts b)
         unfolding entries_then turn
         two v e names d =
             let x = row-got names d in
-            one names ∙ ap (λ o. follow o (entries_then k (left - 1) names)) x.reads ∙ ap (λ v. turn v names x.what.name (from s ts b)) (x.holds.more ∙ e)
+            one names ∙ ap (λ o. follow o (entries_then k (4096 - (i + 1)) names)) x.reads ∙ ap (λ v. turn v names x.what.name (from s ts b)) (x.holds.more ∙ e)
 
-        pub entries-end : row.more ≡ false → Lists (entries_in k token_limit) s ts ns count at (record { count = n + 1; end = At b }) ns''
+        pub entries-end : row.more ≡ false → Lists (entries_in k token_limit) s ts ns count at (Ok (n + 1, b)) ns''
         unfolding turn
         entries-end e =
             record {
@@ -202,10 +194,10 @@ module _ (s ts ns : List ℕ) (k count at : ℕ) where
               within = omega (arith, below);
               lists = λ start d.
                   let x = o.reached start d in
-                  subst (λ o. Listing o s ts (At b) (rows_of (n + 1) ns'')) (sym (x.same ∙ two false e x.names x.are.named)) (refl, grown x.names x.are);
+                  subst (λ o. Listing o s ts (Ok (n + 1, b)) ns'') (sym (x.same ∙ two false e x.names x.are.named)) (refl, grown x.names x.are);
             }
 
-        pub entries-on : row.more ≡ true → EntriesOn s ts ns k count at (left - 1) (n + 1) b ns''
+        pub entries-on : row.more ≡ true → EntriesOn s ts ns k count at (i + 1) (n + 1) b ns''
         unfolding turn
         entries-on e =
             record {
@@ -218,7 +210,7 @@ module _ (s ts ns : List ℕ) (k count at : ℕ) where
 
 -- ---- a list, if its word stands there
 
-module _ (s ts ns : List ℕ) (k count at : ℕ) (t : Seen) (l : Looks ts at t) where
+module _ (s ts ns : List ℕ) (k count at : ℕ) (t : Result Seen Refused) (l : Looks ts at t) where
   list_turn : Bool → List Name → Reader (List Name)
   list_turn b names = elim b as (λ _. Reader (List Name)) [ true ↦ next >>= (λ _. entries_in k token_limit names) | false ↦ give names ]
 
@@ -226,39 +218,39 @@ module _ (s ts ns : List ℕ) (k count at : ℕ) (t : Seen) (l : Looks ts at t) 
   unfolding list_in list_of list_turn entries_in
   list-is names = refl
 
-  list-by : (x p y b : ℕ) (v : Bool) (names : List Name) → t ≡ seen.Token x p y b → eqb x (index_word + k) ≡ v → list_in k names (from s ts at) ≡ list_turn v names (from s ts at)
-  list-by x p y b v names e i =
-      list-is names ∙ ap (λ o. follow o (λ t. list_turn (is_mark (index_word + k) t) names)) (look_is s ts at x p y b (subst (Sees s ts at) e (l.sees s)))
-      ∙ ap (λ v. list_turn v names (from s ts at)) (is-mark s (index_word + k) x p y (omega arith) ∙ i)
+  list-by : (w : Seen) (v : Bool) (names : List Name) → t ≡ Ok w → eqb w.kind (index_word + k) ≡ v → list_in k names (from s ts at) ≡ list_turn v names (from s ts at)
+  list-by z v names e i =
+      list-is names ∙ ap (λ o. follow o (λ t. list_turn (is_mark (index_word + k) t) names)) (look_is s ts at z (subst (Sees s ts at) e (l.sees s)))
+      ∙ ap (λ v. list_turn v names (from s ts at)) (is-mark s (index_word + k) z.kind z.place z.payload (omega arith) ∙ i)
 
-  pub list-word : (x p y b : ℕ) (r : Listed) (ns' : List ℕ) → t ≡ seen.Token x p y b → x ≡ index_word + k → Lists (entries_in k token_limit) s ts ns count b r ns' → Lists (list_in k) s ts ns count at r ns'
+  pub list-word : (w : Seen) (r : Result (ℕ × ℕ) Refused) (ns' : List ℕ) → t ≡ Ok w → w.kind ≡ index_word + k → Lists (entries_in k token_limit) s ts ns count w.next r ns' → Lists (list_in k) s ts ns count at r ns'
   unfolding list_turn
-  list-word x p y b r ns' e i h =
+  list-word z r ns' e i h =
       record {
         size = h.size;
         within = h.within;
         lists = λ names d.
-            subst (λ o. Listing o s ts r.end (rows_of r.count ns'))
-            (sym (list-by x p y b true names e (eq-eqb x (index_word + k) i) ∙ ap (λ o. follow o (λ _. entries_in k token_limit names)) (next-is s ts at x p y b (subst (Sees s ts at) e (l.sees s)))))
+            subst (λ o. Listing o s ts r ns')
+            (sym (list-by z true names e (eq-eqb z.kind (index_word + k) i) ∙ ap (λ o. follow o (λ _. entries_in k token_limit names)) (next-is s ts at z (subst (Sees s ts at) e (l.sees s)))))
             (h.lists names d);
       }
 
-  pub list-none : (x p y b : ℕ) → count ≤ 64 → t ≡ seen.Token x p y b → (x ≡ index_word + k → ⊥) → Lists (list_in k) s ts ns count at (record { count = count; end = At at }) ns
+  pub list-none : (w : Seen) → count ≤ 64 → t ≡ Ok w → (w.kind ≡ index_word + k → ⊥) → Lists (list_in k) s ts ns count at (Ok (count, at)) ns
   unfolding list_turn
-  list-none x p y b w e i =
+  list-none z w e i =
       record {
         size = refl;
         within = w;
-        lists = λ names d. subst (λ o. Listing o s ts (At at) (rows_of count ns)) (sym (list-by x p y b false names e (ne_eqb x (index_word + k) i))) (refl, d);
+        lists = λ names d. subst (λ o. Listing o s ts (Ok (count, at)) ns) (sym (list-by z false names e (ne_eqb z.kind (index_word + k) i))) (refl, d);
       }
 
-  pub list-wrong : (n : Refusal) (p : ℕ) → count ≤ 64 → t ≡ seen.Refused n p → Lists (list_in k) s ts ns count at (record { count = count; end = Refused n p }) ns
-  list-wrong n p w e =
+  pub list-wrong : (e : Refused) → t ≡ Err e → Lists (list_in k) s ts ns count at (Err e) ns
+  list-wrong z e =
       record {
         size = refl;
-        within = w;
+        within = tt;
         lists = λ names d.
-            subst (λ o. Listing o s ts (Refused n p) (rows_of count ns))
+            subst (λ o. Listing o s ts (Err z) ns)
             (sym (list-is names ∙ ap (λ o. follow o (λ t. list_turn (is_mark (index_word + k) t) names)) (subst (Sees s ts at) e (l.sees s)).looks)) (refl, refl);
       }
 
@@ -279,7 +271,7 @@ module _ (s ts ns : List ℕ) (at : ℕ) where
   lists-start = record { size = refl; within = omega arith; gone = λ start d. record { names = start; are = d; same = refl } }
 
   module _ (k n a : ℕ) (ns' : List ℕ) (o : ListsOn s ts ns at k n a ns') where
-    pub lists-end : 6 ≤ k → Lists (lists_in 6 0) s ts ns 0 at (record { count = n; end = At a }) ns'
+    pub lists-end : 6 ≤ k → Lists (lists_in 6 0) s ts ns 0 at (Ok (n, a)) ns'
     unfolding lists_in
     lists-end h =
         let e : 6 - k ≡ 0 = omega arith in
@@ -288,10 +280,10 @@ module _ (s ts ns : List ℕ) (at : ℕ) where
           within = o.within;
           lists = λ start d.
               let x = o.gone start d in
-              subst (λ o. Listing o s ts (At a) (rows_of n ns')) (sym (x.same ∙ ap (λ j. lists_in j k x.names (from s ts a)) e)) (refl, x.are);
+              subst (λ o. Listing o s ts (Ok (n, a)) ns') (sym (x.same ∙ ap (λ j. lists_in j k x.names (from s ts a)) e)) (refl, x.are);
         }
 
-    module _ (m : k < 6) (r : Listed) (ns'' : List ℕ) (h : Lists (list_in k) s ts ns' n a r ns'') where
+    module _ (m : k < 6) (ns'' : List ℕ) where
       first : (names : List Name) → lists_in (6 - k) k names (from s ts a) ≡ follow (list_in k names (from s ts a)) (lists_in (6 - (k + 1)) (k + 1))
       unfolding lists_in
       first names =
@@ -299,33 +291,32 @@ module _ (s ts ns : List ℕ) (at : ℕ) where
           let f : k + 1 ≡ suc k = omega arith in
           ap (λ j. lists_in j k names (from s ts a)) e ∙ ap (λ i. follow (list_in k names (from s ts a)) (lists_in (6 - (k + 1)) i)) (sym f)
 
-      pub lists-refused : (e : Refusal) (p : ℕ) → r.end ≡ Refused e p → Lists (lists_in 6 0) s ts ns 0 at (record { count = r.count; end = r.end }) ns''
-      lists-refused e p f =
+      pub lists-refused : (e : Refused) → Lists (list_in k) s ts ns' n a (Err e) ns'' → Lists (lists_in 6 0) s ts ns 0 at (Err e) ns''
+      lists-refused e h =
           record {
             size = h.size ∙ o.size;
-            within = h.within;
+            within = tt;
             lists = λ start d.
                 let x = o.gone start d in
-                subst (λ o. Listing o s ts r.end (rows_of r.count ns'')) (sym (x.same ∙ first x.names))
-                (go (list_in k x.names (from s ts a)) (h.lists x.names x.are));
+                subst (λ o. Listing o s ts (Err e) ns'') (sym (x.same ∙ first x.names)) (go (list_in k x.names (from s ts a)) (h.lists x.names x.are));
           }
         where
-          go : (o : Outcome (Read (List Name))) → Listing o s ts r.end (rows_of r.count ns'') → Listing (follow o (lists_in (6 - (k + 1)) (k + 1))) s ts r.end (rows_of r.count ns'')
-          go (done x) i = absurd (subst (λ q. Listing (done x) s ts q (rows_of r.count ns'')) f i)
+          go : (o : Outcome (Read (List Name))) → Listing o s ts (Err e) ns'' → Listing (follow o (lists_in (6 - (k + 1)) (k + 1))) s ts (Err e) ns''
+          go (done x) i = absurd i
           go (refused j q) i = i
 
-      pub lists-on : (b : ℕ) → r.end ≡ At b → ListsOn s ts ns at (k + 1) r.count b ns''
-      lists-on b f =
+      pub lists-on : (c b : ℕ) → Lists (list_in k) s ts ns' n a (Ok (c, b)) ns'' → ListsOn s ts ns at (k + 1) c b ns''
+      lists-on c b h =
           record {
             size = h.size ∙ o.size;
             within = h.within;
             gone = λ start d.
                 let x = o.gone start d in
-                go start x.names (x.same ∙ first x.names) (list_in k x.names (from s ts a)) refl (subst (λ q. Listing (list_in k x.names (from s ts a)) s ts q (rows_of r.count ns'')) f (h.lists x.names x.are));
+                go start x.names (x.same ∙ first x.names) (list_in k x.names (from s ts a)) refl (h.lists x.names x.are);
           }
         where
           go : (start names : List Name) → lists_in 6 0 start (from s ts at) ≡ follow (list_in k names (from s ts a)) (lists_in (6 - (k + 1)) (k + 1))
-              → (o : Outcome (Read (List Name))) → list_in k names (from s ts a) ≡ o → Listing o s ts (At b) (rows_of r.count ns'') → Gone s ts (k + 1) start at b (rows_of r.count ns'')
+              → (o : Outcome (Read (List Name))) → list_in k names (from s ts a) ≡ o → Listing o s ts (Ok (c, b)) ns'' → Gone s ts (k + 1) start at b (rows_of c ns'')
           go start names e (done x) i j =
               record { names = x.what; are = j.1; same = e ∙ ap (λ o. follow o (lists_in (6 - (k + 1)) (k + 1))) i ∙ ap (lists_in (6 - (k + 1)) (k + 1) x.what) j.0 }
           go start names e (refused q p) i j = absurd j
@@ -346,9 +337,9 @@ declarations-are l =
     follow-same (list_in 4 d l) _ _ (λ e l.
     follow-give (list_in 5 e l))))))
 
-pub declared-all : (s ts ns : List ℕ) (at : ℕ) (r : Listed) (ns' : List ℕ) → Lists (lists_in 6 0) s ts ns 0 at r ns' → Declared s ts at r ns'
+pub declared-all : (s ts ns : List ℕ) (at : ℕ) (r : Result (ℕ × ℕ) Refused) (ns' : List ℕ) → Lists (lists_in 6 0) s ts ns 0 at r ns' → Declared s ts at r ns'
 declared-all s ts ns at r ns' h =
     record {
       within = h.within;
-      lists = subst (λ o. Listing o s ts r.end (rows_of r.count ns')) (sym (declarations-are (from s ts at))) (h.lists [] (record { named = tt; told = tt }));
+      lists = subst (λ o. Listing o s ts r ns') (sym (declarations-are (from s ts at))) (h.lists [] (record { named = tt; told = tt }));
     }

@@ -1,5 +1,6 @@
 -- What code tells of what it read, and what the name table tells of the declared names.
-use Rattle.std.specs.Prelude.{◌≡◌, Bool, List, [], ◌∷◌, ◌++◌, ℕ, ◌≤◌, ◌/◌, ◌<◌, length, take}
+use Rattle.std.specs.Prelude.{Err, Ok, Result, IfOk, ◌≡◌, Bool, List, [], ◌∷◌, ◌++◌, ℕ, ◌≤◌, ◌/◌, ◌<◌, length, take}
+use Rattle.rules.specs.declared.Refused.{Refused}
 use Rattle.rules.specs.Limits.{nesting_limit}
 use Rattle.language.specs.Syntax.{Name, Sort, Spans}
 use Rattle.language.specs.Syntax
@@ -8,11 +9,8 @@ use Rattle.language.specs.Formulas.{formula_at}
 use Rattle.language.specs.Declarations.{due_of, declarations}
 use Rattle.tokens.specs.Stored.{size, Shaped, Stands, Gives, spelling, Named, rows_of, from}
 use Rattle.declarations.specs.declared.Indices.{Indices}
-use Rattle.declarations.specs.declared.Listed.{Listed}
 use Rattle.declarations.specs.declared.Row.{Row}
 use Rattle.declarations.specs.declared.Title.{Title}
-use Rattle.tokens.specs.declared.Move.{Move}
-use Rattle.tokens.specs.declared.Move.TheVariants.{At, Refused}
 use Rattle.declarations.specs.Readers.{indices_in, new_name_in, One, row_in}
 use Rattle.language.specs.Outcome.{Outcome, done, refused}
 
@@ -28,8 +26,9 @@ pub record IsMore (b : Bool) (names : List Name) (v : Bool) : Type 0 where
 pub record Numbers (n : ℕ) (l : List ℕ) (names : List Name) (w : List ℕ) : Type 0 where
   pub numbers : w ≡ take n l
 
-pub record Indexed (s ns ts : List ℕ) (at : ℕ) (r : Indices) : Type 0 where
-  pub gives : Gives indices_in (Numbers r.count r.numbers) s ns ts at r.end
+-- the indices r up to the position a
+pub record Indexed (s ns ts : List ℕ) (at : ℕ) (r : Indices) (a : ℕ) : Type 0 where
+  pub gives : Gives indices_in (Numbers r.count r.numbers) s ns ts at (Ok a)
   pub within : r.count ≤ length r.numbers
   pub sized : length (take r.count r.numbers) ≡ r.count
 
@@ -62,14 +61,10 @@ pub record IsTitle (s : List ℕ) (p n : ℕ) (names : List Name) (x : Titled) :
   pub title : x.title ≡ spelling s p n
   pub place : x.place ≡ p
 
--- a table with room for one row more
-abbrev pub Room : List ℕ → Move → Type 0
-Room ns (At a) = length ns / 5 < 64
-Room ns (Refused n p) = Unit {0}
-
-pub record TitledAt (s ns ts : List ℕ) (at : ℕ) (r : Title) : Type 0 where
-  pub gives : Gives new_name_in (IsTitle s r.place r.bytes) s ns ts at r.end
-  pub room : Room ns r.end
+-- a new name up to the position a, and a table with room for one row more
+pub record TitledAt (s ns ts : List ℕ) (at : ℕ) (r : Title) (a : ℕ) : Type 0 where
+  pub gives : Gives new_name_in (IsTitle s r.place r.bytes) s ns ts at (Ok a)
+  pub room : length ns / 5 < 64
 
 -- a row of sort k: the name is spelled by n bytes at p, has c indices and is declared at q
 pub record IsRow (s ts : List ℕ) (k p n c q : ℕ) (b : Bool) (names : List Name) (x : One) : Type 0 where
@@ -79,9 +74,10 @@ pub record IsRow (s ts : List ℕ) (k p n c q : ℕ) (b : Bool) (names : List Na
   pub declares : Declares s ts names x.name.sort q
   pub more : x.more ≡ b
 
-pub record RowedAt (s ns ts : List ℕ) (k at : ℕ) (r : Row) : Type 0 where
-  pub gives : Gives (row_in k) (IsRow s ts k r.place r.bytes r.count r.position r.more) s ns ts at r.end
-  pub room : Room ns r.end
+-- a row up to the position a, and a table with room for it
+pub record RowedAt (s ns ts : List ℕ) (k at : ℕ) (r : Row) (a : ℕ) : Type 0 where
+  pub gives : Gives (row_in k) (IsRow s ts k r.place r.bytes r.count r.position r.more) s ns ts at (Ok a)
+  pub room : length ns / 5 < 64
 
 -- ---- the name table
 
@@ -101,20 +97,20 @@ pub record NamesAre (s ts ns : List ℕ) (names : List Name) : Type 0 where
   pub named : Named s ns names
   pub told : Told s ts ns [] names
 
--- the same refusal, or the rows tell of the names
-abbrev pub Listing : Outcome (Read (List Name)) → List ℕ → List ℕ → Move → List ℕ → Type 0
-Listing (done x) s ts (At a) ns = (x.rest ≡ from s ts a) × NamesAre s ts ns x.what
-Listing (done x) s ts (Refused r p) ns = ⊥
-Listing (refused r q) s ts (At a) ns = ⊥
-Listing (refused r q) s ts (Refused r' p) ns = (r ≡ r') × (q ≡ p)
+-- the same refusal, or the first rows of a table, so many as code says, tell of the names
+abbrev pub Listing : Outcome (Read (List Name)) → List ℕ → List ℕ → Result (ℕ × ℕ) Refused → List ℕ → Type 0
+Listing (done x) s ts (Ok w) ns = (x.rest ≡ from s ts w.1) × NamesAre s ts (rows_of w.0 ns) x.what
+Listing (done x) s ts (Err e) ns = ⊥
+Listing (refused r q) s ts (Ok w) ns = ⊥
+Listing (refused r q) s ts (Err e) ns = (r ≡ e.refusal) × (q ≡ e.place)
 
 -- a reader of more names, of a table ns with `count` rows that becomes ns'
-pub record Lists (m : List Name → Reader (List Name)) (s ts ns : List ℕ) (count at : ℕ) (r : Listed) (ns' : List ℕ) : Type 0 where
+pub record Lists (m : List Name → Reader (List Name)) (s ts ns : List ℕ) (count at : ℕ) (r : Result (ℕ × ℕ) Refused) (ns' : List ℕ) : Type 0 where
   pub size : length ns' ≡ length ns
-  pub within : r.count ≤ 64
-  pub lists : (names : List Name) → NamesAre s ts (rows_of count ns) names → Listing (m names (from s ts at)) s ts r.end (rows_of r.count ns')
+  pub within : IfOk r (λ w. w.0 ≤ 64)
+  pub lists : (names : List Name) → NamesAre s ts (rows_of count ns) names → Listing (m names (from s ts at)) s ts r ns'
 
 -- all declarations
-pub record Declared (s ts : List ℕ) (at : ℕ) (r : Listed) (ns : List ℕ) : Type 0 where
-  pub within : r.count ≤ 64
-  pub lists : Listing (declarations (from s ts at)) s ts r.end (rows_of r.count ns)
+pub record Declared (s ts : List ℕ) (at : ℕ) (r : Result (ℕ × ℕ) Refused) (ns : List ℕ) : Type 0 where
+  pub within : IfOk r (λ w. w.0 ≤ 64)
+  pub lists : Listing (declarations (from s ts at)) s ts r ns

@@ -3,92 +3,53 @@
 
 ghost use Rattle.tokens.specs.Stored.{Moves};
 ghost use Rattle.tokens.specs.Pieces.{index_in};
+ghost use Rattle.tokens.specs.Text.{In};
 ghost use Rattle.domains.specs.Domains.{entry_with, entries_in, domain_in, optional_in};
 
 use lexer::marks;
-use tokens::{Move, Seen};
+use rules::Refused;
+use tokens::Text;
 
 // Lower formula `<=` index `<=` upper formula.
-pub fn entry(text: &[u8], names: &[u64], tokens: &[u64], at: usize) -> Move
-    ensures { Moves (entry_with index_in) text.now names.now tokens.now at result }
+pub fn entry(text: Text<'_>, at: usize) -> Result<usize, Refused>
+    ensures { In (Moves (entry_with index_in)) text.entry at result }
 {
-    let lower = formulas::part(
-        text,
-        names,
-        tokens,
-        at,
-        rules::NESTING_LIMIT,
-        marks::AT_MOST,
-    );
-    let Move::At(a) = lower else {
-        return lower;
-    };
-    let i = tokens::index(text, names, tokens, a);
-    let Move::At(b) = i else {
-        return i;
-    };
-    let sign = tokens::expect(text, names, tokens, b, marks::AT_MOST);
-    let Move::At(d) = sign else {
-        return sign;
-    };
-    formulas::inside(text, names, tokens, d, rules::NESTING_LIMIT)
+    let lower = formulas::part(text, at, rules::NESTING_LIMIT, marks::AT_MOST)?;
+    let i = tokens::index(text, lower)?;
+    let sign = tokens::expect(text, i, marks::AT_MOST)?;
+    formulas::inside(text, sign, rules::NESTING_LIMIT)
 }
 
 // Entries up to the `)`, at most `left` behind the first one.
-fn entries(text: &[u8], names: &[u64], tokens: &[u64], at: usize, left: usize) -> Move
-    ensures { Moves (entries_in left) text.now names.now tokens.now at result }
+fn entries(text: Text<'_>, at: usize, left: usize) -> Result<usize, Refused>
+    ensures { In (Moves (entries_in left)) text.entry at result }
 {
-    let first = entry(text, names, tokens, at);
-    let Move::At(a) = first else {
-        return first;
-    };
+    let first = entry(text, at)?;
     if left == 0 {
-        return tokens::expect(text, names, tokens, a, marks::RIGHT_PAREN);
+        return tokens::expect(text, first, marks::RIGHT_PAREN);
     }
-    let token = tokens::token_at(tokens, a);
-    match token {
-        Seen::Token(k, p, x, next) => {
-            if k == marks::COMMA as u64 {
-                entries(text, names, tokens, next, left - 1)
-            } else {
-                tokens::expect(text, names, tokens, a, marks::RIGHT_PAREN)
-            }
-        }
-        Seen::Refused(n, p) => Move::Refused(n, p),
+    let token = tokens::token_at(text.tokens, first)?;
+    if token.kind != marks::COMMA as u64 {
+        return tokens::expect(text, first, marks::RIGHT_PAREN);
     }
+    entries(text, token.next, left - 1)
 }
 
 // One to four entries in brackets.
-fn domain(text: &[u8], names: &[u64], tokens: &[u64], at: usize) -> Move
-    ensures { Moves domain_in text.now names.now tokens.now at result }
+fn domain(text: Text<'_>, at: usize) -> Result<usize, Refused>
+    ensures { In (Moves domain_in) text.entry at result }
 {
-    let open = tokens::bracket(
-        text,
-        names,
-        tokens,
-        at,
-        rules::NESTING_LIMIT,
-        marks::LEFT_PAREN,
-    );
-    let Move::At(a) = open else {
-        return open;
-    };
-    entries(text, names, tokens, a, rules::INDEX_LIMIT - 1)
+    let open = tokens::bracket(text, at, rules::NESTING_LIMIT, marks::LEFT_PAREN)?;
+    entries(text, open, rules::INDEX_LIMIT - 1)
 }
 
 // A domain where a `(` stands.
-pub fn optional_domain(text: &[u8], names: &[u64], tokens: &[u64], at: usize) -> Move
-    ensures { Moves optional_in text.now names.now tokens.now at result }
+pub fn optional_domain(text: Text<'_>, at: usize) -> Result<usize, Refused>
+    ensures { In (Moves optional_in) text.entry at result }
 {
-    let token = tokens::token_at(tokens, at);
-    match token {
-        Seen::Token(k, p, x, next) => {
-            if k == marks::LEFT_PAREN as u64 {
-                domain(text, names, tokens, at)
-            } else {
-                Move::At(at)
-            }
-        }
-        Seen::Refused(n, p) => Move::Refused(n, p),
+    let token = tokens::token_at(text.tokens, at)?;
+    if token.kind != marks::LEFT_PAREN as u64 {
+        return Ok(at);
     }
+    domain(text, at)
 }

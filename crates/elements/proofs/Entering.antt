@@ -1,4 +1,7 @@
 -- Laws of the first element inside some runs: each answer of `inside` and `turns`.
+use Rattle.std.specs.Prelude.{Err, None, Ok, Option, Result, Some}
+use Rattle.std.specs.Option.{is_some}
+use Rattle.rules.specs.declared.Refused.{Refused}
 use mathlib.Core.Path.{◌≡◌, refl, sym, ◌∙◌, ap, subst}
 use mathlib.Core.Bool.{Bool, true, false, not}
 use mathlib.Core.List.{List, [], ◌∷◌, ◌++◌, append-nil, append_assoc}
@@ -11,24 +14,19 @@ use Rattle.rules.specs.declared.Refusal.{Refusal}
 use Rattle.rules.specs.Limits.{index_limit, nesting_limit}
 use Rattle.rational.proofs.Integer.{le_z-true, ≤ℤ-trans}
 use Rattle.lexer.specs.Text.{Token}
+use Rattle.tokens.proofs.Tables.{false-true}
 use Rattle.language.specs.Scope.{Scope, bind}
 use Rattle.onepass.specs.Walk.{walk_entry, in_domain_walk}
 use Rattle.evaluator.specs.declared.steps.scope.Scope.{Scope as HeldScope}
 use Rattle.evaluator.specs.declared.steps.values.Bounds.{Bounds as HeldBounds}
-use Rattle.evaluator.specs.declared.steps.values.Runs.{Runs}
-use Rattle.evaluator.specs.declared.steps.values.Runs.TheVariants as runs
 use Rattle.evaluator.specs.Steps.Scopes.{bindings_of}
 use Rattle.language.specs.Evaluation as Evaluation
 use Rattle.evaluator.specs.Steps.Values.{limits_in, SmallLimits, run_outcome, run_answer, RunIs}
 use Rattle.evaluator.proofs.steps.Runs.{run_is}
-use Rattle.evaluator.specs.declared.Entered.{Entered}
-use Rattle.evaluator.specs.declared.Entered.TheVariants as entered
 use Rattle.evaluator.specs.Tables.{World}
 use Rattle.evaluator.specs.Cycle.{entry_in, EntryIs, bounds_outcome, SmallEntered, seen_by, nothing_bound, tokens_at}
 use Rattle.elements.specs.declared.here.Level.{Level as HeldLevel}
 use Rattle.elements.specs.declared.here.Here.{Here as HeldHere}
-use Rattle.elements.specs.declared.Step.{Step}
-use Rattle.elements.specs.declared.Step.TheVariants.{At, Done, Refused}
 use Rattle.elements.specs.Elements.{Walked, finished, stopped, followed, chained, mapped}
 use Rattle.elements.specs.Levels.{Level, here_of, deeper, at_number, turn_of, run_from}
 use Rattle.elements.specs.Held.{StepsUp, held, one_more, bound}
@@ -38,10 +36,20 @@ use Rattle.elements.proofs.Runs.{range_none, range-here}
 use Rattle.elements.proofs.Numbers.{not-true, above, last}
 use Rattle.elements.proofs.Bound.{scope-more, held-scope, held_small, room-held, more_room, runs_none, runs-length, runs-with, small-append, next-run, next_small, next-upper, next-above}
 
+-- ---- the element of an answer
+
+pub some-here : (o : Option HeldHere) (x : Bool) → x ≡ is_some o → x ≡ true → (h : HeldHere) × (o ≡ Some h)
+some-here (Some h) x e f = (h, refl)
+some-here None x e f = absurd (false-true (sym e ∙ f))
+
+pub none-here : (o : Option HeldHere) (x : Bool) → x ≡ is_some o → x ≡ false → o ≡ None
+none-here (Some h) x e f = absurd (false-true (sym f ∙ e))
+none-here None x e f = refl
+
 -- ---- what is shown inside one run more
 
 module _ {ns ts ds : List ℕ} {given : ℕ} (w : World ns ts ds given) (p : List Level) where
-  pub shows-as : (u v : Walked (List Level)) (r : Step) → u ≡ v → Shows w p v r → Shows w p u r
+  pub shows-as : (u v : Walked (List Level)) (r : Result (Option HeldHere) Refused) → u ≡ v → Shows w p v r → Shows w p u r
   shows-as u v r e h = subst (λ x. Shows w p x r) (sym e) h
 
   module _ (l : Level) (u v : Walked (List Level)) where
@@ -65,13 +73,13 @@ module _ {ns ts ds : List ℕ} {given : ℕ} (w : World ns ts ds given) (p : Lis
 
 -- ---- entries
 
-turned-grown : (outer : HeldHere) (l : HeldLevel) (count : ℕ) → (count ≡ 0 → ⊥) → (r : Step) → TurnedBy outer l (count - 1) r → GrownBy outer count r
-turned-grown outer l count some (At h) x = record { inner = x.run ∷ x.inner; is = x.is; size = omega (arith, x.size) }
-turned-grown outer l count some Done x = tt
-turned-grown outer l count some (Refused c q) x = tt
+turned-grown : (outer : HeldHere) (l : HeldLevel) (count : ℕ) → (count ≡ 0 → ⊥) → (r : Result (Option HeldHere) Refused) → TurnedBy outer l (count - 1) r → GrownBy outer count r
+turned-grown outer l count some (Ok (Some h)) x = record { inner = x.run ∷ x.inner; is = x.is; size = omega (arith, x.size) }
+turned-grown outer l count some (Ok None) x = tt
+turned-grown outer l count some (Err e) x = tt
 
 module _ (ns ts ds : List ℕ) (given level count at : ℕ) (outer : HeldHere) where
-  pub inside-none : count ≡ 0 → InsideIs ns ts ds given level count at outer (At outer)
+  pub inside-none : count ≡ 0 → InsideIs ns ts ds given level count at outer (Ok (Some outer))
   inside-none e = record {
     is = λ w m. record {
       inner = [];
@@ -84,7 +92,7 @@ module _ (ns ts ds : List ℕ) (given level count at : ℕ) (outer : HeldHere) w
   }
 
   -- inside no runs
-  pub first-is : (r : Step) → held outer ≡ [] → InsideIs ns ts ds given level count at outer r → FirstIs ns ts ds given level count at r
+  pub first-is : (r : Result (Option HeldHere) Refused) → held outer ≡ [] → InsideIs ns ts ds given level count at outer r → FirstIs ns ts ds given level count at r
   unfolding here_of
   first-is r e i = record {
     is = λ w.
@@ -92,7 +100,7 @@ module _ (ns ts ds : List ℕ) (given level count at : ℕ) (outer : HeldHere) w
         subst (λ p. Shows w p (entries_in w level count (scope_in w p) (tokens_at w at)) r) none (i.is w (subst SmallRuns (sym none) tt));
   }
 
-  module _ (sc : HeldScope) (e : bindings_of sc ≡ bound (held outer) []) (x : Entered) (i : EntryIs (entry_in 12) ns ts ds given level sc at x) (some : count ≡ 0 → ⊥) where
+  module _ (sc : HeldScope) (e : bindings_of sc ≡ bound (held outer) []) (x : Result (HeldBounds × ℕ) Refused) (i : EntryIs (entry_in 12) ns ts ds given level sc at x) (some : count ≡ 0 → ⊥) where
     -- the entry at the scope of the outer runs
     entry_at : (w : World ns ts ds given) → SmallRuns (runs_of w outer) → walk_entry (seen_by w level) (in_domain_walk (seen_by w level)) (scope_in w (runs_of w outer)) (tokens_at w at) ≡ bounds_outcome w.text ts x
     unfolding entry_in nesting_limit
@@ -104,10 +112,10 @@ module _ (ns ts ds : List ℕ) (given level count at : ℕ) (outer : HeldHere) w
     entries-suc : (w : World ns ts ds given) (s : Scope) (us : List Token) → entries_in w level count s us ≡ entries_in w level (suc (count - 1)) s us
     entries-suc w s us = ap (λ n. entries_in w level n s us) suc-count
 
-    pub inside-limit : (n : Refusal) (q : ℕ) → x ≡ entered.Refused n q → InsideIs ns ts ds given level count at outer (Refused n q)
-    inside-limit n q f = record { is = λ w m. entries-suc w _ _ ∙ first-limit _ _ _ _ (count - 1) n q (entry_at w m ∙ ap (bounds_outcome w.text ts) f); grown = tt }
+    pub inside-limit : (e : Refused) → x ≡ Err e → InsideIs ns ts ds given level count at outer (Err e)
+    inside-limit z f = record { is = λ w m. entries-suc w _ _ ∙ first-limit _ _ _ _ (count - 1) z.refusal z.place (entry_at w m ∙ ap (bounds_outcome w.text ts) f); grown = tt }
 
-    module _ (b : HeldBounds) (a : ℕ) (f : x ≡ entered.Bounds b a) (y : Runs) (told : y ≡ run_answer b.limits b.number sc b.place) where
+    module _ (b : HeldBounds) (a : ℕ) (f : x ≡ Ok (b, a)) (y : Result ℕ Refused) (told : y ≡ run_answer b.limits b.number sc b.place) where
       j : RunIs b.limits b.number sc b.place y
       j = run_is b.limits b.number sc b.place y told
 
@@ -117,14 +125,14 @@ module _ (ns ts ds : List ℕ) (given level count at : ℕ) (outer : HeldHere) w
       run_at : (w : World ns ts ds given) → SmallRuns (runs_of w outer) → Evaluation.run_of (limits_in b.limits) b.number (scope_in w (runs_of w outer)) b.place ≡ run_outcome b.limits y
       run_at w m = subst (λ s. Evaluation.run_of (limits_in b.limits) b.number s b.place ≡ run_outcome b.limits y) (held-scope (tokens_at w) outer sc e w.known) (j.is (small-limits w m) w.known)
 
-      pub inside-run : (n : Refusal) (q : ℕ) → y ≡ runs.Refused n q → InsideIs ns ts ds given level count at outer (Refused n q)
-      inside-run n q g = record {
+      pub inside-run : (e : Refused) → y ≡ Err e → InsideIs ns ts ds given level count at outer (Err e)
+      inside-run z g = record {
         is = λ w m. entries-suc w _ _
-            ∙ first_run _ _ _ _ (count - 1) _ n q (entry_at w m ∙ ap (bounds_outcome w.text ts) f) (run_at w m ∙ ap (run_outcome b.limits) g);
+            ∙ first_run _ _ _ _ (count - 1) _ z.refusal z.place (entry_at w m ∙ ap (bounds_outcome w.text ts) f) (run_at w m ∙ ap (run_outcome b.limits) g);
         grown = tt;
       }
 
-      pub inside-turns : (n : ℕ) (l : HeldLevel) (r : Step) → y ≡ runs.Count n → l ≡ record { name = b.number; number = b.limits.lower; upper = b.limits.upper; behind = a }
+      pub inside-turns : (n : ℕ) (l : HeldLevel) (r : Result (Option HeldHere) Refused) → y ≡ Ok n → l ≡ record { name = b.number; number = b.limits.lower; upper = b.limits.upper; behind = a }
           → TurnsAre ns ts ds given level (count - 1) outer l r → InsideIs ns ts ds given level count at outer r
       inside-turns n l r g k t = record {
         is = λ w m.
@@ -165,10 +173,10 @@ module _ (ns ts ds : List ℕ) (given level count : ℕ) (outer : HeldHere) (run
   turns-start = record { is = λ w m n room. refl; small = λ w m. m; upper = refl; number = ≤ℤ_refl run.number }
 
   module _ (l : HeldLevel) (o : TurnsOn ns ts ds given level count outer run l) (x : Bool) (e : x ≡ le_z l.number l.upper) where
-    pub turns-end : x ≡ false → TurnsAre ns ts ds given level count outer run Done
+    pub turns-end : x ≡ false → TurnsAre ns ts ds given level count outer run (Ok None)
     turns-end f = record { is = λ w m n room. o.is w m n room ∙ run_none _ _ (run_of w l) (sym e ∙ f); turned = λ room. tt }
 
-    module _ (f : x ≡ true) (inner : HeldHere) (g : held inner ≡ one_more (held outer) l) (r : Step) (i : InsideIs ns ts ds given level count l.behind inner r) where
+    module _ (f : x ≡ true) (inner : HeldHere) (g : held inner ≡ one_more (held outer) l) (r : Result (Option HeldHere) Refused) (i : InsideIs ns ts ds given level count l.behind inner r) where
       -- what the run still has, from its number on
       turn : (w : World ns ts ds given) → SmallRuns (runs_of w outer) → SmallRun (run_of w run) → length (runs_of w outer) < index_limit
           → run_from (entries_in w level count) (scope_in w (runs_of w outer)) (run_of w run)
@@ -196,14 +204,22 @@ module _ (ns ts ds : List ℕ) (given level count : ℕ) (outer : HeldHere) (run
         number = o.number;
       }
 
-      pub turns_at : (h : HeldHere) → r ≡ At h → TurnsAre ns ts ds given level count outer run (At h)
-      turns_at h k = record { is = λ w m n room. shows-as w (runs_of w outer) _ _ (At h) (turn w m n room) (deeper-at w (runs_of w outer) _ _ _ h (subst (Shows w _ _) k (shown w m n room))); turned = λ room. within h room (subst (GrownBy inner count) k i.grown) }
+      pub turns_at : (h : HeldHere) → r ≡ Ok (Some h) → TurnsAre ns ts ds given level count outer run (Ok (Some h))
+      turns_at h k = record { is = λ w m n room. shows-as w (runs_of w outer) _ _ (Ok (Some h)) (turn w m n room) (deeper-at w (runs_of w outer) _ _ _ h (subst (Shows w _ _) k (shown w m n room))); turned = λ room. within h room (subst (GrownBy inner count) k i.grown) }
 
-      pub turns-refused : (c : Refusal) (q : ℕ) → r ≡ Refused c q → TurnsAre ns ts ds given level count outer run (Refused c q)
-      turns-refused c q k = record { is = λ w m n room. turn w m n room ∙ deeper-refused w (runs_of w outer) _ _ _ c q (subst (Shows w _ _) k (shown w m n room)); turned = λ room. tt }
+      pub turns-refused : (e : Refused) → r ≡ Err e → TurnsAre ns ts ds given level count outer run (Err e)
+      turns-refused z k = record { is = λ w m n room. turn w m n room ∙ deeper-refused w (runs_of w outer) _ _ _ z.refusal z.place (subst (Shows w _ _) k (shown w m n room)); turned = λ room. tt }
 
-      module _ (k : r ≡ Done) (y : Bool) (a : y ≡ lt_z l.number l.upper) where
-        pub turns-last : not y ≡ true → TurnsAre ns ts ds given level count outer run Done
+      pub turns-found : (p : Option HeldHere) → r ≡ Ok p → (y : Bool) → y ≡ is_some p → y ≡ true → TurnsAre ns ts ds given level count outer run (Ok p)
+      turns-found p k y s t =
+          let (h, d) = some-here p y s t in
+          subst (λ p. TurnsAre ns ts ds given level count outer run (Ok p)) (sym d) (turns_at h (subst (λ p. r ≡ Ok p) d k))
+
+      module _ (p : Option HeldHere) (at_p : r ≡ Ok p) (z : Bool) (s : z ≡ is_some p) (t : z ≡ false) (y : Bool) (a : y ≡ lt_z l.number l.upper) where
+        k : r ≡ Ok None
+        k = subst (λ p. r ≡ Ok p) (none-here p z s t) at_p
+
+        pub turns-last : not y ≡ true → TurnsAre ns ts ds given level count outer run (Ok None)
         turns-last b = record { is = λ w m n room. turn w m n room ∙ deeper-done w (runs_of w outer) _ _ _ (subst (Shows w _ _) k (shown w m n room)) ∙ run-last _ _ (run_of w l) (sym a ∙ not-true y b); turned = λ room. tt }
 
         pub turns_more : not y ≡ false → (q : HeldLevel) → StepsUp l q → TurnsOn ns ts ds given level count outer run q

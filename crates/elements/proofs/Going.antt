@@ -1,4 +1,7 @@
 -- Laws of the element after an element: each answer of `after`.
+use Rattle.std.specs.Prelude.{Err, None, Ok, Option, Result, Some}
+use Rattle.std.specs.Option.{is_some}
+use Rattle.rules.specs.declared.Refused.{Refused}
 use mathlib.Core.Path.{◌≡◌, refl, sym, ◌∙◌, ap, subst, subst₂}
 use mathlib.Core.Bool.{Bool, true, false, not}
 use mathlib.Core.Logic.{inl, inr}
@@ -10,7 +13,6 @@ use lib.ListN.{length, take, drop, get_or, length-take, length-drop}
 use lib.Seq.{take-suc, drop-cons}
 use lib.IntN.{pos, ◌+ℤ◌, ◌-ℤ◌}
 use lib.Signed.{◌≤ℤ◌, lt_z, le_z}
-use Rattle.rules.specs.declared.Refusal.{Refusal}
 use Rattle.rules.specs.Limits.{index_limit}
 use Rattle.rational.specs.Integer.{up}
 use Rattle.lexer.specs.Text.{Token}
@@ -19,8 +21,6 @@ use Rattle.evaluator.specs.Tables.{World}
 use Rattle.evaluator.specs.Cycle.{nothing_bound, tokens_at}
 use Rattle.elements.specs.declared.here.Level.{Level as HeldLevel}
 use Rattle.elements.specs.declared.here.Here.{Here as HeldHere}
-use Rattle.elements.specs.declared.Step.{Step}
-use Rattle.elements.specs.declared.Step.TheVariants.{At, Done, Refused}
 use Rattle.elements.specs.Elements.{Walked, finished, reaches, followed, Behind}
 use Rattle.elements.specs.Levels.{Level, here_of, deeper, at_number, run_from}
 use Rattle.elements.specs.Held.{word_base, StepsUp, held, one_more, no-level}
@@ -30,7 +30,7 @@ use Rattle.elements.proofs.Numbers.{not-true, not-false, next-stands}
 use Rattle.elements.proofs.Ranked.{ahead-less, rank-first, rank-inner}
 use Rattle.elements.proofs.Held.{length-few}
 use Rattle.elements.proofs.Bound.{scope-more, runs-length, runs-cut, runs-at, runs-before, small-take, small-drop, next-run, next_small, next-upper, next-number}
-use Rattle.elements.proofs.Entering.{shows-as, deeper-at, deeper-refused, deeper-done, inside-none, run-last, turns-start, turns_at}
+use Rattle.elements.proofs.Entering.{some-here, none-here, shows-as, deeper-at, deeper-refused, deeper-done, inside-none, run-last, turns-start, turns_at}
 
 tail_of : {A : Type 0} {a b : A} {l k : List A} → a ∷ l ≡ b ∷ k → l ≡ k
 tail_of e = cc
@@ -54,21 +54,21 @@ module _ (h : HeldHere) (m : ℕ) (f : m < length (held h)) where
 
   -- the m-th run has gone on
   module _ (l : HeldLevel) (e : l ≡ get_or (held h) m no-level) (b : up (l.upper -ℤ l.number) < word_base) (t : lt_z l.number l.upper ≡ true) (o : HeldHere) (d : held o ≡ take m (held h)) (q : HeldLevel) (u : q.upper ≡ l.upper) (n : q.number ≡ l.number +ℤ pos 1) (count : ℕ) (c : length (drop m (held h)) ≡ suc count) where
-    lowered-turned : (z : Step) → TurnedBy o q count z → LoweredBy m h z
-    lowered-turned (At g) x = record {
+    lowered-turned : (z : Result (Option HeldHere) Refused) → TurnedBy o q count z → LoweredBy m h z
+    lowered-turned (Ok (Some g)) x = record {
       inner = x.run ∷ x.inner;
       is = x.is ∙ ap (λ p. p ++ (x.run ∷ x.inner)) d;
       size = omega (arith, x.size);
       lower = rw (here-at, ← e) (rank-first l x.run (drop (m + 1) (held h)) x.inner (omega (arith, x.size, ap length here-at)) (ahead-less l x.run b t (x.upper ∙ u) (subst (λ k. k ≤ℤ x.run.number) n x.number)));
     }
-    lowered-turned Done x = tt
-    lowered-turned (Refused r k) x = tt
+    lowered-turned (Ok None) x = tt
+    lowered-turned (Err e) x = tt
 
 module _ (ns ts ds : List ℕ) (given level m : ℕ) (h : HeldHere) (n : ℕ) (e : n ≡ length (held h)) where
   size : (w : World ns ts ds given) → length (runs_of w h) ≡ n
   size w = runs-length (tokens_at w) h ∙ sym e
 
-  pub after_none : n ≤ m → AfterIs ns ts ds given level m h Done
+  pub after_none : n ≤ m → AfterIs ns ts ds given level m h (Ok None)
   after_none f = record {
     is = λ w s us u b.
         nothing w us u (subst (λ k. Behind (entries_in w level k (scope_in w (take m (runs_of w h))) us) (drop m (runs_of w h)) u) (none_left w) b);
@@ -85,7 +85,7 @@ module _ (ns ts ds : List ℕ) (given level m : ℕ) (h : HeldHere) (n : ℕ) (e
           go (inl x) = sym x.1
           go (inr x) = absurd x
 
-  module _ (f : m < n) (r : Step) (i : AfterIs ns ts ds given level (m + 1) h r) where
+  module _ (f : m < n) (r : Result (Option HeldHere) Refused) (i : AfterIs ns ts ds given level (m + 1) h r) where
     room-held : length (take m (held h)) < index_limit
     unfolding index_limit
     room-held = simp length-take (omega (arith, length-few h))
@@ -128,31 +128,39 @@ module _ (ns ts ds : List ℕ) (given level m : ℕ) (h : HeldHere) (n : ℕ) (e
           let here : length (runs_of w h) - m ≡ suc (n - m - 1) = omega (arith, size w) in
           split-next w s u (next_of _ _ _ us (n - m - 1) (drop m (runs_of w h)) u (subst (λ c. Behind (entries_in w level c (scope_in w (take m (runs_of w h))) us) (drop m (runs_of w h)) u) here b))
 
-    pub after-at : (q : HeldHere) → r ≡ At q → AfterIs ns ts ds given level m h (At q)
+    pub after-at : (q : HeldHere) → r ≡ Ok (Some q) → AfterIs ns ts ds given level m h (Ok (Some q))
     after-at q k = record {
       is = λ w s us u b.
           let x = split (get_or (held h) m no-level) refl w s us u b in
-          shows-as w (take m (runs_of w h)) _ _ (At q) x.joins (deeper-at w _ _ _ _ q (subst (Shows w _ _) k x.shown));
+          shows-as w (take m (runs_of w h)) _ _ (Ok (Some q)) x.joins (deeper-at w _ _ _ _ q (subst (Shows w _ _) k x.shown));
       lowered = lowered-inner h m (omega arith) q (subst (LoweredBy (m + 1) h) k i.lowered);
     }
 
-    pub after-refused : (c : Refusal) (q : ℕ) → r ≡ Refused c q → AfterIs ns ts ds given level m h (Refused c q)
-    after-refused c q k = record {
-      is = λ w s us u b. let x = split (get_or (held h) m no-level) refl w s us u b in x.joins ∙ deeper-refused w (take m (runs_of w h)) _ _ _ c q (subst (Shows w _ _) k x.shown);
+    pub after-found : (p : Option HeldHere) → r ≡ Ok p → (y : Bool) → y ≡ is_some p → y ≡ true → AfterIs ns ts ds given level m h (Ok p)
+    after-found p k y s t =
+        let (q, d) = some-here p y s t in
+        subst (λ p. AfterIs ns ts ds given level m h (Ok p)) (sym d) (after-at q (subst (λ p. r ≡ Ok p) d k))
+
+    pub after-refused : (e : Refused) → r ≡ Err e → AfterIs ns ts ds given level m h (Err e)
+    after-refused z k = record {
+      is = λ w s us u b. let x = split (get_or (held h) m no-level) refl w s us u b in x.joins ∙ deeper-refused w (take m (runs_of w h)) _ _ _ z.refusal z.place (subst (Shows w _ _) k x.shown);
       lowered = tt;
     }
 
-    module _ (l : HeldLevel) (g : l ≡ get_or (held h) m no-level) (k : r ≡ Done) (y : Bool) (a : y ≡ lt_z l.number l.upper) where
+    module _ (l : HeldLevel) (g : l ≡ get_or (held h) m no-level) (p : Option HeldHere) (at_p : r ≡ Ok p) (z : Bool) (s : z ≡ is_some p) (t : z ≡ false) (y : Bool) (a : y ≡ lt_z l.number l.upper) where
+      k : r ≡ Ok None
+      k = subst (λ p. r ≡ Ok p) (none-here p z s t) at_p
+
       -- nothing more at this number
       up_to : (w : World ns ts ds given) → SmallRuns (runs_of w h) → (us : List Token) (u : Walked (List Level))
           → Behind (entries_in w level (length (runs_of w h) - m) (scope_in w (take m (runs_of w h))) us) (drop m (runs_of w h)) u
           → u ≡ run_from (entries_in w level (n - m - 1)) (scope_in w (take m (runs_of w h))) (at_number (run_of w l) (l.number +ℤ pos 1))
       up_to w s us u b = let x = split l g w s us u b in x.joins ∙ deeper-done w (take m (runs_of w h)) _ _ _ (subst (Shows w _ _) k x.shown)
 
-      pub after_last : not y ≡ true → AfterIs ns ts ds given level m h Done
+      pub after_last : not y ≡ true → AfterIs ns ts ds given level m h (Ok None)
       after_last c = record { is = λ w s us u b. up_to w s us u b ∙ run-last _ _ (run_of w l) (sym a ∙ not-true y c); lowered = tt }
 
-      pub after-turns : not y ≡ false → (q : HeldLevel) → StepsUp l q → (o : HeldHere) → held o ≡ take m (held h) → (z : Step)
+      pub after-turns : not y ≡ false → (q : HeldLevel) → StepsUp l q → (o : HeldHere) → held o ≡ take m (held h) → (z : Result (Option HeldHere) Refused)
           → TurnsAre ns ts ds given level (n - m - 1) o q z → AfterIs ns ts ds given level m h z
       after-turns b q c o d z t = record {
         is = λ w s us u v.
@@ -169,12 +177,12 @@ module _ (ns ts ds : List ℕ) (given level m : ℕ) (h : HeldHere) (n : ℕ) (e
 
 -- ---- inside no runs
 
-lowered-falls : (h : HeldHere) (r : Step) → LoweredBy 0 h r → turns_left r < turns_left (At h)
-lowered-falls h (At g) x = rw x.is (omega (arith, x.lower))
-lowered-falls h Done x = omega arith
-lowered-falls h (Refused c q) x = omega arith
+lowered-falls : (h : HeldHere) (r : Result (Option HeldHere) Refused) → LoweredBy 0 h r → turns_left r < turns_left (Ok (Some h))
+lowered-falls h (Ok (Some g)) x = rw x.is (omega (arith, x.lower))
+lowered-falls h (Ok None) x = omega arith
+lowered-falls h (Err e) x = omega arith
 
-pub next-is : (ns ts ds : List ℕ) (given level : ℕ) (h : HeldHere) (r : Step) → AfterIs ns ts ds given level 0 h r → NextIs ns ts ds given level h r
+pub next-is : (ns ts ds : List ℕ) (given level : ℕ) (h : HeldHere) (r : Result (Option HeldHere) Refused) → AfterIs ns ts ds given level 0 h r → NextIs ns ts ds given level h r
 unfolding here_of
 next-is ns ts ds given level h r i = record {
   is = λ w s n us u b.
@@ -187,20 +195,20 @@ next-is ns ts ds given level h r i = record {
 
 module _ (ns ts ds : List ℕ) (given level : ℕ) (h : HeldHere) (n : ℕ) (e : n ≡ length (held h)) where
   -- what comes next inside m runs comes next inside none
-  outwards : (g : HeldHere) (m : ℕ) → m ≤ n → AfterIs ns ts ds given level m h (At g) → AfterIs ns ts ds given level 0 h (At g)
+  outwards : (g : HeldHere) (m : ℕ) → m ≤ n → AfterIs ns ts ds given level m h (Ok (Some g)) → AfterIs ns ts ds given level 0 h (Ok (Some g))
   outwards g zero f i = i
-  outwards g (suc m) f i = outwards g m (omega arith) (after-at ns ts ds given level m h n e (omega arith) (At g) (rw add-one i) g refl)
+  outwards g (suc m) f i = outwards g m (omega arith) (after-at ns ts ds given level m h n e (omega arith) (Ok (Some g)) (rw add-one i) g refl)
 
   pub next-on : 0 < n → (l : HeldLevel) → l ≡ get_or (held h) (n - 1) no-level → (y : Bool) → y ≡ lt_z l.number l.upper → y ≡ true
       → (q : HeldLevel) → StepsUp l q → (o : HeldHere) → held o ≡ take (n - 1) (held h) → (g : HeldHere) → held g ≡ one_more (held o) q
-      → NextIs ns ts ds given level h (At g)
+      → NextIs ns ts ds given level h (Ok (Some g))
   next-on f l c y a b q d o k g x =
       let m : ℕ = n - 1 in
       let more : lt_z l.number l.upper ≡ true = sym a ∙ b in
       let not_last : not y ≡ false = rw b in
       let stands : true ≡ le_z q.number q.upper = rw (next-number l q y a not_last d, next-upper l q y a not_last d) (sym (next-stands l.number l.upper more)) in
       let inside = inside-none ns ts ds given level (n - m - 1) q.behind g (omega arith) in
-      let turns = turns_at ns ts ds given level (n - m - 1) o q q (turns-start ns ts ds given level (n - m - 1) o q) true stands refl g x (At g) inside g refl in
+      let turns = turns_at ns ts ds given level (n - m - 1) o q q (turns-start ns ts ds given level (n - m - 1) o q) true stands refl g x (Ok (Some g)) inside g refl in
       let none = after_none ns ts ds given level (m + 1) h n e (omega arith) in
-      let after = after-turns ns ts ds given level m h n e (omega arith) Done none l c refl y a not_last q d o k (At g) turns in
-      next-is ns ts ds given level h (At g) (outwards g m (omega arith) after)
+      let after = after-turns ns ts ds given level m h n e (omega arith) (Ok None) none l c None refl false refl refl y a not_last q d o k (Ok (Some g)) turns in
+      next-is ns ts ds given level h (Ok (Some g)) (outwards g m (omega arith) after)

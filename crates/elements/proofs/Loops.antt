@@ -1,5 +1,7 @@
 -- Laws for a caller's loop: it starts, goes on, ends or is refused, and what it does is `over`. At each turn the element's
 -- numbers are small, and they rise from turn to turn.
+use Rattle.std.specs.Prelude.{Err, None, Ok, Option, Result, Some}
+use Rattle.rules.specs.declared.Refused.{Refused}
 use mathlib.Core.Path.{◌≡◌, refl, sym, ◌∙◌, ap, subst, subst₂}
 use mathlib.Core.Logic.{◌⊎◌, inl, inr}
 use mathlib.Core.List.{List, [], ◌∷◌, map}
@@ -25,8 +27,6 @@ use Rattle.evaluator.specs.Cycle.{seen_by, under, nothing_bound, tokens_at}
 use Rattle.evaluator.proofs.Names.{size-count}
 use Rattle.elements.specs.declared.here.Level.{Level as HeldLevel}
 use Rattle.elements.specs.declared.here.Here.{Here as HeldHere}
-use Rattle.elements.specs.declared.Step.{Step}
-use Rattle.elements.specs.declared.Step.TheVariants.{At, Done, Refused}
 use Rattle.elements.specs.Elements.{Walked, reaches, Behind, mapped, elements_of, folded}
 use Rattle.elements.specs.Levels.{Level, here_of}
 use Rattle.elements.specs.Held.{held, number_of, bound, level_at, levels_of}
@@ -40,7 +40,7 @@ use Rattle.elements.proofs.Held.{length-few}
 use Rattle.elements.proofs.Bound.{held-scope, held_small}
 
 -- each next element is nearer to the end
-pub next-less : (ns ts ds : List ℕ) (given level : ℕ) (h : HeldHere) (r r' : Step) → r ≡ At h → NextIs ns ts ds given level h r' → turns_left r' < turns_left r
+pub next-less : (ns ts ds : List ℕ) (given level : ℕ) (h : HeldHere) (r r' : Result (Option HeldHere) Refused) → r ≡ Ok (Some h) → NextIs ns ts ds given level h r' → turns_left r' < turns_left r
 next-less ns ts ds given level h r r' e x = subst (λ y. turns_left r' < turns_left y) (sym e) x.falls
 
 -- ---- the element that the caller stands at
@@ -66,17 +66,17 @@ module _ {A : Type 0} {ns ts ds : List ℕ} {given : ℕ} (w : World ns ts ds gi
 
   -- ---- the end
 
-  pub loop-done : (a : A) (o : Outcome A) → Remains w level count at f Done a o → o ≡ done a
+  pub loop-done : (a : A) (o : Outcome A) → Remains w level count at f (Ok None) a o → o ≡ done a
   unfolding folded mapped
   loop-done a o r = sym r.due ∙ rw r.shows
 
-  pub loop-stopped : (c : Refusal) (q : ℕ) (a : A) (o : Outcome A) → Remains w level count at f (Refused c q) a o → o ≡ refused c q
+  pub loop-stopped : (e : Refused) (a : A) (o : Outcome A) → Remains w level count at f (Err e) a o → o ≡ refused e.refusal e.place
   unfolding folded mapped
-  loop-stopped c q a o r = sym r.due ∙ rw r.shows
+  loop-stopped z a o r = sym r.due ∙ rw r.shows
 
   -- ---- at an element
 
-  module _ (h : HeldHere) (a : A) (o : Outcome A) (r : Remains w level count at f (At h) a o) where
+  module _ (h : HeldHere) (a : A) (o : Outcome A) (r : Remains w level count at f (Ok (Some h)) a o) where
     -- what is left behind it
     record Left : Type 0 where
       rest : Walked (List Level)
@@ -106,7 +106,7 @@ module _ {A : Type 0} {ns ts ds : List ℕ} {given : ℕ} (w : World ns ts ds gi
       pub loop-refused : (c : Refusal) (k : ℕ) → f (under w sc) (list_of e) a ≡ refused c k → o ≡ refused c k
       loop-refused c k g = sym step-at ∙ rw g
 
-      pub loop-more : (b : A) (x : Step) → f (under w sc) (list_of e) a ≡ done b → NextIs ns ts ds given level h x → Remains w level count at f x b o
+      pub loop-more : (b : A) (x : Result (Option HeldHere) Refused) → f (under w sc) (list_of e) a ≡ done b → NextIs ns ts ds given level h x → Remains w level count at f x b o
       loop-more b x g i = record {
         walk = left.rest;
         shows = i.is w r.shows.small count (tokens_at w at) left.rest left.behind;
@@ -129,7 +129,7 @@ module _ {A : Type 0} {ns ts ds : List ℕ} {given : ℕ} (w : World ns ts ds gi
     walk-tree : mapped (here_of (nothing_bound w)) (entries_in w level count (nothing_bound w) (tokens_at w at)) ≡ elements_of d (nothing_bound w)
     walk-tree = rw (sym c ∙ size-count d) (walk-elements (seen_by w level) d (nothing_bound w) (tokens_at w at) e.rest e.reads)
 
-    pub loop-start : (r : Step) → FirstIs ns ts ds given level count at r → (a : A) → Remains w level count at f r a (over d (nothing_bound w) f a)
+    pub loop-start : (r : Result (Option HeldHere) Refused) → FirstIs ns ts ds given level count at r → (a : A) → Remains w level count at f r a (over d (nothing_bound w) f a)
     loop-start r i a = record {
       walk = entries_in w level count (nothing_bound w) (tokens_at w at);
       shows = i.is w;
@@ -138,7 +138,7 @@ module _ {A : Type 0} {ns ts ds : List ℕ} {given : ℕ} (w : World ns ts ds gi
     }
 
     -- the next element is greater, the first number first
-    pub loop-rises : (h g : HeldHere) (a : A) (o : Outcome A) → Remains w level count at f (At h) a o → NextIs ns ts ds given level h (At g) → (x y : Element)
+    pub loop-rises : (h g : HeldHere) (a : A) (o : Outcome A) → Remains w level count at f (Ok (Some h)) a o → NextIs ns ts ds given level h (Ok (Some g)) → (x y : Element)
         → list_of x ≡ map number_of (held h) → list_of y ≡ map number_of (held g) → Precedes (list_of x) (list_of y)
     loop-rises h g a o r i x y p q =
         let l = left h a o r in

@@ -63,10 +63,8 @@ impl Level {
             return self;
         }
         Level {
-            name: self.name,
             number: self.number + 1,
-            upper: self.upper,
-            behind: self.behind,
+            ..self
         }
     }
 

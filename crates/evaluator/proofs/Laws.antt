@@ -1,5 +1,6 @@
 -- Laws over plain variables for the functions without loops.
-use Rattle.std.specs.Prelude.{Option, Some, None}
+use Rattle.std.specs.Prelude.{Err, Ok, Result, Option, Some, None}
+use Rattle.rules.specs.declared.Refused.{Refused}
 use mathlib.Core.Path.{◌≡◌, refl, sym, ◌∙◌, ap, subst}
 use mathlib.Core.Bool.{Bool, true, false}
 use mathlib.Core.List.{List}
@@ -25,15 +26,10 @@ use Rattle.onepass.specs.Entries.{read}
 use Rattle.onepass.proofs.Steps.{on}
 use Rattle.tokens.specs.Stored.{from}
 use Rattle.evaluator.specs.declared.steps.scope.Scope.{Scope as Held}
-use Rattle.evaluator.specs.declared.steps.passing.Lead.{Lead}
-use Rattle.evaluator.specs.declared.steps.passing.Lead.TheVariants as lead
-use Rattle.evaluator.specs.declared.steps.values.Answer.{Answer}
-use Rattle.evaluator.specs.declared.steps.values.Answer.TheVariants as answer
 use Rattle.evaluator.specs.declared.steps.values.Limits as code
 use Rattle.evaluator.specs.Steps.Scopes.{Small}
 use Rattle.evaluator.specs.Steps.Passing.{Skips, Led, Leads}
 use Rattle.evaluator.specs.Steps.Values.{fitted_at, signed_value, whole_by, whole_answer, limits_in, SmallLimits}
-use Rattle.evaluator.specs.declared.Limited.TheVariants as limited
 use Rattle.evaluator.specs.Tables.{World}
 use Rattle.evaluator.specs.Cycle.{inside_in, formula_in, primary_in, term_in, factors_in, summands_in, part_in, subscript_in, limits_walk, value_outcome, whole_outcome, ValidAnswer, seen_by, under, tokens_at, Values, Continues, Wholes, LimitsAre}
 
@@ -102,39 +98,39 @@ rounded-small v u h k = record { low = omega (arith, ceiling-size v, h.small); h
 -- ---- what an answer says
 
 module _ (ns ts ds : List ℕ) (given level : ℕ) (sc : Held) where
-  module _ {W : List Name → Walk} {at : ℕ} {r : Answer} (h : Values W ns ts ds given level sc at r) where
-    pub refused-is : {m : Refusal} {p : ℕ} → r ≡ answer.Refused m p → (w : World ns ts ds given) → Small sc → W (seen_by w level) (under w sc) (tokens_at w at) ≡ refused m p
+  module _ {W : List Name → Walk} {at : ℕ} {r : Result (Value × ℕ) Refused} (h : Values W ns ts ds given level sc at r) where
+    pub refused-is : {m : Refusal} {p : ℕ} → r ≡ Err (record { refusal = m; place = p }) → (w : World ns ts ds given) → Small sc → W (seen_by w level) (under w sc) (tokens_at w at) ≡ refused m p
     refused-is e w g = h.is w g ∙ ap (value_outcome w.text ts) e
 
-    pub value-is : {v : Value} {a : ℕ} → r ≡ answer.Value v a → (w : World ns ts ds given) → Small sc → W (seen_by w level) (under w sc) (tokens_at w at) ≡ read v (tokens_at w a)
+    pub value-is : {v : Value} {a : ℕ} → r ≡ Ok (v, a) → (w : World ns ts ds given) → Small sc → W (seen_by w level) (under w sc) (tokens_at w at) ≡ read v (tokens_at w a)
     value-is e w g = h.is w g ∙ ap (value_outcome w.text ts) e
 
-    pub value-valid : {v : Value} {a : ℕ} → r ≡ answer.Value v a → World ns ts ds given → Small sc → Valid v
+    pub value-valid : {v : Value} {a : ℕ} → r ≡ Ok (v, a) → World ns ts ds given → Small sc → Valid v
     value-valid e w g = subst ValidAnswer e (h.valid w g)
 
-  module _ {W : List Name → Scope → Reader ℤ} {at : ℕ} {r : Answer} (h : Wholes W ns ts ds given level sc at r) where
-    pub no_whole : {m : Refusal} {p : ℕ} → r ≡ answer.Refused m p → (w : World ns ts ds given) → Small sc → W (seen_by w level) (under w sc) (tokens_at w at) ≡ refused m p
+  module _ {W : List Name → Scope → Reader ℤ} {at : ℕ} {r : Result (Value × ℕ) Refused} (h : Wholes W ns ts ds given level sc at r) where
+    pub no_whole : {m : Refusal} {p : ℕ} → r ≡ Err (record { refusal = m; place = p }) → (w : World ns ts ds given) → Small sc → W (seen_by w level) (under w sc) (tokens_at w at) ≡ refused m p
     no_whole e w g = h.is w g ∙ ap (whole_outcome w.text ts) e
 
-    pub whole_is : {v : Value} {a : ℕ} → r ≡ answer.Value v a → (w : World ns ts ds given) → Small sc → W (seen_by w level) (under w sc) (tokens_at w at) ≡ read v.m (tokens_at w a)
+    pub whole_is : {v : Value} {a : ℕ} → r ≡ Ok (v, a) → (w : World ns ts ds given) → Small sc → W (seen_by w level) (under w sc) (tokens_at w at) ≡ read v.m (tokens_at w a)
     whole_is e w g = h.is w g ∙ ap (whole_outcome w.text ts) e
 
-    pub whole-small : {v : Value} {a : ℕ} → r ≡ answer.Value v a → World ns ts ds given → Small sc → nat_abs v.m ≤ mantissa_limit
+    pub whole-small : {v : Value} {a : ℕ} → r ≡ Ok (v, a) → World ns ts ds given → Small sc → nat_abs v.m ≤ mantissa_limit
     whole-small e w g = (subst ValidAnswer e (h.valid w g)).small
 
   -- a refusal that is handed on
-  pub handed : (W : List Name → Walk) (at : ℕ) (m : Refusal) (p : ℕ) (r : Answer) → r ≡ answer.Refused m p
-      → ((w : World ns ts ds given) → Small sc → W (seen_by w level) (under w sc) (tokens_at w at) ≡ refused m p) → Values W ns ts ds given level sc at r
-  handed W at m p r e f = record { is = λ w g. f w g ∙ sym (ap (value_outcome w.text ts) e); valid = λ w g. subst ValidAnswer (sym e) tt }
+  pub handed : (W : List Name → Walk) (at : ℕ) (e : Refused) (r : Result (Value × ℕ) Refused) → r ≡ Err e
+      → ((w : World ns ts ds given) → Small sc → W (seen_by w level) (under w sc) (tokens_at w at) ≡ refused e.refusal e.place) → Values W ns ts ds given level sc at r
+  handed W at z r e f = record { is = λ w g. f w g ∙ sym (ap (value_outcome w.text ts) e); valid = λ w g. subst ValidAnswer (sym e) tt }
 
   -- ---- inside a bracket
 
-  pub inside-full : (n at : ℕ) → n ≡ 0 → Values (inside_in n) ns ts ds given level sc at (answer.Refused Full 0)
+  pub inside-full : (n at : ℕ) → n ≡ 0 → Values (inside_in n) ns ts ds given level sc at (Err (record { refusal = Full; place = 0 }))
   unfolding inside_in walk_inside
   inside-full zero at e = record { is = λ w g. refl; valid = λ w g. tt }
   inside-full (suc n) at e = absurd (omega arith)
 
-  pub inside-formula : (n at : ℕ) (r : Answer) → (n ≡ 0 → ⊥) → Values (formula_in (n - 1)) ns ts ds given level sc at r → Values (inside_in n) ns ts ds given level sc at r
+  pub inside-formula : (n at : ℕ) (r : Result (Value × ℕ) Refused) → (n ≡ 0 → ⊥) → Values (formula_in (n - 1)) ns ts ds given level sc at r → Values (inside_in n) ns ts ds given level sc at r
   unfolding inside_in formula_in value_at
   inside-formula zero at r e h = absurd (e refl)
   inside-formula (suc n) at r e h =
@@ -143,27 +139,27 @@ module _ (ns ts ds : List ℕ) (given level : ℕ) (sc : Held) where
 
   -- ---- a formula and the sign behind it
 
-  module _ (n at : ℕ) (r : Answer) (h : Values (inside_in n) ns ts ds given level sc at r) where
-    pub part-refused : (m : Refusal) (p : ℕ) → r ≡ answer.Refused m p → Values (part_in n) ns ts ds given level sc at r
+  module _ (n at : ℕ) (r : Result (Value × ℕ) Refused) (h : Values (inside_in n) ns ts ds given level sc at r) where
+    pub part-refused : (e : Refused) → r ≡ Err e → Values (part_in n) ns ts ds given level sc at r
     unfolding part_in walk_part inside_in
-    part-refused m p e = handed (part_in n) at m p r e (λ w g. stop _ _ m p (refused-is h e w g))
+    part-refused z e = handed (part_in n) at z r e (λ w g. stop _ _ z.refusal z.place (refused-is h e w g))
 
-    pub part-skip : (v : Value) (a b : ℕ) → r ≡ answer.Value v a → Skips ts a b → Values (part_in n) ns ts ds given level sc at (answer.Value v b)
+    pub part-skip : (v : Value) (a b : ℕ) → r ≡ Ok (v, a) → Skips ts a b → Values (part_in n) ns ts ds given level sc at (Ok (v, b))
     unfolding part_in walk_part inside_in
     part-skip v a b e f = record { is = λ w g. on _ _ v (tokens_at w a) _ (value-is h e w g) (on _ _ tt (tokens_at w b) _ (f.is w.text) refl); valid = value-valid h e }
 
   -- ---- a subscript
 
-  module _ (n p at : ℕ) (r : Answer) (h : Values (part_in n) ns ts ds given level sc at r) where
-    pub subscript-refused : (m : Refusal) (q : ℕ) → r ≡ answer.Refused m q → Wholes (subscript_in n p) ns ts ds given level sc at r
+  module _ (n p at : ℕ) (r : Result (Value × ℕ) Refused) (h : Values (part_in n) ns ts ds given level sc at r) where
+    pub subscript-refused : (e : Refused) → r ≡ Err e → Wholes (subscript_in n p) ns ts ds given level sc at r
     unfolding subscript_in part_in
-    subscript-refused m q e =
+    subscript-refused z e =
         record {
-          is = λ w g. stop _ _ m q (refused-is h e w g) ∙ sym (ap (whole_outcome w.text ts) e);
+          is = λ w g. stop _ _ z.refusal z.place (refused-is h e w g) ∙ sym (ap (whole_outcome w.text ts) e);
           valid = λ w g. subst ValidAnswer (sym e) tt;
         }
 
-    pub subscript-whole : (v : Value) (a : ℕ) (z : Answer) → r ≡ answer.Value v a → z ≡ whole_answer p a v → Wholes (subscript_in n p) ns ts ds given level sc at z
+    pub subscript-whole : (v : Value) (a : ℕ) (z : Result (Value × ℕ) Refused) → r ≡ Ok (v, a) → z ≡ whole_answer p a v → Wholes (subscript_in n p) ns ts ds given level sc at z
     unfolding subscript_in part_in
     subscript-whole v a z e f =
         record {
@@ -173,18 +169,18 @@ module _ (ns ts ds : List ℕ) (given level : ℕ) (sc : Held) where
 
   -- ---- two limits
 
-  module _ (n at : ℕ) (r : Answer) (h : Values (part_in n) ns ts ds given level sc at r) where
-    pub limits-low : (m : Refusal) (q : ℕ) → r ≡ answer.Refused m q → LimitsAre (limits_walk n) ns ts ds given level sc at (limited.Refused m q)
+  module _ (n at : ℕ) (r : Result (Value × ℕ) Refused) (h : Values (part_in n) ns ts ds given level sc at r) where
+    pub limits-low : (e : Refused) → r ≡ Err e → LimitsAre (limits_walk n) ns ts ds given level sc at (Err e)
     unfolding limits_walk walk_limits part_in
-    limits-low m q e = record { is = λ w g. stop _ _ m q (refused-is h e w g); small = λ w g. tt }
+    limits-low z e = record { is = λ w g. stop _ _ z.refusal z.place (refused-is h e w g); small = λ w g. tt }
 
-    module _ (v : Value) (a : ℕ) (e : r ≡ answer.Value v a) (z : Answer) (k : Values (part_in n) ns ts ds given level sc a z) where
-      pub limits-high : (m : Refusal) (q : ℕ) → z ≡ answer.Refused m q → LimitsAre (limits_walk n) ns ts ds given level sc at (limited.Refused m q)
+    module _ (v : Value) (a : ℕ) (e : r ≡ Ok (v, a)) (z : Result (Value × ℕ) Refused) (k : Values (part_in n) ns ts ds given level sc a z) where
+      pub limits-high : (e : Refused) → z ≡ Err e → LimitsAre (limits_walk n) ns ts ds given level sc at (Err e)
       unfolding limits_walk walk_limits part_in
-      limits-high m q f = record { is = λ w g. on _ _ v (tokens_at w a) _ (value-is h e w g) (stop _ _ m q (refused-is k f w g)); small = λ w g. tt }
+      limits-high z f = record { is = λ w g. on _ _ v (tokens_at w a) _ (value-is h e w g) (stop _ _ z.refusal z.place (refused-is k f w g)); small = λ w g. tt }
 
-      pub limits-both : (u : Value) (b : ℕ) (l : code.Limits) → z ≡ answer.Value u b → l ≡ record { lower = ceiling_of v; upper = floor_of u }
-          → LimitsAre (limits_walk n) ns ts ds given level sc at (limited.Limits l b)
+      pub limits-both : (u : Value) (b : ℕ) (l : code.Limits) → z ≡ Ok (u, b) → l ≡ record { lower = ceiling_of v; upper = floor_of u }
+          → LimitsAre (limits_walk n) ns ts ds given level sc at (Ok (l, b))
       unfolding limits_walk walk_limits part_in
       limits-both u b l f i =
           record {
@@ -196,12 +192,12 @@ module _ (ns ts ds : List ℕ) (given level : ℕ) (sc : Held) where
 
   -- ---- terms and formulas
 
-  module _ (n at : ℕ) (r : Answer) (h : Values (primary_in n) ns ts ds given level sc at r) where
-    pub term-refused : (m : Refusal) (p : ℕ) → r ≡ answer.Refused m p → Values (term_in n) ns ts ds given level sc at r
+  module _ (n at : ℕ) (r : Result (Value × ℕ) Refused) (h : Values (primary_in n) ns ts ds given level sc at r) where
+    pub term-refused : (e : Refused) → r ≡ Err e → Values (term_in n) ns ts ds given level sc at r
     unfolding term_in walk_term primary_in
-    term-refused m p e = handed (term_in n) at m p r e (λ w g. stop _ _ m p (refused-is h e w g))
+    term-refused z e = handed (term_in n) at z r e (λ w g. stop _ _ z.refusal z.place (refused-is h e w g))
 
-    pub term-rest : (v : Value) (a : ℕ) (z : Answer) → r ≡ answer.Value v a → Continues (factors_in n token_limit) ns ts ds given level sc a v z → Values (term_in n) ns ts ds given level sc at z
+    pub term-rest : (v : Value) (a : ℕ) (z : Result (Value × ℕ) Refused) → r ≡ Ok (v, a) → Continues (factors_in n token_limit) ns ts ds given level sc a v z → Values (term_in n) ns ts ds given level sc at z
     unfolding term_in walk_term primary_in factors_in
     term-rest v a z e k =
         record {
@@ -209,37 +205,37 @@ module _ (ns ts ds : List ℕ) (given level : ℕ) (sc : Held) where
           valid = λ w g. k.valid w g (value-valid h e w g);
         }
 
-  module _ (n at : ℕ) (x : Lead) (l : Leads ts at x) where
+  module _ (n at : ℕ) (x : Result (Bool × ℕ) Refused) (l : Leads ts at x) where
     formula_rest : List Name → Scope → Bool → Reader Value
     formula_rest names s b = term_in n names s >>= (λ v. summands_in n token_limit (signed b v) names s)
 
     -- the sign that was read
-    led-refused : (m : Refusal) (p : ℕ) → x ≡ lead.Refused m p → (w : World ns ts ds given) → read_sign (tokens_at w at) ≡ refused m p
-    led-refused m p e w = go (read_sign (tokens_at w at)) (subst (Led (read_sign (tokens_at w at)) w.text ts) e (l.led w.text))
+    led-refused : (e : Refused) → x ≡ Err e → (w : World ns ts ds given) → read_sign (tokens_at w at) ≡ refused e.refusal e.place
+    led-refused z e w = go (read_sign (tokens_at w at)) (subst (Led (read_sign (tokens_at w at)) w.text ts) e (l.led w.text))
       where
-        go : (o : _) → Led o w.text ts (lead.Refused m p) → o ≡ refused m p
+        go : (o : _) → Led o w.text ts (Err z) → o ≡ refused z.refusal z.place
         go (done y) d = absurd d
         go (refused k q) d = rw (d.0, d.1) refl
 
-    led-sign : (b : Bool) (a : ℕ) → x ≡ lead.Sign b a → (w : World ns ts ds given) (z : Outcome (Read Value)) → formula_rest (seen_by w level) (under w sc) b (tokens_at w a) ≡ z
+    led-sign : (b : Bool) (a : ℕ) → x ≡ Ok (b, a) → (w : World ns ts ds given) (z : Outcome (Read Value)) → formula_rest (seen_by w level) (under w sc) b (tokens_at w a) ≡ z
         → formula_in n (seen_by w level) (under w sc) (tokens_at w at) ≡ z
     unfolding formula_in value_at walk_inside walk_formula formula_rest term_in summands_in
     led-sign b a e w z f = go (read_sign (tokens_at w at)) (subst (Led (read_sign (tokens_at w at)) w.text ts) e (l.led w.text))
       where
-        go : (o : _) → Led o w.text ts (lead.Sign b a) → follow o (λ g. formula_rest (seen_by w level) (under w sc) g.negative) ≡ z
+        go : (o : _) → Led o w.text ts (Ok (b, a)) → follow o (λ g. formula_rest (seen_by w level) (under w sc) g.negative) ≡ z
         go (done y) d = rw (d.0, d.1) f
         go (refused k q) d = absurd d
 
-    pub formula-sign : (m : Refusal) (p : ℕ) → x ≡ lead.Refused m p → Values (formula_in n) ns ts ds given level sc at (answer.Refused m p)
+    pub formula-sign : (e : Refused) → x ≡ Err e → Values (formula_in n) ns ts ds given level sc at (Err e)
     unfolding formula_in value_at walk_inside walk_formula
-    formula-sign m p e = record { is = λ w g. stop _ _ m p (led-refused m p e w); valid = λ w g. tt }
+    formula-sign z e = record { is = λ w g. stop _ _ z.refusal z.place (led-refused z e w); valid = λ w g. tt }
 
-    module _ (b : Bool) (a : ℕ) (e : x ≡ lead.Sign b a) (r : Answer) (h : Values (term_in n) ns ts ds given level sc a r) where
-      pub formula-term : (m : Refusal) (p : ℕ) → r ≡ answer.Refused m p → Values (formula_in n) ns ts ds given level sc at r
+    module _ (b : Bool) (a : ℕ) (e : x ≡ Ok (b, a)) (r : Result (Value × ℕ) Refused) (h : Values (term_in n) ns ts ds given level sc a r) where
+      pub formula-term : (e : Refused) → r ≡ Err e → Values (formula_in n) ns ts ds given level sc at r
       unfolding formula_rest
-      formula-term m p f = handed (formula_in n) at m p r f (λ w g. led-sign b a e w _ (stop _ _ m p (refused-is h f w g)))
+      formula-term z f = handed (formula_in n) at z r f (λ w g. led-sign b a e w _ (stop _ _ z.refusal z.place (refused-is h f w g)))
 
-      pub formula-rest : (v u : Value) (c : ℕ) (z : Answer) → r ≡ answer.Value v c → u ≡ signed_value b v → Continues (summands_in n token_limit) ns ts ds given level sc c u z
+      pub formula-rest : (v u : Value) (c : ℕ) (z : Result (Value × ℕ) Refused) → r ≡ Ok (v, c) → u ≡ signed_value b v → Continues (summands_in n token_limit) ns ts ds given level sc c u z
           → Values (formula_in n) ns ts ds given level sc at z
       unfolding formula_rest
       formula-rest v u c z f i k =
@@ -254,6 +250,6 @@ module _ (ns ts ds : List ℕ) (given level : ℕ) (sc : Held) where
           }
 
   -- a formula that may open as many brackets as a text may
-  pub value-formula : (at : ℕ) (r : Answer) → Values (formula_in 12) ns ts ds given level sc at r → Values (formula_in nesting_limit) ns ts ds given level sc at r
+  pub value-formula : (at : ℕ) (r : Result (Value × ℕ) Refused) → Values (formula_in 12) ns ts ds given level sc at r → Values (formula_in nesting_limit) ns ts ds given level sc at r
   unfolding nesting_limit
   value-formula at r h = h

@@ -1,4 +1,6 @@
 -- Laws over plain variables for subscripts and for the domain test.
+use Rattle.std.specs.Prelude.{Err, Ok, Result}
+use Rattle.rules.specs.declared.Refused.{Refused}
 use mathlib.Core.Path.{◌≡◌, refl, sym, ◌∙◌, ap, subst}
 use mathlib.Core.Bool.{true, ◌&&◌}
 use mathlib.Core.List.{List, [], ◌∷◌, ◌++◌, append-nil}
@@ -10,7 +12,6 @@ use lib.ListN.{length, get_or, drop, length-append}
 use lib.Seq.{drop-cons, append_snoc, drop-length}
 use lib.IntN.{ℤ, pos}
 use lib.Signed.{le_z}
-use Rattle.rules.specs.declared.Refusal.{Refusal}
 use Rattle.rules.specs.declared.Refusal.TheVariants.{Outside}
 use Rattle.rules.specs.Limits.{nesting_limit, index_limit}
 use Rattle.value.specs.declared.Value.{Value}
@@ -29,19 +30,11 @@ use Rattle.store.specs.declared.Element.{Element}
 use Rattle.store.specs.Element.{list_of, extended, Subscripts}
 use Rattle.store.proofs.Elements.{extended-room, subscripts-none, subscripts-extended}
 use Rattle.evaluator.specs.declared.steps.scope.Scope.{Scope as Held}
-use Rattle.evaluator.specs.declared.steps.values.Answer.{Answer}
-use Rattle.evaluator.specs.declared.steps.values.Answer.TheVariants as answer
 use Rattle.evaluator.specs.declared.steps.values.Bounds as code
-use Rattle.evaluator.specs.declared.steps.values.Tested.{Tested}
-use Rattle.evaluator.specs.declared.steps.values.Tested.TheVariants as tested
 use Rattle.evaluator.specs.Steps.Scopes.{bindings_of, bound_more, scope_of, Small}
 use Rattle.evaluator.specs.Steps.Passing.{Skips}
 use Rattle.evaluator.specs.Steps.Values.{TestedAs, Tests}
 use Rattle.evaluator.proofs.steps.Scopes.{scope-bind, small-none, small-bind}
-use Rattle.evaluator.specs.declared.Numbers.TheVariants as numbers
-use Rattle.evaluator.specs.declared.Entered.{Entered}
-use Rattle.evaluator.specs.declared.Entered.TheVariants as entered
-use Rattle.evaluator.specs.declared.Passed.TheVariants as passed
 use Rattle.evaluator.specs.Tables.{World}
 use Rattle.evaluator.specs.Cycle.{subscript_in, entry_in, bounds_outcome, seen_by, under, nothing_bound, tokens_at, Wholes, EntryIs, SubscriptsAre, WithinIs}
 use Rattle.evaluator.proofs.Laws.{regroup, no_whole, whole_is, whole-small}
@@ -73,7 +66,7 @@ module _ (n p count : ℕ) (ns ts ds : List ℕ) (given level : ℕ) (sc : Held)
         → follow (whole_list n p left (seen_by w level) (under w sc) (tokens_at w a)) (λ ks. give (list_of e ++ ks)) ≡ walk_subscripts (walk_inside (seen_by w level) n) d (under w sc) p (tokens_at w at)
     pub small : World ns ts ds given → Small sc → count ≤ index_limit → Subscripts (list_of e)
 
-  pub subscripts-point : (e : Element) → list_of e ≡ [] → count ≡ 0 → SubscriptsAre n p count ns ts ds given level sc at (numbers.Element e at)
+  pub subscripts-point : (e : Element) → list_of e ≡ [] → count ≡ 0 → SubscriptsAre n p count ns ts ds given level sc at (Ok (e, at))
   unfolding walk_subscripts size
   subscripts-point e f z = record { is = λ w g d s h. go w d s; small = λ w g h. subst Subscripts (sym f) subscripts-none }
     where
@@ -81,14 +74,15 @@ module _ (n p count : ℕ) (ns ts ds : List ℕ) (given level : ℕ) (sc : Held)
       go w point s = ap (λ l. read l (tokens_at w at)) (sym f)
       go w (span i lo hi q d) s = absurd (omega (arith, s, z))
 
-  pub numbers-start : (e : Element) (a : ℕ) → list_of e ≡ [] → (count ≡ 0 → ⊥) → Skips ts at a → NumbersOn e a count
+  pub numbers-start : (e : Element) (a : ℕ) → list_of e ≡ [] → (count ≡ 0 → ⊥) → Skips ts at a → NumbersOn e a (count - 0)
   unfolding walk_subscripts size
   numbers-start e a f z k =
-      record {
+      let d : count - 0 ≡ count = omega arith in
+      rw d (record {
         sized = λ h. rw f (omega arith);
         same = λ w g h d s. go w d s;
         small = λ w g h. subst Subscripts (sym f) subscripts-none;
-      }
+      })
     where
       none : (o : Outcome (Read (List ℤ))) → follow o (λ ks. give (list_of e ++ ks)) ≡ o
       none (done x) = ap (λ l. read (l ++ x.what) x.rest) f
@@ -102,22 +96,25 @@ module _ (n p count : ℕ) (ns ts ds : List ℕ) (given level : ℕ) (sc : Held)
           ∙ ap (λ c. whole_list n p c (seen_by w level) (under w sc) (tokens_at w a)) (sym s)
           ∙ sym (on (skip (tokens_at w at)) _ tt (tokens_at w a) _ (k.is w.text) (list-is n p (seen_by w level) (under w sc) (span i lo hi q d) (tokens_at w a)))
 
-  module _ (e : Element) (a left : ℕ) (o : NumbersOn e a left) where
-    pub numbers-end : left ≤ 0 → SubscriptsAre n p count ns ts ds given level sc at (numbers.Element e a)
+  module _ (e : Element) (a turns : ℕ) (o : NumbersOn e a (count - turns)) where
+    abbrev left : ℕ
+    left = count - turns
+
+    pub numbers-end : count ≤ turns → SubscriptsAre n p count ns ts ds given level sc at (Ok (e, a))
     unfolding whole_list
-    numbers-end h = record { is = λ w g d s c. sym (o.same w g c d s) ∙ go left h w; small = o.small }
+    numbers-end h = record { is = λ w g d s c. sym (o.same w g c d s) ∙ go left (omega arith) w; small = o.small }
       where
         go : (k : ℕ) → k ≤ 0 → (w : World ns ts ds given) → follow (whole_list n p k (seen_by w level) (under w sc) (tokens_at w a)) (λ ks. give (list_of e ++ ks)) ≡ read (list_of e) (tokens_at w a)
         go zero h w = ap (λ l. read l (tokens_at w a)) (append-nil (list_of e))
         go (suc k) h w = absurd (omega arith)
 
-    module _ (h : 0 < left) (r : Answer) (k : Wholes (subscript_in n p) ns ts ds given level sc a r) where
+    module _ (h : turns < count) (r : Result (Value × ℕ) Refused) (k : Wholes (subscript_in n p) ns ts ds given level sc a r) where
       -- the next one and those behind it
       one : (w : World ns ts ds given) (x : Outcome (Read ℤ)) → subscript_in n p (seen_by w level) (under w sc) (tokens_at w a) ≡ x
           → follow (whole_list n p left (seen_by w level) (under w sc) (tokens_at w a)) (λ ks. give (list_of e ++ ks))
           ≡ follow x (λ j l. follow (whole_list n p (left - 1) (seen_by w level) (under w sc) l) (λ ks. give (list_of e ++ (j ∷ ks))))
       unfolding whole_list
-      one w x f = go left h
+      one w x f = go left (omega arith)
         where
           regrouped : (x : Outcome (Read ℤ)) (k : ℕ) → follow (follow x (λ j. whole_list n p k (seen_by w level) (under w sc) >>= (λ ks. give (j ∷ ks)))) (λ ks. give (list_of e ++ ks))
               ≡ follow x (λ j l. follow (whole_list n p k (seen_by w level) (under w sc) l) (λ ks. give (list_of e ++ (j ∷ ks))))
@@ -133,13 +130,14 @@ module _ (n p count : ℕ) (ns ts ds : List ℕ) (given level : ℕ) (sc : Held)
               ∙ regrouped x k
               ∙ ap (λ k. follow x (λ j l. follow (whole_list n p k (seen_by w level) (under w sc) l) (λ ks. give (list_of e ++ (j ∷ ks))))) (sym d)
 
-      pub numbers-refused : (m : Refusal) (q : ℕ) → r ≡ answer.Refused m q → SubscriptsAre n p count ns ts ds given level sc at (numbers.Refused m q)
-      numbers-refused m q f = record { is = λ w g d s c. sym (o.same w g c d s) ∙ one w (refused m q) (no_whole ns ts ds given level sc k f w g); small = λ w g c. tt }
+      pub numbers-refused : (e : Refused) → r ≡ Err e → SubscriptsAre n p count ns ts ds given level sc at (Err e)
+      numbers-refused z f = record { is = λ w g d s c. sym (o.same w g c d s) ∙ one w (refused z.refusal z.place) (no_whole ns ts ds given level sc k f w g); small = λ w g c. tt }
 
-      pub numbers_on : (v : Value) (b : ℕ) (e' : Element) → r ≡ answer.Value v b → list_of e' ≡ extended (list_of e) v.m → NumbersOn e' b (left - 1)
+      pub numbers_on : (v : Value) (b : ℕ) (e' : Element) → r ≡ Ok (v, b) → list_of e' ≡ extended (list_of e) v.m → NumbersOn e' b (count - (turns + 1))
       unfolding index_limit
       numbers_on v b e' f x =
-          record {
+          let less : count - (turns + 1) ≡ left - 1 = omega arith in
+          rw less (record {
             sized = λ c. rw (grown c) (simp length-append (omega (arith, o.sized c)));
             same = λ w g c d s.
                 ap (λ l. follow (whole_list n p (left - 1) (seen_by w level) (under w sc) (tokens_at w b)) (λ ks. give (l ++ ks))) (grown c)
@@ -147,7 +145,7 @@ module _ (n p count : ℕ) (ns ts ds : List ℕ) (given level : ℕ) (sc : Held)
                 ∙ sym (one w (read v.m (tokens_at w b)) (whole_is ns ts ds given level sc k f w g))
                 ∙ o.same w g c d s;
             small = λ w g c. subst Subscripts (sym x) (subscripts-extended (list_of e) v.m (o.small w g c) (whole-small ns ts ds given level sc k f w g));
-          }
+          })
         where
           grown : count ≤ 4 → list_of e' ≡ list_of e ++ (v.m ∷ [])
           grown c = x ∙ extended-room (list_of e) v.m (omega (arith, o.sized c))
@@ -182,14 +180,14 @@ module _ (ns ts ds : List ℕ) (given level at : ℕ) (e : Element) (p : ℕ) wh
         within = omega arith;
       }
 
-  pub within_end : (sc : Held) (a j n : ℕ) → WithinOn sc a j → n ≡ length (list_of e) → n ≤ j → WithinIs ns ts ds given level at e p passed.Inside
+  pub within_end : (sc : Held) (a j n : ℕ) → WithinOn sc a j → n ≡ length (list_of e) → n ≤ j → WithinIs ns ts ds given level at e p (Ok tt)
   unfolding walk_within
   within_end sc a j n o f h = record { is = λ w s. sym (o.same w s) ∙ ap (λ ks. test_of w ks (under w sc) a) none }
     where
       none : drop j (list_of e) ≡ []
       none = let d : j ≡ length (list_of e) = omega (arith, o.within) in rw d (drop-length (list_of e))
 
-  module _ (sc : Held) (a j n : ℕ) (o : WithinOn sc a j) (f : n ≡ length (list_of e)) (h : j < n) (y : Entered) (k : EntryIs (entry_in 12) ns ts ds given level sc a y) where
+  module _ (sc : Held) (a j n : ℕ) (o : WithinOn sc a j) (f : n ≡ length (list_of e)) (h : j < n) (y : Result (code.Bounds × ℕ) Refused) (k : EntryIs (entry_in 12) ns ts ds given level sc a y) where
     number : ℤ
     number = get_or (list_of e) j (pos 0)
 
@@ -197,7 +195,7 @@ module _ (ns ts ds : List ℕ) (given level at : ℕ) (e : Element) (p : ℕ) wh
     test_rest : World ns ts ds given → Bounds → Reader (Unit {0})
     test_rest w b = lift (check Outside p (le_z b.limits.lower number && le_z number b.limits.upper)) >>= (λ _. walk_within (seen_by w level) (in_domain_walk (seen_by w level)) (drop (j + 1) (list_of e)) (bind b.number number (under w sc)) p)
 
-    entered_at : (z : Entered) → y ≡ z → (w : World ns ts ds given) → (s : Subscripts (list_of e)) → test_of w (list_of e) (nothing_bound w) at ≡ what_of (follow (bounds_outcome w.text ts z) (test_rest w))
+    entered_at : (z : Result (code.Bounds × ℕ) Refused) → y ≡ z → (w : World ns ts ds given) → (s : Subscripts (list_of e)) → test_of w (list_of e) (nothing_bound w) at ≡ what_of (follow (bounds_outcome w.text ts z) (test_rest w))
     unfolding walk_within test_rest entry_in nesting_limit number
     entered_at z i w s =
         sym (o.same w s)
@@ -207,17 +205,17 @@ module _ (ns ts ds : List ℕ) (given level at : ℕ) (e : Element) (p : ℕ) wh
         next : drop j (list_of e) ≡ number ∷ drop (j + 1) (list_of e)
         next = let d : j + 1 ≡ suc j = omega arith in rw d (drop-cons (list_of e) j (pos 0) (omega arith))
 
-    pub within-entry : (m : Refusal) (q : ℕ) → y ≡ entered.Refused m q → WithinIs ns ts ds given level at e p (passed.Refused m q)
-    within-entry m q i = record { is = λ w s. entered_at _ i w s }
+    pub within-entry : (w : Refused) → y ≡ Err w → WithinIs ns ts ds given level at e p (Err w)
+    within-entry z i = record { is = λ w s. entered_at _ i w s }
 
-    module _ (b : code.Bounds) (c : ℕ) (i : y ≡ entered.Bounds b c) (t : Tested) (g : Tests sc (list_of e) j b p t) where
-      pub within-outside : (m : Refusal) (q : ℕ) → t ≡ tested.Refused m q → WithinIs ns ts ds given level at e p (passed.Refused m q)
+    module _ (b : code.Bounds) (c : ℕ) (i : y ≡ Ok (b, c)) (t : Result Held Refused) (g : Tests sc (list_of e) j b p t) where
+      pub within-outside : (w : Refused) → t ≡ Err w → WithinIs ns ts ds given level at e p (Err w)
       unfolding test_rest number
-      within-outside m q u =
+      within-outside y u =
           let (x, r, s) = subst (TestedAs sc (get_or (list_of e) j (pos 0)) b p) u g.is in
           record { is = λ w z. entered_at _ i w z ∙ rw (x, r, s) refl }
 
-      pub within_on : (s : Held) → t ≡ tested.Inside s → WithinOn s c (j + 1)
+      pub within_on : (s : Held) → t ≡ Ok s → WithinOn s c (j + 1)
       unfolding test_rest number bound_more index_limit
       within_on s u =
           let (x, d) = subst (TestedAs sc (get_or (list_of e) j (pos 0)) b p) u g.is in

@@ -1,5 +1,6 @@
 -- Laws over plain variables for a primary that is a name, and for a datum.
-use Rattle.std.specs.Prelude.{Option, Some, None, slice_get}
+use Rattle.std.specs.Prelude.{Err, Ok, Result, Option, Some, None, slice_get}
+use Rattle.rules.specs.declared.Refused.{Refused}
 use mathlib.Core.Path.{◌≡◌, refl, sym, ◌∙◌, ap, subst}
 use mathlib.Core.Bool.{true, false, ◌||◌}
 use mathlib.Core.List.{List, [], ◌∷◌}
@@ -36,17 +37,10 @@ use Rattle.store.specs.Packed.{unpacked}
 use Rattle.store.specs.Entries.{Keyed}
 use Rattle.evaluator.specs.declared.steps.scope.Scope.{Scope as Held}
 use Rattle.evaluator.specs.declared.steps.names.Listed.{Listed}
-use Rattle.evaluator.specs.declared.steps.names.Listed.TheVariants as listed
-use Rattle.evaluator.specs.declared.steps.values.Answer.{Answer}
-use Rattle.evaluator.specs.declared.steps.values.Answer.TheVariants as answer
 use Rattle.evaluator.specs.Steps.Scopes.{bindings_of, scope_of, Small}
 use Rattle.evaluator.specs.Steps.Values.{bound_by, bound_answer, word_answer, known_answer}
 use Rattle.evaluator.proofs.steps.Answers.{known-word}
 use Rattle.evaluator.proofs.steps.Scopes.{small-to}
-use Rattle.evaluator.specs.declared.Numbers.{Numbers}
-use Rattle.evaluator.specs.declared.Numbers.TheVariants as numbers
-use Rattle.evaluator.specs.declared.Passed.{Passed}
-use Rattle.evaluator.specs.declared.Passed.TheVariants as passed
 use Rattle.evaluator.specs.Tables.{DomainAt, FormulaAt, Stands, value_in, World}
 use Rattle.evaluator.specs.Cycle.{formula_in, value_outcome, ValidAnswer, numbers_outcome, SmallNumbers, passed_outcome, seen_by, under, nothing_bound, tokens_at, Values, SubscriptsAre, WithinIs, KnownAs, Told, NamedIs, DatumIs}
 use Rattle.evaluator.proofs.Laws.{stop}
@@ -86,46 +80,46 @@ size-count (span i f g p d) = ap suc (size-count d)
 
 -- ---- a name
 
-module _ (ns ts ds : List ℕ) (given level : ℕ) (sc : Held) (n p at : ℕ) (x : Listed) where
-  pub named-unknown : x ≡ listed.Nothing → NamedIs n p ns ts ds given level sc at x (answer.Refused BadName p)
+module _ (ns ts ds : List ℕ) (given level : ℕ) (sc : Held) (n p at : ℕ) (x : Option Listed) where
+  pub named-unknown : x ≡ None → NamedIs n p ns ts ds given level sc at x (Err (record { refusal = BadName; place = p }))
   unfolding walk_found
   named-unknown e = record { is = λ w g l t. rw (subst (Told w l p) e t level) refl; valid = λ w g l t. tt }
 
-  module _ (i k c q : ℕ) (e : x ≡ listed.Name i k c q) where
-    known : (w : World ns ts ds given) (l : List ℕ) → Told w l p x → KnownAs w l p i k c q
+  module _ (row : Listed) (e : x ≡ Some row) where
+    known : (w : World ns ts ds given) (l : List ℕ) → Told w l p x → KnownAs w l p row.number row.sort row.count row.start
     known w l t = subst (Told w l p) e t
 
-    pub named-late : level ≤ i → NamedIs n p ns ts ds given level sc at x (answer.Refused BadName p)
+    pub named-late : level ≤ row.number → NamedIs n p ns ts ds given level sc at x (Err (record { refusal = BadName; place = p }))
     unfolding walk_found
     named-late h = record { is = λ w g l t. rw ((known w l t).late level h) refl; valid = λ w g l t. tt }
 
-    module _ (h : i < level) where
+    module _ (h : row.number < level) where
       -- by the name's sort, which its row tells, and what stands where it was declared
-      by-sort : (r : Answer)
-          → ((w : World ns ts ds given) → Small sc → i < length w.names → (y : Sort) → Shaped y k c → Stands w.text ts (seen_by w i) y q
-          → (walk_named (walk_inside (seen_by w level) n) i p y (under w sc) (tokens_at w at) ≡ value_outcome w.text ts r) × ValidAnswer r)
+      by-sort : (r : Result (Value × ℕ) Refused)
+          → ((w : World ns ts ds given) → Small sc → row.number < length w.names → (y : Sort) → Shaped y row.sort row.count → Stands w.text ts (seen_by w row.number) y row.start
+          → (walk_named (walk_inside (seen_by w level) n) row.number p y (under w sc) (tokens_at w at) ≡ value_outcome w.text ts r) × ValidAnswer r)
           → NamedIs n p ns ts ds given level sc at x r
       unfolding walk_found
       by-sort r f =
           record {
-            is = λ w g l t. let d = known w l t in rw (d.found level h) (f w g (below_length w.names i d.name d.stands) d.name.sort d.shaped (stands w l t)).0;
-            valid = λ w g l t. let d = known w l t in (f w g (below_length w.names i d.name d.stands) d.name.sort d.shaped (stands w l t)).1;
+            is = λ w g l t. let d = known w l t in rw (d.found level h) (f w g (below_length w.names row.number d.name d.stands) d.name.sort d.shaped (stands w l t)).0;
+            valid = λ w g l t. let d = known w l t in (f w g (below_length w.names row.number d.name d.stands) d.name.sort d.shaped (stands w l t)).1;
           }
         where
-          stands : (w : World ns ts ds given) (l : List ℕ) (t : Told w l p x) → Stands w.text ts (seen_by w i) (known w l t).name.sort q
-          stands w l t = let d = known w l t in subst (Stands w.text ts (seen_by w i) d.name.sort) (sym d.row) (w.tables.declared i d.name d.stands)
+          stands : (w : World ns ts ds given) (l : List ℕ) (t : Told w l p x) → Stands w.text ts (seen_by w row.number) (known w l t).name.sort row.start
+          stands w l t = let d = known w l t in subst (Stands w.text ts (seen_by w row.number) d.name.sort) (sym d.row) (w.tables.declared row.number d.name d.stands)
 
-      pub named-index : (r : Answer) → k ≡ 0 → r ≡ bound_answer p at sc i → NamedIs n p ns ts ds given level sc at x r
+      pub named-index : (r : Result (Value × ℕ) Refused) → row.sort ≡ 0 → r ≡ bound_answer p at sc row.number → NamedIs n p ns ts ds given level sc at x r
       unfolding walk_named eval bound_answer bound_by scope_of
       named-index r z f = by-sort r go
         where
-          go : (w : World ns ts ds given) → Small sc → i < length w.names → (y : Sort) → Shaped y k c → Stands w.text ts (seen_by w i) y q
-              → (walk_named (walk_inside (seen_by w level) n) i p y (under w sc) (tokens_at w at) ≡ value_outcome w.text ts r) × ValidAnswer r
-          go w g b Syntax.index s a = rw f (pick (bound_to i (bindings_of sc)) refl)
+          go : (w : World ns ts ds given) → Small sc → row.number < length w.names → (y : Sort) → Shaped y row.sort row.count → Stands w.text ts (seen_by w row.number) y row.start
+              → (walk_named (walk_inside (seen_by w level) n) row.number p y (under w sc) (tokens_at w at) ≡ value_outcome w.text ts r) × ValidAnswer r
+          go w g b Syntax.index s a = rw f (pick (bound_to row.number (bindings_of sc)) refl)
             where
-              pick : (o : Option ℤ) → bound_to i (bindings_of sc) ≡ o → (as_read (eval (Syntax.index i p) (under w sc)) (tokens_at w at) ≡ value_outcome w.text ts (bound_by p at (bound_to i (bindings_of sc)))) × ValidAnswer (bound_by p at (bound_to i (bindings_of sc)))
+              pick : (o : Option ℤ) → bound_to row.number (bindings_of sc) ≡ o → (as_read (eval (Syntax.index row.number p) (under w sc)) (tokens_at w at) ≡ value_outcome w.text ts (bound_by p at (bound_to row.number (bindings_of sc)))) × ValidAnswer (bound_by p at (bound_to row.number (bindings_of sc)))
               pick None o = rw o (refl, tt)
-              pick (Some j) o = rw o (refl, of_whole-valid j (small-to (bindings_of sc) i j g.small o))
+              pick (Some j) o = rw o (refl, of_whole-valid j (small-to (bindings_of sc) row.number j g.small o))
           go w g b (Syntax.integer d) s a = absurd (omega (arith, s.0, z))
           go w g b (Syntax.real d) s a = absurd (omega (arith, s.0, z))
           go w g b (Syntax.formula d) s a = absurd (omega (arith, s, z))
@@ -133,19 +127,19 @@ module _ (ns ts ds : List ℕ) (given level : ℕ) (sc : Held) (n p at : ℕ) (x
           go w g b (Syntax.continuous d) s a = absurd (omega (arith, s.0, z))
 
       -- a declared formula, read with the names before it
-      module _ (z : k ≡ 3) (r : Answer) (f : Values (formula_in 12) ns ts ds given i sc q r) where
-        formula-is : (w : World ns ts ds given) → Small sc → (y : _) (a : FormulaAt w.text ts (seen_by w i) y q) → as_read (eval y (under w sc)) a.rest ≡ value_outcome w.text ts r
+      module _ (z : row.sort ≡ 3) (r : Result (Value × ℕ) Refused) (f : Values (formula_in 12) ns ts ds given row.number sc row.start r) where
+        formula-is : (w : World ns ts ds given) → Small sc → (y : _) (a : FormulaAt w.text ts (seen_by w row.number) y row.start) → as_read (eval y (under w sc)) a.rest ≡ value_outcome w.text ts r
         unfolding formula_in nesting_limit
-        formula-is w g y a = sym (walked (seen_by w i) 12 (tokens_at w q) y a.rest a.reads (under w sc)) ∙ f.is w g
+        formula-is w g y a = sym (walked (seen_by w row.number) 12 (tokens_at w row.start) y a.rest a.reads (under w sc)) ∙ f.is w g
 
-        by-formula : (u : Answer)
-            → ((w : World ns ts ds given) → Small sc → (y : _) → FormulaAt w.text ts (seen_by w i) y q → (as_read (eval y (under w sc)) (tokens_at w at) ≡ value_outcome w.text ts u) × ValidAnswer u)
+        by-formula : (u : Result (Value × ℕ) Refused)
+            → ((w : World ns ts ds given) → Small sc → (y : _) → FormulaAt w.text ts (seen_by w row.number) y row.start → (as_read (eval y (under w sc)) (tokens_at w at) ≡ value_outcome w.text ts u) × ValidAnswer u)
             → NamedIs n p ns ts ds given level sc at x u
         unfolding walk_named
         by-formula u g = by-sort u go
           where
-            go : (w : World ns ts ds given) → Small sc → i < length w.names → (y : Sort) → Shaped y k c → Stands w.text ts (seen_by w i) y q
-                → (walk_named (walk_inside (seen_by w level) n) i p y (under w sc) (tokens_at w at) ≡ value_outcome w.text ts u) × ValidAnswer u
+            go : (w : World ns ts ds given) → Small sc → row.number < length w.names → (y : Sort) → Shaped y row.sort row.count → Stands w.text ts (seen_by w row.number) y row.start
+                → (walk_named (walk_inside (seen_by w level) n) row.number p y (under w sc) (tokens_at w at) ≡ value_outcome w.text ts u) × ValidAnswer u
             go w h b Syntax.index s a = absurd (omega (arith, s, z))
             go w h b (Syntax.integer d) s a = absurd (omega (arith, s.0, z))
             go w h b (Syntax.real d) s a = absurd (omega (arith, s.0, z))
@@ -153,26 +147,26 @@ module _ (ns ts ds : List ℕ) (given level : ℕ) (sc : Held) (n p at : ℕ) (x
             go w h b (Syntax.discrete d) s a = absurd (omega (arith, s.0, z))
             go w h b (Syntax.continuous d) s a = absurd (omega (arith, s.0, z))
 
-        pub named-refused : (m : Refusal) (o : ℕ) → r ≡ answer.Refused m o → NamedIs n p ns ts ds given level sc at x r
-        named-refused m o d =
+        pub named-refused : (e : Refused) → r ≡ Err e → NamedIs n p ns ts ds given level sc at x r
+        named-refused z d =
             by-formula r λ w g y a. (
-              ap (λ o. as_read o (tokens_at w at)) (as-refused (eval y (under w sc)) a.rest m o (formula-is w g y a ∙ ap (value_outcome w.text ts) d)) ∙ sym (ap (value_outcome w.text ts) d),
+              ap (λ o. as_read o (tokens_at w at)) (as-refused (eval y (under w sc)) a.rest z.refusal z.place (formula-is w g y a ∙ ap (value_outcome w.text ts) d)) ∙ sym (ap (value_outcome w.text ts) d),
               subst ValidAnswer (sym d) tt,
             )
 
-        pub named-formula : (v : Value) (b : ℕ) → r ≡ answer.Value v b → NamedIs n p ns ts ds given level sc at x (answer.Value v at)
+        pub named-formula : (v : Value) (b : ℕ) → r ≡ Ok (v, b) → NamedIs n p ns ts ds given level sc at x (Ok (v, at))
         named-formula v b d =
-            by-formula (answer.Value v at) λ w g y a. (
+            by-formula (Ok (v, at)) λ w g y a. (
               ap (λ o. as_read o (tokens_at w at)) (as-done (eval y (under w sc)) a.rest v (tokens_at w b) (formula-is w g y a ∙ ap (value_outcome w.text ts) d)),
               subst ValidAnswer d (f.valid w g),
             )
 
-      pub named-datum : (r : Answer) → (eqb k 1 || eqb k 2) ≡ true → DatumIs n i c q p ns ts ds given level sc at r → NamedIs n p ns ts ds given level sc at x r
+      pub named-datum : (r : Result (Value × ℕ) Refused) → (eqb row.sort 1 || eqb row.sort 2) ≡ true → DatumIs n row.number row.count row.start p ns ts ds given level sc at r → NamedIs n p ns ts ds given level sc at x r
       unfolding walk_named
       named-datum r t f = by-sort r go
         where
-          go : (w : World ns ts ds given) → Small sc → i < length w.names → (y : Sort) → Shaped y k c → Stands w.text ts (seen_by w i) y q
-              → (walk_named (walk_inside (seen_by w level) n) i p y (under w sc) (tokens_at w at) ≡ value_outcome w.text ts r) × ValidAnswer r
+          go : (w : World ns ts ds given) → Small sc → row.number < length w.names → (y : Sort) → Shaped y row.sort row.count → Stands w.text ts (seen_by w row.number) y row.start
+              → (walk_named (walk_inside (seen_by w level) n) row.number p y (under w sc) (tokens_at w at) ≡ value_outcome w.text ts r) × ValidAnswer r
           go w g b Syntax.index s a = absurd (false-true (subst (λ k. (eqb k 1 || eqb k 2) ≡ true) s t))
           go w g b (Syntax.integer d) s a = (f.is w g b d a s.1, f.valid w g b d a s.1)
           go w g b (Syntax.real d) s a = (f.is w g b d a s.1, f.valid w g b d a s.1)
@@ -180,12 +174,12 @@ module _ (ns ts ds : List ℕ) (given level : ℕ) (sc : Held) (n p at : ℕ) (x
           go w g b (Syntax.discrete d) s a = absurd (false-true (subst (λ k. (eqb k 1 || eqb k 2) ≡ true) s.0 t))
           go w g b (Syntax.continuous d) s a = absurd (false-true (subst (λ k. (eqb k 1 || eqb k 2) ≡ true) s.0 t))
 
-      pub named_other : (k ≡ 0 → ⊥) → (k ≡ 3 → ⊥) → (eqb k 1 || eqb k 2) ≡ false → NamedIs n p ns ts ds given level sc at x (answer.Refused Misplaced p)
+      pub named_other : (row.sort ≡ 0 → ⊥) → (row.sort ≡ 3 → ⊥) → (eqb row.sort 1 || eqb row.sort 2) ≡ false → NamedIs n p ns ts ds given level sc at x (Err (record { refusal = Misplaced; place = p }))
       unfolding walk_named
-      named_other z y t = by-sort (answer.Refused Misplaced p) go
+      named_other z y t = by-sort (Err (record { refusal = Misplaced; place = p })) go
         where
-          go : (w : World ns ts ds given) → Small sc → i < length w.names → (y : Sort) → Shaped y k c → Stands w.text ts (seen_by w i) y q
-              → (walk_named (walk_inside (seen_by w level) n) i p y (under w sc) (tokens_at w at) ≡ refused Misplaced p) × Unit {0}
+          go : (w : World ns ts ds given) → Small sc → row.number < length w.names → (y : Sort) → Shaped y row.sort row.count → Stands w.text ts (seen_by w row.number) y row.start
+              → (walk_named (walk_inside (seen_by w level) n) row.number p y (under w sc) (tokens_at w at) ≡ refused Misplaced p) × Unit {0}
           go w g b Syntax.index s a = absurd (z s)
           go w g b (Syntax.integer d) s a = absurd (false-true (sym (subst (λ k. (eqb k 1 || eqb k 2) ≡ false) s.0 t)))
           go w g b (Syntax.real d) s a = absurd (false-true (sym (subst (λ k. (eqb k 1 || eqb k 2) ≡ false) s.0 t)))
@@ -195,21 +189,21 @@ module _ (ns ts ds : List ℕ) (given level : ℕ) (sc : Held) (n p at : ℕ) (x
 
 -- ---- a datum
 
-module _ (ns ts ds : List ℕ) (given level : ℕ) (sc : Held) (n i c q p at : ℕ) (y : Numbers) (h : SubscriptsAre n p c ns ts ds given level sc at y) where
-  pub numbers-at : (z : Numbers) → y ≡ z → (w : World ns ts ds given) → Small sc → (d : Spans) → DomainAt w.text ts (seen_by w i) d q → size d ≡ c
+module _ (ns ts ds : List ℕ) (given level : ℕ) (sc : Held) (n i c q p at : ℕ) (y : Result (Element × ℕ) Refused) (h : SubscriptsAre n p c ns ts ds given level sc at y) where
+  pub numbers-at : (z : Result (Element × ℕ) Refused) → y ≡ z → (w : World ns ts ds given) → Small sc → (d : Spans) → DomainAt w.text ts (seen_by w i) d q → size d ≡ c
       → walk_subscripts (walk_inside (seen_by w level) n) d (under w sc) p (tokens_at w at) ≡ numbers_outcome w.text ts z
   numbers-at z e w g d a s = h.is w g d s (subst (λ k. k ≤ index_limit) s a.few) ∙ ap (numbers_outcome w.text ts) e
 
-  pub datum-subscripts : (m : Refusal) (o : ℕ) → y ≡ numbers.Refused m o → DatumIs n i c q p ns ts ds given level sc at (answer.Refused m o)
+  pub datum-subscripts : (e : Refused) → y ≡ Err e → DatumIs n i c q p ns ts ds given level sc at (Err e)
   unfolding walk_datum
-  datum-subscripts m o e = record { is = λ w g b d a s. stop _ _ m o (numbers-at _ e w g d a s); valid = λ w g b d a s. tt }
+  datum-subscripts z e = record { is = λ w g b d a s. stop _ _ z.refusal z.place (numbers-at _ e w g d a s); valid = λ w g b d a s. tt }
 
-  module _ (e : Element) (a : ℕ) (f : y ≡ numbers.Element e a) (t : Passed) (k : WithinIs ns ts ds given i q e p t) where
+  module _ (e : Element) (a : ℕ) (f : y ≡ Ok (e, a)) (t : Result Unit Refused) (k : WithinIs ns ts ds given i q e p t) where
     pub small : (w : World ns ts ds given) → Small sc → (d : Spans) → DomainAt w.text ts (seen_by w i) d q → size d ≡ c → Subscripts (list_of e)
     small w g d b s = subst SmallNumbers f (h.small w g (subst (λ k. k ≤ index_limit) s b.few))
 
     -- the domain test of the tree
-    pub within-at : (z : Passed) → t ≡ z → (w : World ns ts ds given) → Small sc → (d : Spans) → DomainAt w.text ts (seen_by w i) d q → size d ≡ c
+    pub within-at : (z : Result Unit Refused) → t ≡ z → (w : World ns ts ds given) → Small sc → (d : Spans) → DomainAt w.text ts (seen_by w i) d q → size d ≡ c
         → within d (list_of e) (unbound (under w sc)) p ≡ passed_outcome z
     unfolding unbound scope_of
     within-at z j w g d b s =
@@ -217,16 +211,16 @@ module _ (ns ts ds : List ℕ) (given level : ℕ) (sc : Held) (n i c q p at : �
         sym (ap what_of (within-walk (seen_by w i) d (list_of e) count (nothing_bound w) p (tokens_at w q) b.rest b.reads) ∙ what-as (within d (list_of e) (nothing_bound w) p) b.rest)
         ∙ k.is w (small w g d b s) ∙ ap passed_outcome j
 
-    pub datum-outside : (m : Refusal) (o : ℕ) → t ≡ passed.Refused m o → DatumIs n i c q p ns ts ds given level sc at (answer.Refused m o)
+    pub datum-outside : (e : Refused) → t ≡ Err e → DatumIs n i c q p ns ts ds given level sc at (Err e)
     unfolding walk_datum
-    datum-outside m o j =
+    datum-outside z j =
         record {
           is = λ w g b d x s.
-              on _ _ (list_of e) (tokens_at w a) _ (numbers-at _ f w g d x s) (stop _ _ m o (ap (λ o. as_read o (tokens_at w a)) (within-at _ j w g d x s)));
+              on _ _ (list_of e) (tokens_at w a) _ (numbers-at _ f w g d x s) (stop _ _ z.refusal z.place (ap (λ o. as_read o (tokens_at w a)) (within-at _ j w g d x s)));
           valid = λ w g b d x s. tt;
         }
 
-    module _ (j : t ≡ passed.Inside) (r : Answer) (l : r ≡ known_answer ds given i (list_of e) p a) where
+    module _ (j : t ≡ Ok tt) (r : Result (Value × ℕ) Refused) (l : r ≡ known_answer ds given i (list_of e) p a) where
       -- what is stored, and what is known
       keyed : (w : World ns ts ds given) → i < length w.names → Subscripts (list_of e) → Keyed i (list_of e)
       unfolding name_bound name_limit

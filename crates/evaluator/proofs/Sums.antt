@@ -1,68 +1,63 @@
 -- Laws over plain variables for a sum behind its word.
+use Rattle.std.specs.Prelude.{Err, Ok, Result}
+use Rattle.value.specs.declared.Value.{Value}
+use Rattle.rules.specs.declared.Refused.{Refused}
+use Rattle.evaluator.specs.declared.steps.values.Limits.{Limits}
 use mathlib.Core.Path.{◌≡◌, ◌∙◌, ap, subst}
 use mathlib.Core.List.{List}
 use Prim.Native.Nat.{ℕ}
-use Rattle.rules.specs.declared.Refusal.{Refusal}
 use Rattle.language.specs.Reader.{as_read}
 use Rattle.language.specs.Evaluation.{run_of}
 use Rattle.onepass.specs.Walk.{walk_head, walk_sum}
 use Rattle.onepass.proofs.Steps.{on}
 use Rattle.evaluator.specs.declared.steps.scope.Scope.{Scope as Held}
-use Rattle.evaluator.specs.declared.steps.names.Headed.{Headed}
-use Rattle.evaluator.specs.declared.steps.names.Headed.TheVariants as headed
-use Rattle.evaluator.specs.declared.steps.values.Answer.{Answer}
-use Rattle.evaluator.specs.declared.steps.values.Answer.TheVariants as answer
 use Rattle.evaluator.specs.declared.steps.values.Limits as code
-use Rattle.evaluator.specs.declared.steps.values.Runs.{Runs}
-use Rattle.evaluator.specs.declared.steps.values.Runs.TheVariants as runs
 use Rattle.evaluator.specs.Steps.Scopes.{Small}
 use Rattle.evaluator.specs.Steps.Names.{head_outcome, Opens}
 use Rattle.evaluator.specs.Steps.Values.{limits_in, SmallLimits, run_outcome, run_answer, RunIs}
 use Rattle.evaluator.proofs.steps.Numbers.{heads-of}
 use Rattle.evaluator.proofs.steps.Runs.{run_is}
-use Rattle.evaluator.specs.declared.Limited.{Limited}
-use Rattle.evaluator.specs.declared.Limited.TheVariants as limited
 use Rattle.evaluator.specs.Tables.{World}
 use Rattle.evaluator.specs.Cycle.{sum_in, limits_walk, limits_outcome, SmallLimited, seen_by, under, tokens_at, Values, LimitsAre, Ready, BodyIs}
 use Rattle.evaluator.proofs.Laws.{stop}
 
-module _ (ns ts ds : List ℕ) (given level : ℕ) (sc : Held) (n p at : ℕ) (x : Headed) (hd : Opens ts level at x) where
-  head-is : (y : Headed) → x ≡ y → (w : World ns ts ds given) → walk_head (seen_by w level) (tokens_at w at) ≡ head_outcome w.text ts y
+module _ (ns ts ds : List ℕ) (given level : ℕ) (sc : Held) (n p at : ℕ) (x : Result (ℕ × ℕ) Refused) (hd : Opens ts level at x) where
+  head-is : (y : Result (ℕ × ℕ) Refused) → x ≡ y → (w : World ns ts ds given) → walk_head (seen_by w level) (tokens_at w at) ≡ head_outcome w.text ts y
   head-is y e w = (heads-of ts level at x hd).is w.text ns w.names w.tables.named w.tables.resolved ∙ ap (head_outcome w.text ts) e
 
-  pub sum_head : (m : Refusal) (q : ℕ) → x ≡ headed.Refused m q → Values (sum_in n p) ns ts ds given level sc at (answer.Refused m q)
+  pub sum_head : (e : Refused) → x ≡ Err e → Values (sum_in n p) ns ts ds given level sc at (Err e)
   unfolding sum_in walk_sum
-  sum_head m q e = record { is = λ w g. stop _ _ m q (head-is _ e w); valid = λ w g. tt }
+  sum_head z e = record { is = λ w g. stop _ _ z.refusal z.place (head-is _ e w); valid = λ w g. tt }
 
-  module _ (i a : ℕ) (e : x ≡ headed.Index i a) (y : Limited) (h : LimitsAre (limits_walk n) ns ts ds given level sc a y) where
-    limits-at : (z : Limited) → y ≡ z → (w : World ns ts ds given) → Small sc → limits_walk n (seen_by w level) (under w sc) (tokens_at w a) ≡ limits_outcome w.text ts z
+  module _ (i a : ℕ) (e : x ≡ Ok (i, a)) (y : Result (Limits × ℕ) Refused) (h : LimitsAre (limits_walk n) ns ts ds given level sc a y) where
+    limits-at : (z : Result (Limits × ℕ) Refused) → y ≡ z → (w : World ns ts ds given) → Small sc → limits_walk n (seen_by w level) (under w sc) (tokens_at w a) ≡ limits_outcome w.text ts z
     limits-at z f w g = h.is w g ∙ ap (limits_outcome w.text ts) f
 
-    pub sum-limits : (m : Refusal) (q : ℕ) → y ≡ limited.Refused m q → Values (sum_in n p) ns ts ds given level sc at (answer.Refused m q)
+    pub sum-limits : (e : Refused) → y ≡ Err e → Values (sum_in n p) ns ts ds given level sc at (Err e)
     unfolding sum_in walk_sum limits_walk
-    sum-limits m q f = record { is = λ w g. on _ _ i (tokens_at w a) _ (head-is _ e w) (stop _ _ m q (limits-at _ f w g)); valid = λ w g. tt }
+    sum-limits z f = record { is = λ w g. on _ _ i (tokens_at w a) _ (head-is _ e w) (stop _ _ z.refusal z.place (limits-at _ f w g)); valid = λ w g. tt }
 
-    module _ (l : code.Limits) (b : ℕ) (f : y ≡ limited.Limits l b) (z : Runs) (told : z ≡ run_answer l i sc p) where
+    module _ (l : code.Limits) (b : ℕ) (f : y ≡ Ok (l, b)) (z : Result ℕ Refused) (told : z ≡ run_answer l i sc p) where
       k : RunIs l i sc p z
       k = run_is l i sc p z told
 
       small : World ns ts ds given → Small sc → SmallLimits l
       small w g = subst SmallLimited f (h.small w g)
 
-      run_at : (c : Runs) → z ≡ c → (w : World ns ts ds given) → Small sc → run_of (limits_in l) i (under w sc) p ≡ run_outcome l c
+      run_at : (c : Result ℕ Refused) → z ≡ c → (w : World ns ts ds given) → Small sc → run_of (limits_in l) i (under w sc) p ≡ run_outcome l c
       run_at c o w g = k.is (small w g) w.known ∙ ap (run_outcome l) o
 
-      pub sum-run : (m : Refusal) (q : ℕ) → z ≡ runs.Refused m q → Values (sum_in n p) ns ts ds given level sc at (answer.Refused m q)
+      pub sum-run : (e : Refused) → z ≡ Err e → Values (sum_in n p) ns ts ds given level sc at (Err e)
       unfolding sum_in walk_sum limits_walk
-      sum-run m q o =
+      sum-run z o =
           record {
             is = λ w g.
                 on _ _ i (tokens_at w a) _ (head-is _ e w)
-                (on _ _ (limits_in l) (tokens_at w b) _ (limits-at _ f w g) (stop _ _ m q (ap (λ o. as_read o (tokens_at w b)) (run_at _ o w g))));
+                (on _ _ (limits_in l) (tokens_at w b) _ (limits-at _ f w g) (stop _ _ z.refusal z.place (ap (λ o. as_read o (tokens_at w b)) (run_at _ o w g))));
             valid = λ w g. tt;
           }
 
-      pub sum_body : (c : ℕ) (r : Answer) → z ≡ runs.Count c → BodyIs n i p ns ts ds given level sc b l c r → Values (sum_in n p) ns ts ds given level sc at r
+      pub sum_body : (c : ℕ) (r : Result (Value × ℕ) Refused) → z ≡ Ok c → BodyIs n i p ns ts ds given level sc b l c r → Values (sum_in n p) ns ts ds given level sc at r
       unfolding sum_in walk_sum limits_walk
       sum_body c r o j =
           record {

@@ -1,12 +1,12 @@
 -- Laws over plain variables for the turns of a sum's run.
-use Rattle.std.specs.Prelude.{Option, Some, None}
+use Rattle.std.specs.Prelude.{Err, Ok, Result, Option, Some, None}
+use Rattle.rules.specs.declared.Refused.{Refused}
 use mathlib.Core.Path.{◌≡◌, refl, sym, ◌∙◌, ap, subst}
 use mathlib.Core.Bool.{false}
 use mathlib.Core.List.{List}
 use Prim.Native.Nat.{ℕ, suc, ◌+◌, ◌-◌, ◌<◌, ◌≤◌}
 use native.Mathlib.Omega.{arith}
 use lib.IntN.{ℤ, pos, negsuc, nat_abs, ◌+ℤ◌, ◌-ℤ◌, neg_ℤ, +ℤ_assoc, +ℤ_idr}
-use Rattle.rules.specs.declared.Refusal.{Refusal}
 use Rattle.rules.specs.Limits.{mantissa_limit, run_limit}
 use Rattle.value.specs.declared.Value.{Value}
 use Rattle.value.specs.Decimal.{Valid, zero_value, sum_of, if_in_range}
@@ -23,8 +23,6 @@ use Rattle.language.specs.Model.{what_of}
 use Rattle.onepass.specs.Walk.{walk_inside, walk_turns, walk_body, behind_bracket}
 use Rattle.onepass.specs.Entries.{read}
 use Rattle.evaluator.specs.declared.steps.scope.Scope.{Scope as Held}
-use Rattle.evaluator.specs.declared.steps.values.Answer.{Answer}
-use Rattle.evaluator.specs.declared.steps.values.Answer.TheVariants as answer
 use Rattle.evaluator.specs.declared.steps.values.Limits as code
 use Rattle.evaluator.specs.Steps.Scopes.{bindings_of, bound_more, Small}
 use Rattle.evaluator.specs.Steps.Passing.{Ends}
@@ -75,17 +73,17 @@ module _ (n i p : ℕ) (ns ts ds : List ℕ) (given level : ℕ) (sc : Held) (at
       record { within = omega arith; same = λ w g r. rw (e, d, +ℤ_idr l.lower) refl; valid = λ w g r. subst Valid (sym e) zero-valid }
 
   -- a refusal of the turns is the body's
-  body-stops : (m : Refusal) (q : ℕ) (r : Answer) → r ≡ answer.Refused m q
-      → ((w : World ns ts ds given) → Small sc → Ready sc l k → each (added w) (up_from l.lower k) zero_value ≡ refused m q) → BodyIs n i p ns ts ds given level sc at l k r
+  body-stops : (e : Refused) (r : Result (Value × ℕ) Refused) → r ≡ Err e
+      → ((w : World ns ts ds given) → Small sc → Ready sc l k → each (added w) (up_from l.lower k) zero_value ≡ refused e.refusal e.place) → BodyIs n i p ns ts ds given level sc at l k r
   unfolding walk_body walk_turns added
-  body-stops m q r e f =
+  body-stops z r e f =
       record {
         is = λ w g y. ap (λ o. as_read o (behind_bracket 0 (tokens_at w at))) (f w g y) ∙ sym (ap (value_outcome w.text ts) e);
         valid = λ w g y. subst ValidAnswer (sym e) tt;
       }
 
   module _ (v : Value) (j : ℕ) (o : TurnsOn v j) where
-    pub body_end : (end : ℕ) → k ≤ j → Ends ts at end → BodyIs n i p ns ts ds given level sc at l k (answer.Value v end)
+    pub body_end : (end : ℕ) → k ≤ j → Ends ts at end → BodyIs n i p ns ts ds given level sc at l k (Ok (v, end))
     unfolding walk_body walk_turns added each
     body_end end h f =
         record {
@@ -96,7 +94,7 @@ module _ (n i p : ℕ) (ns ts ds : List ℕ) (given level : ℕ) (sc : Held) (at
         last : (w : World ns ts ds given) → each (added w) (up_from (l.lower +ℤ pos j) (k - j)) v ≡ done v
         last w = let d : k - j ≡ 0 = omega arith in rw d refl
 
-    module _ (m : j < k) (t : Held) (b : bindings_of t ≡ bound_more i (number_in l j) (bindings_of sc)) (r : Answer) (h : Values (inside_in n) ns ts ds given level t at r) where
+    module _ (m : j < k) (t : Held) (b : bindings_of t ≡ bound_more i (number_in l j) (bindings_of sc)) (r : Result (Value × ℕ) Refused) (h : Values (inside_in n) ns ts ds given level t at r) where
       -- the body under the index bound to the j-th number
       bound : Ready sc l k → bindings_of t ≡ bound_more i (l.lower +ℤ pos j) (bindings_of sc)
       unfolding run_limit
@@ -105,7 +103,7 @@ module _ (n i p : ℕ) (ns ts ds : List ℕ) (given level : ℕ) (sc : Held) (at
       inner : Small sc → Ready sc l k → Small t
       inner g y = small-bind sc t i (l.lower +ℤ pos j) (bound y) (nth-small l j y.small (omega (arith, y.count))) g
 
-      body_at : (z : Answer) → r ≡ z → (w : World ns ts ds given) → Small sc → Ready sc l k
+      body_at : (z : Result (Value × ℕ) Refused) → r ≡ z → (w : World ns ts ds given) → Small sc → Ready sc l k
           → walk_inside (seen_by w level) n (bind i (l.lower +ℤ pos j) (under w sc)) (tokens_at w at) ≡ value_outcome w.text ts z
       unfolding inside_in
       body_at z e w g y =
@@ -120,12 +118,12 @@ module _ (n i p : ℕ) (ns ts ds : List ℕ) (given level : ℕ) (sc : Held) (at
           let s : l.lower +ℤ pos j +ℤ pos 1 ≡ l.lower +ℤ pos (j + 1) = +ℤ_assoc l.lower (pos j) (pos 1) in
           rw (d, s) (ap (λ o. o >>= λ u. each (added w) (up_from (l.lower +ℤ pos (j + 1)) (k - (j + 1))) u) e)
 
-      pub body_refused : (q : Refusal) (s : ℕ) → r ≡ answer.Refused q s → BodyIs n i p ns ts ds given level sc at l k r
+      pub body_refused : (e : Refused) → r ≡ Err e → BodyIs n i p ns ts ds given level sc at l k r
       unfolding added
-      body_refused q s e =
-          body-stops q s r e (λ w g y. sym (o.same w g y) ∙ turn w (refused q s) (ap (λ x. add_to p v (what_of x)) (body_at _ e w g y)))
+      body_refused z e =
+          body-stops z r e (λ w g y. sym (o.same w g y) ∙ turn w (refused z.refusal z.place) (ap (λ x. add_to p v (what_of x)) (body_at _ e w g y)))
 
-      module _ (z : Value) (a : ℕ) (e : r ≡ answer.Value z a) (end : ℕ) (q : Answer) (f : q ≡ fitted_at p end (if_in_range v (signed_value false z) (sum_of v (signed_value false z)))) where
+      module _ (z : Value) (a : ℕ) (e : r ≡ Ok (z, a)) (end : ℕ) (q : Result (Value × ℕ) Refused) (f : q ≡ fitted_at p end (if_in_range v (signed_value false z) (sum_of v (signed_value false z)))) where
         exact : World ns ts ds given → Small sc → Ready sc l k → q ≡ fitted_at p end (sum_of v z)
         unfolding signed_value
         exact w g y = f ∙ ap (fitted_at p end) (valid-both v z (sum_of v z) (o.valid w g y) (subst ValidAnswer e (h.valid w (inner g y))))
@@ -134,15 +132,15 @@ module _ (n i p : ℕ) (ns ts ds : List ℕ) (given level : ℕ) (sc : Held) (at
         unfolding added
         sum-at w g y = ap (λ x. add_to p v (what_of x)) (body_at _ e w g y)
 
-        pub body-unfit : (c : Refusal) (s : ℕ) → q ≡ answer.Refused c s → BodyIs n i p ns ts ds given level sc at l k q
+        pub body-unfit : (e : Refused) → q ≡ Err e → BodyIs n i p ns ts ds given level sc at l k q
         unfolding fitted_at
-        body-unfit c s d = body-stops c s q d (λ w g y. sym (o.same w g y) ∙ turn w (refused c s) (sum-at w g y ∙ go (sum_of v z) (sym (exact w g y) ∙ d)))
+        body-unfit err d = body-stops err q d (λ w g y. sym (o.same w g y) ∙ turn w (refused err.refusal err.place) (sum-at w g y ∙ go (sum_of v z) (sym (exact w g y) ∙ d)))
           where
-            go : (x : Option Value) → fitted_at p end x ≡ answer.Refused c s → fitting p x ≡ refused c s
+            go : (x : Option Value) → fitted_at p end x ≡ Err err → fitting p x ≡ refused err.refusal err.place
             go (Some u) e = absurd (let z : ◌≡◌ {A = ℕ} 0 1 = cc in omega arith)
             go None e = cc
 
-        pub turns-on : (u : Value) (s : ℕ) → q ≡ answer.Value u s → TurnsOn u (j + 1)
+        pub turns-on : (u : Value) (s : ℕ) → q ≡ Ok (u, s) → TurnsOn u (j + 1)
         unfolding fitted_at
         turns-on u s d =
             record {
@@ -151,6 +149,6 @@ module _ (n i p : ℕ) (ns ts ds : List ℕ) (given level : ℕ) (sc : Held) (at
               valid = λ w g y. subst ValidAnswer (sym (exact w g y) ∙ d) (fitted-valid p end (sum_of v z) (sum-valid v z));
             }
           where
-            go : (x : Option Value) → fitted_at p end x ≡ answer.Value u s → fitting p x ≡ done u
-            go (Some y) e = cc
+            go : (x : Option Value) → fitted_at p end x ≡ Ok (u, s) → fitting p x ≡ done u
+            go (Some y) e = let z : (y, end) ≡ (u, s) = cc in ap (λ (z : Value × ℕ). done z.0) z
             go None e = absurd (let z : ◌≡◌ {A = ℕ} 0 1 = cc in omega arith)

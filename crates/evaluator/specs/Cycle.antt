@@ -1,6 +1,7 @@
 -- What each function of the cycle answers: for every text, names and data that the tables hold, what the walk of the tokens from
 -- a position on gives under the bound indices. `level`: how many names are visible. `n`: how many brackets may still open.
-use Rattle.std.specs.Prelude.{◌≡◌, true, List, [], ℕ, ◌<◌, ◌≤◌, ltb, length, take, ℤ, None, Some, slice_get}
+use Rattle.std.specs.Prelude.{Err, Ok, Option, Result, ◌≡◌, true, List, [], ℕ, ◌<◌, ◌≤◌, ltb, length, take, ℤ, None, Some, slice_get}
+use Rattle.rules.specs.declared.Refused.{Refused}
 use Rattle.rules.specs.Limits.{run_limit, index_limit}
 use Rattle.value.specs.declared.Value.{Value}
 use Rattle.value.specs.Decimal.{Valid, floor_of, ceiling_of}
@@ -18,21 +19,11 @@ use Rattle.store.specs.declared.Element.{Element}
 use Rattle.store.specs.Element.{list_of, Subscripts}
 use Rattle.evaluator.specs.declared.steps.scope.Scope.{Scope as Held}
 use Rattle.evaluator.specs.declared.steps.names.Listed.{Listed}
-use Rattle.evaluator.specs.declared.steps.names.Listed.TheVariants as listed
-use Rattle.evaluator.specs.declared.steps.values.Answer.{Answer}
-use Rattle.evaluator.specs.declared.steps.values.Answer.TheVariants as answer
 use Rattle.evaluator.specs.declared.steps.values.Limits as code
+use Rattle.evaluator.specs.declared.steps.values.Bounds as entered
 use Rattle.evaluator.specs.Steps.Scopes.{bindings_of, scope_of, Small}
 use Rattle.evaluator.specs.Steps.Names.{row_word}
 use Rattle.evaluator.specs.Steps.Values.{limits_in, SmallLimits}
-use Rattle.evaluator.specs.declared.Limited.{Limited}
-use Rattle.evaluator.specs.declared.Limited.TheVariants as limited
-use Rattle.evaluator.specs.declared.Numbers.{Numbers}
-use Rattle.evaluator.specs.declared.Numbers.TheVariants as numbers
-use Rattle.evaluator.specs.declared.Entered.{Entered}
-use Rattle.evaluator.specs.declared.Entered.TheVariants as entered
-use Rattle.evaluator.specs.declared.Passed.{Passed}
-use Rattle.evaluator.specs.declared.Passed.TheVariants as passed
 use Rattle.evaluator.specs.Tables.{DomainAt, World}
 
 -- ---- the walks, each a function of the names and the scope
@@ -82,45 +73,45 @@ bounds_in n v names s = do
 
 -- ---- answers as outcomes
 
-abbrev pub value_outcome : List ℕ → List ℕ → Answer → Outcome (Read Value)
-value_outcome s ts (answer.Value v a) = done (record { what = v; rest = from s ts a })
-value_outcome s ts (answer.Refused r p) = refused r p
+abbrev pub value_outcome : List ℕ → List ℕ → Result (Value × ℕ) Refused → Outcome (Read Value)
+value_outcome s ts (Ok (v, a)) = done (record { what = v; rest = from s ts a })
+value_outcome s ts (Err e) = refused e.refusal e.place
 
-abbrev pub whole_outcome : List ℕ → List ℕ → Answer → Outcome (Read ℤ)
-whole_outcome s ts (answer.Value v a) = done (record { what = v.m; rest = from s ts a })
-whole_outcome s ts (answer.Refused r p) = refused r p
+abbrev pub whole_outcome : List ℕ → List ℕ → Result (Value × ℕ) Refused → Outcome (Read ℤ)
+whole_outcome s ts (Ok (v, a)) = done (record { what = v.m; rest = from s ts a })
+whole_outcome s ts (Err e) = refused e.refusal e.place
 
-abbrev pub ValidAnswer : Answer → Type 0
-ValidAnswer (answer.Value v a) = Valid v
-ValidAnswer (answer.Refused r p) = Unit {0}
+abbrev pub ValidAnswer : Result (Value × ℕ) Refused → Type 0
+ValidAnswer (Ok (v, a)) = Valid v
+ValidAnswer (Err e) = Unit {0}
 
-abbrev pub limits_outcome : List ℕ → List ℕ → Limited → Outcome (Read Limits)
-limits_outcome s ts (limited.Limits l a) = done (record { what = limits_in l; rest = from s ts a })
-limits_outcome s ts (limited.Refused r p) = refused r p
+abbrev pub limits_outcome : List ℕ → List ℕ → Result (code.Limits × ℕ) Refused → Outcome (Read Limits)
+limits_outcome s ts (Ok (l, a)) = done (record { what = limits_in l; rest = from s ts a })
+limits_outcome s ts (Err e) = refused e.refusal e.place
 
-abbrev pub SmallLimited : Limited → Type 0
-SmallLimited (limited.Limits l a) = SmallLimits l
-SmallLimited (limited.Refused r p) = Unit {0}
+abbrev pub SmallLimited : Result (code.Limits × ℕ) Refused → Type 0
+SmallLimited (Ok (l, a)) = SmallLimits l
+SmallLimited (Err e) = Unit {0}
 
-abbrev pub numbers_outcome : List ℕ → List ℕ → Numbers → Outcome (Read (List ℤ))
-numbers_outcome s ts (numbers.Element e a) = done (record { what = list_of e; rest = from s ts a })
-numbers_outcome s ts (numbers.Refused r p) = refused r p
+abbrev pub numbers_outcome : List ℕ → List ℕ → Result (Element × ℕ) Refused → Outcome (Read (List ℤ))
+numbers_outcome s ts (Ok (e, a)) = done (record { what = list_of e; rest = from s ts a })
+numbers_outcome s ts (Err e) = refused e.refusal e.place
 
-abbrev pub SmallNumbers : Numbers → Type 0
-SmallNumbers (numbers.Element e a) = Subscripts (list_of e)
-SmallNumbers (numbers.Refused r p) = Unit {0}
+abbrev pub SmallNumbers : Result (Element × ℕ) Refused → Type 0
+SmallNumbers (Ok (e, a)) = Subscripts (list_of e)
+SmallNumbers (Err e) = Unit {0}
 
-abbrev pub bounds_outcome : List ℕ → List ℕ → Entered → Outcome (Read Bounds)
-bounds_outcome s ts (entered.Bounds b a) = done (record { what = record { number = b.number; place = b.place; limits = limits_in b.limits }; rest = from s ts a })
-bounds_outcome s ts (entered.Refused r p) = refused r p
+abbrev pub bounds_outcome : List ℕ → List ℕ → Result (entered.Bounds × ℕ) Refused → Outcome (Read Bounds)
+bounds_outcome s ts (Ok (b, a)) = done (record { what = record { number = b.number; place = b.place; limits = limits_in b.limits }; rest = from s ts a })
+bounds_outcome s ts (Err e) = refused e.refusal e.place
 
-abbrev pub SmallEntered : Entered → Type 0
-SmallEntered (entered.Bounds b a) = SmallLimits b.limits
-SmallEntered (entered.Refused r p) = Unit {0}
+abbrev pub SmallEntered : Result (entered.Bounds × ℕ) Refused → Type 0
+SmallEntered (Ok (b, a)) = SmallLimits b.limits
+SmallEntered (Err e) = Unit {0}
 
-abbrev pub passed_outcome : Passed → Outcome (Unit {0})
-passed_outcome passed.Inside = done tt
-passed_outcome (passed.Refused r p) = refused r p
+abbrev pub passed_outcome : Result Unit Refused → Outcome (Unit {0})
+passed_outcome (Ok x) = done tt
+passed_outcome (Err e) = refused e.refusal e.place
 
 -- ---- contracts
 
@@ -139,36 +130,36 @@ module _ {ns ts ds : List ℕ} {given : ℕ} (w : World ns ts ds given) where
   tokens_at a = from w.text ts a
 
 -- a value that fits, or the refusal
-pub record Values (W : List Name → Walk) (ns ts ds : List ℕ) (given level : ℕ) (sc : Held) (at : ℕ) (r : Answer) : Type 0 where
+pub record Values (W : List Name → Walk) (ns ts ds : List ℕ) (given level : ℕ) (sc : Held) (at : ℕ) (r : Result (Value × ℕ) Refused) : Type 0 where
   pub is : (w : World ns ts ds given) → Small sc → W (seen_by w level) (under w sc) (tokens_at w at) ≡ value_outcome w.text ts r
   pub valid : World ns ts ds given → Small sc → ValidAnswer r
 
 -- the same behind a value v
-pub record Continues (W : Value → List Name → Walk) (ns ts ds : List ℕ) (given level : ℕ) (sc : Held) (at : ℕ) (v : Value) (r : Answer) : Type 0 where
+pub record Continues (W : Value → List Name → Walk) (ns ts ds : List ℕ) (given level : ℕ) (sc : Held) (at : ℕ) (v : Value) (r : Result (Value × ℕ) Refused) : Type 0 where
   pub is : (w : World ns ts ds given) → Small sc → Valid v → W v (seen_by w level) (under w sc) (tokens_at w at) ≡ value_outcome w.text ts r
   pub valid : World ns ts ds given → Small sc → Valid v → ValidAnswer r
 
 -- a whole number
-pub record Wholes (W : List Name → Scope → Reader ℤ) (ns ts ds : List ℕ) (given level : ℕ) (sc : Held) (at : ℕ) (r : Answer) : Type 0 where
+pub record Wholes (W : List Name → Scope → Reader ℤ) (ns ts ds : List ℕ) (given level : ℕ) (sc : Held) (at : ℕ) (r : Result (Value × ℕ) Refused) : Type 0 where
   pub is : (w : World ns ts ds given) → Small sc → W (seen_by w level) (under w sc) (tokens_at w at) ≡ whole_outcome w.text ts r
   pub valid : World ns ts ds given → Small sc → ValidAnswer r
 
 -- two limits
-pub record LimitsAre (W : List Name → Scope → Reader Limits) (ns ts ds : List ℕ) (given level : ℕ) (sc : Held) (at : ℕ) (r : Limited) : Type 0 where
+pub record LimitsAre (W : List Name → Scope → Reader Limits) (ns ts ds : List ℕ) (given level : ℕ) (sc : Held) (at : ℕ) (r : Result (code.Limits × ℕ) Refused) : Type 0 where
   pub is : (w : World ns ts ds given) → Small sc → W (seen_by w level) (under w sc) (tokens_at w at) ≡ limits_outcome w.text ts r
   pub small : World ns ts ds given → Small sc → SmallLimited r
 
 -- one entry of a domain; the same behind its lower formula's value v
-pub record EntryIs (W : List Name → Scope → Reader Bounds) (ns ts ds : List ℕ) (given level : ℕ) (sc : Held) (at : ℕ) (r : Entered) : Type 0 where
+pub record EntryIs (W : List Name → Scope → Reader Bounds) (ns ts ds : List ℕ) (given level : ℕ) (sc : Held) (at : ℕ) (r : Result (entered.Bounds × ℕ) Refused) : Type 0 where
   pub is : (w : World ns ts ds given) → Small sc → W (seen_by w level) (under w sc) (tokens_at w at) ≡ bounds_outcome w.text ts r
   pub small : World ns ts ds given → Small sc → SmallEntered r
 
-pub record BoundsAre (W : Value → List Name → Scope → Reader Bounds) (ns ts ds : List ℕ) (given level : ℕ) (sc : Held) (at : ℕ) (v : Value) (r : Entered) : Type 0 where
+pub record BoundsAre (W : Value → List Name → Scope → Reader Bounds) (ns ts ds : List ℕ) (given level : ℕ) (sc : Held) (at : ℕ) (v : Value) (r : Result (entered.Bounds × ℕ) Refused) : Type 0 where
   pub is : (w : World ns ts ds given) → Small sc → Valid v → W v (seen_by w level) (under w sc) (tokens_at w at) ≡ bounds_outcome w.text ts r
   pub small : World ns ts ds given → Small sc → Valid v → SmallEntered r
 
 -- the subscripts, at most four, of a name read at p whose domain has k indices
-pub record SubscriptsAre (n p k : ℕ) (ns ts ds : List ℕ) (given level : ℕ) (sc : Held) (at : ℕ) (r : Numbers) : Type 0 where
+pub record SubscriptsAre (n p k : ℕ) (ns ts ds : List ℕ) (given level : ℕ) (sc : Held) (at : ℕ) (r : Result (Element × ℕ) Refused) : Type 0 where
   pub is : (w : World ns ts ds given) → Small sc → (d : Spans) → size d ≡ k → k ≤ index_limit
       → walk_subscripts (walk_inside (seen_by w level) n) d (under w sc) p (tokens_at w at) ≡ numbers_outcome w.text ts r
   pub small : World ns ts ds given → Small sc → k ≤ index_limit → SmallNumbers r
@@ -181,13 +172,13 @@ pub record Ready (sc : Held) (l : code.Limits) (n : ℕ) : Type 0 where
   pub room : ltb (length (bindings_of sc)) index_limit ≡ true
 
 -- a sum's body for each number of its run
-pub record BodyIs (n i p : ℕ) (ns ts ds : List ℕ) (given level : ℕ) (sc : Held) (at : ℕ) (l : code.Limits) (k : ℕ) (r : Answer) : Type 0 where
+pub record BodyIs (n i p : ℕ) (ns ts ds : List ℕ) (given level : ℕ) (sc : Held) (at : ℕ) (l : code.Limits) (k : ℕ) (r : Result (Value × ℕ) Refused) : Type 0 where
   pub is : (w : World ns ts ds given) → Small sc → Ready sc l k
       → walk_body (walk_inside (seen_by w level) n) i p (under w sc) (up_from l.lower k) (tokens_at w at) ≡ value_outcome w.text ts r
   pub valid : World ns ts ds given → Small sc → Ready sc l k → ValidAnswer r
 
 -- the domain test of the numbers of e, at the declared domain's tokens and with nothing bound
-pub record WithinIs (ns ts ds : List ℕ) (given level at : ℕ) (e : Element) (p : ℕ) (r : Passed) : Type 0 where
+pub record WithinIs (ns ts ds : List ℕ) (given level at : ℕ) (e : Element) (p : ℕ) (r : Result Unit Refused) : Type 0 where
   pub is : (w : World ns ts ds given) → Subscripts (list_of e)
       → what_of (walk_within (seen_by w level) (in_domain_walk (seen_by w level)) (list_of e) (nothing_bound w) p (tokens_at w at)) ≡ passed_outcome r
 
@@ -202,18 +193,18 @@ pub record KnownAs {ns ts ds : List ℕ} {given : ℕ} (w : World ns ts ds given
   pub shaped : Shaped name.sort k c
   pub row : q ≡ row_word ns i 4
 
-abbrev pub Told : {ns ts ds : List ℕ} {given : ℕ} → World ns ts ds given → List ℕ → ℕ → Listed → Type 0
-Told w l p listed.Nothing = (level : ℕ) → find l (seen_by w level) 0 p ≡ None
-Told w l p (listed.Name i k c q) = KnownAs w l p i k c q
+abbrev pub Told : {ns ts ds : List ℕ} {given : ℕ} → World ns ts ds given → List ℕ → ℕ → Option Listed → Type 0
+Told w l p None = (level : ℕ) → find l (seen_by w level) 0 p ≡ None
+Told w l p (Some x) = KnownAs w l p x.number x.sort x.count x.start
 
 -- a primary that is a name
-pub record NamedIs (n p : ℕ) (ns ts ds : List ℕ) (given level : ℕ) (sc : Held) (at : ℕ) (x : Listed) (r : Answer) : Type 0 where
+pub record NamedIs (n p : ℕ) (ns ts ds : List ℕ) (given level : ℕ) (sc : Held) (at : ℕ) (x : Option Listed) (r : Result (Value × ℕ) Refused) : Type 0 where
   pub is : (w : World ns ts ds given) → Small sc → (l : List ℕ) → Told w l p x
       → walk_found (walk_inside (seen_by w level) n) p (find l (seen_by w level) 0 p) (under w sc) (tokens_at w at) ≡ value_outcome w.text ts r
   pub valid : (w : World ns ts ds given) → Small sc → (l : List ℕ) → Told w l p x → ValidAnswer r
 
 -- an integer or a real with number i, whose domain has c indices and was declared at q
-pub record DatumIs (n i c q p : ℕ) (ns ts ds : List ℕ) (given level : ℕ) (sc : Held) (at : ℕ) (r : Answer) : Type 0 where
+pub record DatumIs (n i c q p : ℕ) (ns ts ds : List ℕ) (given level : ℕ) (sc : Held) (at : ℕ) (r : Result (Value × ℕ) Refused) : Type 0 where
   pub is : (w : World ns ts ds given) → Small sc → i < length w.names → (d : Spans) → DomainAt w.text ts (seen_by w i) d q → size d ≡ c
       → walk_datum (walk_inside (seen_by w level) n) i p d (under w sc) (tokens_at w at) ≡ value_outcome w.text ts r
   pub valid : (w : World ns ts ds given) → Small sc → i < length w.names → (d : Spans) → DomainAt w.text ts (seen_by w i) d q → size d ≡ c → ValidAnswer r

@@ -4,3 +4,4 @@ pub mod Alone
 pub mod WalkOver
 pub mod Ground
 pub mod Steps
+pub mod Context

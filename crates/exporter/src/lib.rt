@@ -9,6 +9,15 @@ ghost use Rattle.mps.specs.Export.{named};
 ghost use Rattle.exporter.specs.Texts.{text_from, shown_line, floor_at, floor_row, cell_start, shown_twice, shown_cell, shown_floor, shown_upper, row_text, cell_text, objective_text, column_text, discrete_text, right_text, bound_text, rows_text, columns_text, rights_text, bounds_text};
 ghost use Rattle.exporter.specs.Exports.{formed, Exports};
 
+// The tables of n rows, of which the first `less` are those of `<=` and `>=`: their words, and the coefficients.
+#[derive(Clone, Copy)]
+struct Tables<'a> {
+    slots: &'a [u64],
+    counts: &'a [i64],
+    less: usize,
+    n: usize,
+}
+
 // ---- pieces
 
 fn put_word(t: &[u8], out: &mut [u8], at: usize) -> usize
@@ -68,11 +77,11 @@ fn value_line(w: &[u8], n: usize, mid: &[u8], v: value::Value, out: &mut [u8], a
 // ---- rows
 
 // The floor of row i, if it is one of the first `less` and has one.
-fn floor_at(slots: &[u64], less: usize, i: usize) -> Option<value::Value>
-    ensures { result ≡ floor_at slots.now less i }
+fn floor_at(t: Tables, i: usize) -> Option<value::Value>
+    ensures { result ≡ floor_at t.entry.slots.now t.entry.less i }
 {
-    if i < less {
-        return rows::floor_of(slots, i);
+    if i < t.less {
+        return rows::floor_of(t.slots, i);
     }
     None
 }
@@ -89,38 +98,36 @@ fn floor_row(n: usize, floor: Option<value::Value>, out: &mut [u8], at: usize) -
 }
 
 // The line of row i, and that of its floor.
-fn row_line(slots: &[u64], less: usize, i: usize, out: &mut [u8], at: usize) -> usize
+fn row_line(t: Tables, i: usize, out: &mut [u8], at: usize) -> usize
     requires { (i < 512) × (at < 2 ^ 38) }
-    ensures { (Written out.old at (row_text slots.now less i) result out.new) × (result ≤ at + 128) }
+    ensures { (Written out.old at (row_text t.entry.slots.now t.entry.less i) result out.new) × (result ≤ at + 128) }
 {
-    if i < less {
+    if i < t.less {
         let at = named_line(b" L R", i + 1, b"\n", out, at);
-        return floor_row(i + 1, floor_at(slots, less, i), out, at);
+        return floor_row(i + 1, floor_at(t, i), out, at);
     }
     named_line(b" E R", i + 1, b"\n", out, at)
 }
 
 // The lines of n rows.
-fn row_lines(slots: &[u64], less: usize, n: usize, out: &mut [u8], at: usize) -> usize
-    requires { (n ≤ 512) × (at < 2 ^ 37) }
-    ensures { (Written out.old at (text_from (row_text slots.now less) n 0) result out.new) × (result ≤ at + 65536) }
+fn row_lines(t: Tables, out: &mut [u8], at: usize) -> usize
+    requires { (t.n ≤ 512) × (at < 2 ^ 37) }
+    ensures { (Written out.old at (text_from (row_text t.entry.slots.now t.entry.less) t.entry.n 0) result out.new) × (result ≤ at + 65536) }
 {
     let mut next = at;
-    let mut i = 0;
-    while i < n {
-        next = row_line(slots, less, i, out, next);
-        i += 1;
+    for i in 0..t.n {
+        next = row_line(t, i, out, next);
     }
     next
 }
 
 // From the first byte on: the first lines, and those of the rows.
-fn rows_section(slots: &[u64], less: usize, n: usize, out: &mut [u8]) -> usize
-    requires { n ≤ 512 }
-    ensures { (Written out.old 0 (rows_text slots.now less n) result out.new) × (result ≤ 65600) }
+fn rows_section(t: Tables, out: &mut [u8]) -> usize
+    requires { t.n ≤ 512 }
+    ensures { (Written out.old 0 (rows_text t.entry.slots.now t.entry.less t.entry.n) result out.new) × (result ≤ 65600) }
 {
     let at = put_word(b"NAME MODEL\nROWS\n N OBJ\n", out, 0);
-    row_lines(slots, less, n, out, at)
+    row_lines(t, out, at)
 }
 
 // ---- coefficients
@@ -169,25 +176,15 @@ fn cell(j: usize, i: usize, z: i64, floor: Option<value::Value>, out: &mut [u8],
 }
 
 // The coefficients of variable j in n rows.
-fn cells(
-    slots: &[u64],
-    counts: &[i64],
-    less: usize,
-    n: usize,
-    j: usize,
-    out: &mut [u8],
-    at: usize,
-) -> usize
-    requires { (n ≤ 512) × (j < 512) × (at < 2 ^ 36) }
-    ensures { (Written out.old at (text_from (cell_text slots.now counts.now less j) n 0) result out.new) × (result ≤ at + 262144) }
+fn cells(t: Tables, j: usize, out: &mut [u8], at: usize) -> usize
+    requires { (t.n ≤ 512) × (j < 512) × (at < 2 ^ 36) }
+    ensures { (Written out.old at (text_from (cell_text t.entry.slots.now t.entry.counts.now t.entry.less j) t.entry.n 0) result out.new) × (result ≤ at + 262144) }
 {
     let mut next = at;
-    let mut i = 0;
-    while i < n {
-        let z = rows::count_at(counts, rows::slot(less, i), j);
-        let floor = floor_at(slots, less, i);
+    for i in 0..t.n {
+        let z = rows::count_at(t.counts, rows::slot(t.less, i), j);
+        let floor = floor_at(t, i);
         next = cell(j + 1, i + 1, z, floor, out, next);
-        i += 1;
     }
     next
 }
@@ -203,82 +200,46 @@ fn objective_line(counts: &[i64], j: usize, out: &mut [u8], at: usize) -> usize
 }
 
 // The lines of variable j.
-fn column(
-    slots: &[u64],
-    counts: &[i64],
-    less: usize,
-    n: usize,
-    j: usize,
-    out: &mut [u8],
-    at: usize,
-) -> usize
-    requires { (n ≤ 512) × (j < 512) × (at < 2 ^ 36) }
-    ensures { (Written out.old at (column_text slots.now counts.now less n j) result out.new) × (result ≤ at + 262272) }
+fn column(t: Tables, j: usize, out: &mut [u8], at: usize) -> usize
+    requires { (t.n ≤ 512) × (j < 512) × (at < 2 ^ 36) }
+    ensures { (Written out.old at (column_text t.entry.slots.now t.entry.counts.now t.entry.less t.entry.n j) result out.new) × (result ≤ at + 262272) }
 {
-    let at = cells(slots, counts, less, n, j, out, at);
-    objective_line(counts, j, out, at)
+    let at = cells(t, j, out, at);
+    objective_line(t.counts, j, out, at)
 }
 
 // The lines of the variables from number `from` up to number `to`.
-fn columns(
-    slots: &[u64],
-    counts: &[i64],
-    less: usize,
-    n: usize,
-    from: usize,
-    to: usize,
-    out: &mut [u8],
-    at: usize,
-) -> usize
-    requires { (n ≤ 512) × (from ≤ to) × (to ≤ 512) × (at < 2 ^ 35) }
-    ensures { (Written out.old at (text_from (column_text slots.now counts.now less n) (to - from) from) result out.new) × (result ≤ at + 134283264) }
+fn columns(t: Tables, from: usize, to: usize, out: &mut [u8], at: usize) -> usize
+    requires { (t.n ≤ 512) × (from ≤ to) × (to ≤ 512) × (at < 2 ^ 35) }
+    ensures { (Written out.old at (text_from (column_text t.entry.slots.now t.entry.counts.now t.entry.less t.entry.n) (to - from) from) result out.new) × (result ≤ at + 134283264) }
 {
     let mut next = at;
-    let mut j = from;
-    while j < to {
-        next = column(slots, counts, less, n, j, out, next);
-        j += 1;
+    for j in from..to {
+        next = column(t, j, out, next);
     }
     next
 }
 
 // The lines of k discrete variables, if there are any, between two markers.
-fn discrete_columns(
-    slots: &[u64],
-    counts: &[i64],
-    less: usize,
-    n: usize,
-    k: usize,
-    out: &mut [u8],
-    at: usize,
-) -> usize
-    requires { (n ≤ 512) × (k ≤ 512) × (at < 2 ^ 34) }
-    ensures { (Written out.old at (discrete_text slots.now counts.now less n k) result out.new) × (result ≤ at + 134283364) }
+fn discrete_columns(t: Tables, k: usize, out: &mut [u8], at: usize) -> usize
+    requires { (t.n ≤ 512) × (k ≤ 512) × (at < 2 ^ 34) }
+    ensures { (Written out.old at (discrete_text t.entry.slots.now t.entry.counts.now t.entry.less t.entry.n k) result out.new) × (result ≤ at + 134283364) }
 {
     if k == 0 {
         return at;
     }
     let at = put_word(b" M 'MARKER' 'INTORG'\n", out, at);
-    let at = columns(slots, counts, less, n, 0, k, out, at);
+    let at = columns(t, 0, k, out, at);
     put_word(b" M 'MARKER' 'INTEND'\n", out, at)
 }
 
-fn columns_section(
-    slots: &[u64],
-    counts: &[i64],
-    less: usize,
-    n: usize,
-    discrete: usize,
-    variables: usize,
-    out: &mut [u8],
-    at: usize,
-) -> usize
-    requires { (n ≤ 512) × (discrete ≤ variables) × (variables ≤ 512) × (at < 2 ^ 33) }
-    ensures { (Written out.old at (columns_text slots.now counts.now less n discrete variables) result out.new) × (result ≤ at + 2 ^ 29) }
+fn columns_section(t: Tables, discrete: usize, variables: usize, out: &mut [u8], at: usize) -> usize
+    requires { (t.n ≤ 512) × (discrete ≤ variables) × (variables ≤ 512) × (at < 2 ^ 33) }
+    ensures { (Written out.old at (columns_text t.entry.slots.now t.entry.counts.now t.entry.less t.entry.n discrete variables) result out.new) × (result ≤ at + 2 ^ 29) }
 {
     let at = put_word(b"COLUMNS\n", out, at);
-    let at = discrete_columns(slots, counts, less, n, discrete, out, at);
-    columns(slots, counts, less, n, discrete, variables, out, at)
+    let at = discrete_columns(t, discrete, out, at);
+    columns(t, discrete, variables, out, at)
 }
 
 // ---- right sides
@@ -295,35 +256,33 @@ fn floor_line(n: usize, floor: Option<value::Value>, out: &mut [u8], at: usize) 
 }
 
 // The right side of row i, and its floor.
-fn right_line(slots: &[u64], less: usize, i: usize, out: &mut [u8], at: usize) -> usize
+fn right_line(t: Tables, i: usize, out: &mut [u8], at: usize) -> usize
     requires { (i < 512) × (at < 2 ^ 38) }
-    ensures { (Written out.old at (right_text slots.now less i) result out.new) × (result ≤ at + 256) }
+    ensures { (Written out.old at (right_text t.entry.slots.now t.entry.less i) result out.new) × (result ≤ at + 256) }
 {
-    let v = store::unpack(store::word_at(slots, rows::slot(less, i)));
+    let v = store::unpack(store::word_at(t.slots, rows::slot(t.less, i)));
     let at = value_line(b" MODEL R", i + 1, b" ", v, out, at);
-    floor_line(i + 1, floor_at(slots, less, i), out, at)
+    floor_line(i + 1, floor_at(t, i), out, at)
 }
 
 // The right sides and floors of n rows.
-fn rights(slots: &[u64], less: usize, n: usize, out: &mut [u8], at: usize) -> usize
-    requires { (n ≤ 512) × (at < 2 ^ 37) }
-    ensures { (Written out.old at (text_from (right_text slots.now less) n 0) result out.new) × (result ≤ at + 131072) }
+fn rights(t: Tables, out: &mut [u8], at: usize) -> usize
+    requires { (t.n ≤ 512) × (at < 2 ^ 37) }
+    ensures { (Written out.old at (text_from (right_text t.entry.slots.now t.entry.less) t.entry.n 0) result out.new) × (result ≤ at + 131072) }
 {
     let mut next = at;
-    let mut i = 0;
-    while i < n {
-        next = right_line(slots, less, i, out, next);
-        i += 1;
+    for i in 0..t.n {
+        next = right_line(t, i, out, next);
     }
     next
 }
 
-fn rights_section(slots: &[u64], less: usize, n: usize, out: &mut [u8], at: usize) -> usize
-    requires { (n ≤ 512) × (at < 2 ^ 36) }
-    ensures { (Written out.old at (rights_text slots.now less n) result out.new) × (result ≤ at + 131080) }
+fn rights_section(t: Tables, out: &mut [u8], at: usize) -> usize
+    requires { (t.n ≤ 512) × (at < 2 ^ 36) }
+    ensures { (Written out.old at (rights_text t.entry.slots.now t.entry.less t.entry.n) result out.new) × (result ≤ at + 131080) }
 {
     let at = put_word(b"RHS\n", out, at);
-    rights(slots, less, n, out, at)
+    rights(t, out, at)
 }
 
 // ---- bounds
@@ -355,10 +314,8 @@ fn all_bounds(bounds: &[u64], n: usize, out: &mut [u8], at: usize) -> usize
     ensures { (Written out.old at (text_from (bound_text bounds.now) n 0) result out.new) × (result ≤ at + 131072) }
 {
     let mut next = at;
-    let mut j = 0;
-    while j < n {
+    for j in 0..n {
         next = bound_lines(bounds, j, out, next);
-        j += 1;
     }
     next
 }
@@ -396,11 +353,14 @@ pub fn write(
     if !is_formed(sizes) {
         return 0;
     }
-    let less = sizes.less;
-    let n = less + sizes.equal;
-    let variables = sizes.variables;
-    let at = rows_section(slots, less, n, out);
-    let at = columns_section(slots, counts, less, n, sizes.discrete, variables, out, at);
-    let at = rights_section(slots, less, n, out, at);
-    bounds_section(bounds, variables, out, at)
+    let t = Tables {
+        slots,
+        counts,
+        less: sizes.less,
+        n: sizes.less + sizes.equal,
+    };
+    let at = rows_section(t, out);
+    let at = columns_section(t, sizes.discrete, sizes.variables, out, at);
+    let at = rights_section(t, out, at);
+    bounds_section(bounds, sizes.variables, out, at)
 }

@@ -1,9 +1,9 @@
 -- The readers of formulas, each a function of the names, at the nesting that the code has.
-use Rattle.std.specs.Prelude.{◌≡◌, List, ℕ}
+use Rattle.std.specs.Prelude.{Result, ◌≡◌, List, ℕ}
+use Rattle.rules.specs.declared.Refused.{Refused}
 use Rattle.language.specs.Syntax.{Name, Formula, Spans}
 use Rattle.language.specs.Reader.{Reader, ◌>>=◌, known}
 use Rattle.language.specs.Formulas.{factors, term_of, summands, part_of, sum_formula, subscripts_of, formulas_of, named_by, nested_of, primary_of, inside_at, formula_at}
-use Rattle.tokens.specs.declared.Move.{Move}
 use Rattle.tokens.specs.Stored.{Moves, spelling, size}
 
 unfoldable pub inside_in : ℕ → List Name → Reader Formula
@@ -34,16 +34,16 @@ named_in s n p x names = known names (spelling s p x) p >>= (λ u. named_by n (i
 -- ---- what does not depend on the tree so far
 
 -- at most k factors more
-pub record Factors (s ns ts : List ℕ) (n k at : ℕ) (r : Move) : Type 0 where
+pub record Factors (s ns ts : List ℕ) (n k at : ℕ) (r : Result ℕ Refused) : Type 0 where
   pub moves : (f : Formula) → Moves (λ names. factors (primary_of names n (inside_at names n)) k f) s ns ts at r
 
 -- at most k summands more
-pub record Summands (s ns ts : List ℕ) (n k at : ℕ) (r : Move) : Type 0 where
+pub record Summands (s ns ts : List ℕ) (n k at : ℕ) (r : Result ℕ Refused) : Type 0 where
   pub moves : (f : Formula) → Moves (λ names. summands (term_of (primary_of names n (inside_at names n))) k f) s ns ts at r
 
 -- the subscripts of a name whose domain has k indices, with and without the opening bracket
-pub record Subscripts (s ns ts : List ℕ) (n k at : ℕ) (r : Move) : Type 0 where
+pub record Subscripts (s ns ts : List ℕ) (n k at : ℕ) (r : Result ℕ Refused) : Type 0 where
   pub moves : (d : Spans) → size d ≡ k → Moves (λ names. subscripts_of n (inside_at names n) d) s ns ts at r
 
-pub record Entries (s ns ts : List ℕ) (n k at : ℕ) (r : Move) : Type 0 where
+pub record Entries (s ns ts : List ℕ) (n k at : ℕ) (r : Result ℕ Refused) : Type 0 where
   pub moves : (d : Spans) → size d ≡ k → Moves (λ names. formulas_of (inside_at names n) d) s ns ts at r

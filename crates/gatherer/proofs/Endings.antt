@@ -1,12 +1,13 @@
 -- Laws over plain variables for the primaries before a variable or a sigma.
+use Rattle.std.specs.Prelude.{Err, None, Ok, Option, Result, Some}
+use Rattle.rules.specs.declared.Refused.{Refused}
 use mathlib.Core.Path.{◌≡◌, refl, sym, ◌∙◌, ap, subst}
 use mathlib.Core.Bool.{Bool, true, false, ◌&&◌}
 use mathlib.Core.List.{List}
-use Prim.Native.Nat.{ℕ, zero, suc, ◌-◌, ◌<◌, ◌≤◌}
+use Prim.Native.Nat.{ℕ, zero, suc, ◌+◌, ◌-◌, ◌<◌, ◌≤◌}
 use native.Mathlib.Omega.{arith}
 use borrow.Author.Tests.{eqb-true}
 use lib.Dec.{eqb}
-use Rattle.rules.specs.declared.Refusal.{Refusal}
 use Rattle.rules.specs.declared.Refusal.TheVariants.{Full}
 use Rattle.rules.specs.Limits.{token_limit}
 use Rattle.value.specs.declared.Value.{Value}
@@ -23,14 +24,10 @@ use Rattle.onepass.specs.Walk.{walk_primary_by, walk_primary, walk_inside}
 use Rattle.onepass.specs.WalkLinear.{walk_variable, walk_linear_term}
 use Rattle.onepass.proofs.Steps.{on}
 use Rattle.tokens.specs.declared.Seen.{Seen}
-use Rattle.tokens.specs.declared.Seen.TheVariants as seen
 use Rattle.tokens.specs.Stored.{token, kind_of, Sees, Looks}
 use Rattle.tokens.proofs.Moved.{next-is}
 use Rattle.evaluator.specs.declared.steps.scope.Scope.{Scope}
 use Rattle.evaluator.specs.declared.steps.names.Listed.{Listed}
-use Rattle.evaluator.specs.declared.steps.names.Listed.TheVariants as listed
-use Rattle.evaluator.specs.declared.steps.values.Answer.{Answer}
-use Rattle.evaluator.specs.declared.steps.values.Answer.TheVariants as answer
 use Rattle.evaluator.specs.Steps.Scopes.{Small}
 use Rattle.evaluator.specs.Steps.Values.{fitted_at}
 use Rattle.evaluator.specs.Tables.{World}
@@ -42,37 +39,37 @@ use Rattle.gatherer.proofs.Numbers.{begins-of}
 
 -- ---- a primary and its `*`
 
-module _ (ns ts ds : List ℕ) (given level : ℕ) (sc : Scope) (n at : ℕ) (c : Value) (r : Answer) (h : Values (primary_in n) ns ts ds given level sc at r) where
-  pub factor-refused : (m : Refusal) (p : ℕ) → r ≡ answer.Refused m p → Continues (factor_in n) ns ts ds given level sc at c r
+module _ (ns ts ds : List ℕ) (given level : ℕ) (sc : Scope) (n at : ℕ) (c : Value) (r : Result (Value × ℕ) Refused) (h : Values (primary_in n) ns ts ds given level sc at r) where
+  pub factor-refused : (e : Refused) → r ≡ Err e → Continues (factor_in n) ns ts ds given level sc at c (Err e)
   unfolding factor_in primary_in
-  factor-refused m p e =
+  factor-refused z e =
       record {
-        is = λ w g y. stop _ _ m p (refused-is ns ts ds given level sc h e w g) ∙ sym (ap (value_outcome w.text ts) e);
-        valid = λ w g y. subst ValidAnswer (sym e) tt;
+        is = λ w g y. stop _ _ z.refusal z.place (refused-is ns ts ds given level sc h e w g);
+        valid = λ w g y. tt;
       }
 
-  module _ (v : Value) (a : ℕ) (e : r ≡ answer.Value v a) (t : Seen) (l : Looks ts a t) where
-    pub factor-wrong : (m : Refusal) (p : ℕ) → t ≡ seen.Refused m p → Continues (factor_in n) ns ts ds given level sc at c (answer.Refused m p)
+  module _ (v : Value) (a : ℕ) (e : r ≡ Ok (v, a)) (t : Result Seen Refused) (l : Looks ts a t) where
+    pub factor-wrong : (e : Refused) → t ≡ Err e → Continues (factor_in n) ns ts ds given level sc at c (Err e)
     unfolding factor_in primary_in
-    factor-wrong m p f =
+    factor-wrong z f =
         record {
-          is = λ w g y. on _ _ v (tokens_at w a) _ (value-is ns ts ds given level sc h e w g) (stop _ _ m p (subst (Sees w.text ts a) f (l.sees w.text)).nexts);
+          is = λ w g y. on _ _ v (tokens_at w a) _ (value-is ns ts ds given level sc h e w g) (stop _ _ z.refusal z.place (subst (Sees w.text ts a) f (l.sees w.text)).nexts);
           valid = λ w g y. tt;
         }
 
-    pub factor-product : (k p x b : ℕ) (q : Answer) → t ≡ seen.Token k p x b → q ≡ fitted_at p b (if_in_range c v (product_of c v)) → Continues (factor_in n) ns ts ds given level sc at c q
+    pub factor-product : (w : Seen) (q : Result (Value × ℕ) Refused) → t ≡ Ok w → q ≡ fitted_at w.place w.next (if_in_range c v (product_of c v)) → Continues (factor_in n) ns ts ds given level sc at c q
     unfolding factor_in primary_in token
-    factor-product k p x b q f i =
+    factor-product z q f i =
         record {
           is = λ w g y.
               on _ _ v (tokens_at w a) _ (value-is ns ts ds given level sc h e w g)
-              (on _ _ (token w.text k p x) (tokens_at w b) _ (next-is w.text ts a k p x b (subst (Sees w.text ts a) f (l.sees w.text)))
-              (fitted-outcome w.text ts p b (product_of c v) ∙ ap (value_outcome w.text ts) (sym (exact w g y))));
-          valid = λ w g y. subst ValidAnswer (sym (exact w g y)) (fitted-valid p b (product_of c v) (product-valid c v));
+              (on _ _ (token w.text z.kind z.place z.payload) (tokens_at w z.next) _ (next-is w.text ts a z (subst (Sees w.text ts a) f (l.sees w.text)))
+              (fitted-outcome w.text ts z.place z.next (product_of c v) ∙ ap (value_outcome w.text ts) (sym (exact w g y))));
+          valid = λ w g y. subst ValidAnswer (sym (exact w g y)) (fitted-valid z.place z.next (product_of c v) (product-valid c v));
         }
       where
-        exact : World ns ts ds given → Small sc → Valid c → q ≡ fitted_at p b (product_of c v)
-        exact w g y = i ∙ ap (fitted_at p b) (valid-both c v (product_of c v) y (value-valid ns ts ds given level sc h e w g))
+        exact : World ns ts ds given → Small sc → Valid c → q ≡ fitted_at z.place z.next (product_of c v)
+        exact w g y = i ∙ ap (fitted_at z.place z.next) (valid-both c v (product_of c v) y (value-valid ns ts ds given level sc h e w g))
 
 -- ---- the loop
 
@@ -86,12 +83,12 @@ regroup-two (done x) K M L = regroup (K x.what x.rest) (M x.what) L
 regroup-two (refused m p) K M L = refl
 
 module _ (n : ℕ) (sigmas : Bool) (ns ts ds : List ℕ) (given level : ℕ) (sc : Scope) (at : ℕ) (c : Value) where
-  -- with the product u at a and at most k primaries more, the term is what it is from its start
-  pub record EndingOn (k a : ℕ) (u : Value) : Type 0 where
-    pub same : (w : World ns ts ds given) → Small sc → Valid c → (g : Carried) → term_walk w level n sigmas sc g k u (tokens_at w a) ≡ term_walk w level n sigmas sc g token_limit c (tokens_at w at)
+  -- with the product u at a behind j primaries, the term is what it is from its start
+  pub record EndingOn (j a : ℕ) (u : Value) : Type 0 where
+    pub same : (w : World ns ts ds given) → Small sc → Valid c → (g : Carried) → term_walk w level n sigmas sc g (4096 - j) u (tokens_at w a) ≡ term_walk w level n sigmas sc g token_limit c (tokens_at w at)
     pub valid : World ns ts ds given → Small sc → Valid c → Valid u
 
-  pub ending-start : EndingOn 4096 at c
+  pub ending-start : EndingOn 0 at c
   unfolding token_limit
   ending-start = record { same = λ w g y q. refl; valid = λ w g y. y }
 
@@ -104,89 +101,89 @@ module _ (n : ℕ) (sigmas : Bool) (ns ts ds : List ℕ) (given level : ℕ) (sc
         >>= (λ v. next >>= (λ x. lift (fitting x.place (product_of u v)) >>= (λ y. term_walk w level n sigmas sc g k y)))
   ]
 
-  module _ (k a : ℕ) (u : Value) (o : EndingOn k a u) where
-    stops : (m : Refusal) (p : ℕ) → ((w : World ns ts ds given) → Small sc → Valid u → (g : Carried) → term_walk w level n sigmas sc g k u (tokens_at w a) ≡ refused m p)
-        → EndingIs n sigmas ns ts ds given level sc at c (ending.Refused m p)
-    stops m p f =
+  module _ (j a : ℕ) (u : Value) (o : EndingOn j a u) where
+    stops : (e : Refused) → ((w : World ns ts ds given) → Small sc → Valid u → (g : Carried) → term_walk w level n sigmas sc g (4096 - j) u (tokens_at w a) ≡ refused e.refusal e.place)
+        → EndingIs n sigmas ns ts ds given level sc at c (Err e)
+    stops z f =
         record {
           is = λ w s y g. sym (o.same w s y g) ∙ f w s (o.valid w s y) g;
           allowed = λ u p a e. absurd (let z : ◌≡◌ {A = ℕ} 0 1 = cc in omega arith);
         }
 
-    pub ending-none : k ≤ 0 → EndingIs n sigmas ns ts ds given level sc at c (ending.Refused Full 0)
+    pub ending-none : 4096 ≤ j → EndingIs n sigmas ns ts ds given level sc at c (Err (record { refusal = Full; place = 0 }))
     unfolding term_walk walk_linear_term
-    ending-none h = stops Full 0 (λ w s y g. go k h w g)
+    ending-none h = stops (record { refusal = Full; place = 0 }) (λ w s y g. go (4096 - j) (omega arith) w g)
       where
         go : (k : ℕ) → k ≤ 0 → (w : World ns ts ds given) (g : Carried) → term_walk w level n sigmas sc g k u (tokens_at w a) ≡ refused Full 0
         go zero h w g = refl
         go (suc k) h w g = absurd (omega arith)
 
-    module _ (t : Seen) (m : 0 < k) (h : Looks ts a t) where
-      pub ending-wrong : (j : Refusal) (p : ℕ) → t ≡ seen.Refused j p → EndingIs n sigmas ns ts ds given level sc at c (ending.Refused j p)
+    module _ (t : Result Seen Refused) (m : j < 4096) (h : Looks ts a t) where
+      pub ending-wrong : (e : Refused) → t ≡ Err e → EndingIs n sigmas ns ts ds given level sc at c (Err e)
       unfolding term_walk walk_linear_term
-      ending-wrong j p e = stops j p (λ w s y g. go k m w g)
+      ending-wrong z e = stops z (λ w s y g. go (4096 - j) (omega arith) w g)
         where
-          go : (k : ℕ) → 0 < k → (w : World ns ts ds given) (g : Carried) → term_walk w level n sigmas sc g k u (tokens_at w a) ≡ refused j p
+          go : (k : ℕ) → 0 < k → (w : World ns ts ds given) (g : Carried) → term_walk w level n sigmas sc g k u (tokens_at w a) ≡ refused z.refusal z.place
           go zero m w g = absurd (omega arith)
-          go (suc k) m w g = stop _ _ j p (subst (Sees w.text ts a) e (h.sees w.text)).nexts
+          go (suc k) m w g = stop _ _ z.refusal z.place (subst (Sees w.text ts a) e (h.sees w.text)).nexts
 
-      module _ (x p y b : ℕ) (e : t ≡ seen.Token x p y b) where
-        turns : (w : World ns ts ds given) (g : Carried) (f : Head) → head_by (seen_by w level) sigmas (kind_of w.text x p y) ≡ f
-            → term_walk w level n sigmas sc g k u (tokens_at w a) ≡ turn w g (k - 1) u (token w.text x p y) f (tokens_at w b)
+      module _ (here : Seen) (e : t ≡ Ok here) where
+        turns : (w : World ns ts ds given) (g : Carried) (f : Head) → head_by (seen_by w level) sigmas (kind_of w.text here.kind here.place here.payload) ≡ f
+            → term_walk w level n sigmas sc g (4096 - j) u (tokens_at w a) ≡ turn w g (4096 - (j + 1)) u (token w.text here.kind here.place here.payload) f (tokens_at w here.next)
         unfolding term_walk walk_linear_term turn token
-        turns w g f i = go k m
+        turns w g f i = go (4096 - j) refl
           where
-            go : (k : ℕ) → 0 < k → term_walk w level n sigmas sc g k u (tokens_at w a) ≡ turn w g (k - 1) u (token w.text x p y) f (tokens_at w b)
-            go zero m = absurd (omega arith)
-            go (suc k) m =
-                let d : suc k - 1 ≡ k = omega arith in
-                on _ _ (token w.text x p y) (tokens_at w b) _ (next-is w.text ts a x p y b (subst (Sees w.text ts a) e (h.sees w.text)))
-                (ap (λ f. turn w g k u (token w.text x p y) f (tokens_at w b)) i ∙ ap (λ k. turn w g k u (token w.text x p y) f (tokens_at w b)) (sym d))
+            go : (k : ℕ) → 4096 - j ≡ k → term_walk w level n sigmas sc g k u (tokens_at w a) ≡ turn w g (4096 - (j + 1)) u (token w.text here.kind here.place here.payload) f (tokens_at w here.next)
+            go zero e' = absurd (omega arith)
+            go (suc k) e' =
+                let d : 4096 - (j + 1) ≡ k = omega arith in
+                on _ _ (token w.text here.kind here.place here.payload) (tokens_at w here.next) _ (next-is w.text ts a here (subst (Sees w.text ts a) e (h.sees w.text)))
+                (ap (λ f. turn w g k u (token w.text here.kind here.place here.payload) f (tokens_at w here.next)) i ∙ ap (λ k. turn w g k u (token w.text here.kind here.place here.payload) f (tokens_at w here.next)) (sym d))
 
-        pub ending-sigma : (sigmas && eqb x 134) ≡ true → EndingIs n sigmas ns ts ds given level sc at c (ending.Sigma u p b)
+        pub ending-sigma : (sigmas && eqb here.kind 134) ≡ true → EndingIs n sigmas ns ts ds given level sc at c (Ok (ending.Sigma u here.place here.next))
         unfolding turn token
         ending-sigma i =
             record {
-              is = λ w s y' g. record { is = sym (o.same w s y' g) ∙ turns w g a_sigma (sigma-head (seen_by w level) w.text sigmas x p y i); valid = o.valid w s y' };
-              allowed = λ u p a e. and_left sigmas (eqb x 134) i;
+              is = λ w s c g. record { is = sym (o.same w s c g) ∙ turns w g a_sigma (sigma-head (seen_by w level) w.text sigmas here.kind here.place here.payload i); valid = o.valid w s c };
+              allowed = λ u p a e. and_left sigmas (eqb here.kind 134) i;
             }
 
-        module _ (i : (sigmas && eqb x 134) ≡ false) (v : Listed) (j : v ≡ variable_seen ns ts level a x) where
-          head_at : (r : Listed) → v ≡ r → (w : World ns ts ds given) → Heads w (head_by (seen_by w level) sigmas (kind_of w.text x p y)) r
-          head_at r f w = subst (Heads w (head_by (seen_by w level) sigmas (kind_of w.text x p y))) f ((begins-of ns ts level a x v j).heads p y b (subst (Looks ts a) e h) sigmas i ds given w)
+        module _ (i : (sigmas && eqb here.kind 134) ≡ false) (v : Option Listed) (vs : v ≡ variable_seen ns ts level a here.kind) where
+          head_at : (r : Option Listed) → v ≡ r → (w : World ns ts ds given) → Heads w (head_by (seen_by w level) sigmas (kind_of w.text here.kind here.place here.payload)) r
+          head_at r f w = subst (Heads w (head_by (seen_by w level) sigmas (kind_of w.text here.kind here.place here.payload))) f ((begins-of ns ts level a here.kind v vs).heads here.place here.payload here.next (subst (Looks ts a) e h) sigmas i ds given w)
 
-          pub ending-variable : (f l q z : ℕ) → v ≡ listed.Name f l q z → EndingIs n sigmas ns ts ds given level sc at c (ending.Variable u f q z p b)
+          pub ending-variable : (w : Listed) → v ≡ Some w → EndingIs n sigmas ns ts ds given level sc at c (Ok (ending.Variable u w here.place here.next))
           unfolding turn token
-          ending-variable f l q z d =
+          ending-variable y d =
               record {
-                is = λ w s y' g.
+                is = λ w s c g.
                     let r = head_at _ d w in
-                    record { domain = r.0; declared = r.1.1; is = sym (o.same w s y' g) ∙ turns w g (a_variable f r.0) r.1.0; valid = o.valid w s y' };
+                    record { domain = r.0; declared = r.1.1; is = sym (o.same w s c g) ∙ turns w g (a_variable y.number r.0) r.1.0; valid = o.valid w s c };
                 allowed = λ u p a e. absurd (let z : ◌≡◌ {A = ℕ} 0 1 = cc in omega arith);
               }
 
-          module _ (d : v ≡ listed.Nothing) (z : Answer) (f : Continues (factor_in n) ns ts ds given level sc a u z) where
+          module _ (d : v ≡ None) (z : Result (Value × ℕ) Refused) (f : Continues (factor_in n) ns ts ds given level sc a u z) where
             -- the primary behind its first token
             primary-at : (w : World ns ts ds given)
                 → factor_in n u (seen_by w level) (under w sc) (tokens_at w a)
-                ≡ (walk_primary_by (seen_by w level) (walk_inside (seen_by w level) n) p (kind_of w.text x p y) (under w sc) >>= (λ v. next >>= (λ x. lift (fitting x.place (product_of u v))))) (tokens_at w b)
+                ≡ (walk_primary_by (seen_by w level) (walk_inside (seen_by w level) n) here.place (kind_of w.text here.kind here.place here.payload) (under w sc) >>= (λ v. next >>= (λ x. lift (fitting x.place (product_of u v))))) (tokens_at w here.next)
             unfolding factor_in walk_primary token
             primary-at w =
                 ap (λ o. follow (follow o (λ t. walk_primary_by (seen_by w level) (walk_inside (seen_by w level) n) t.place t.kind (under w sc))) (λ v. next >>= (λ x. lift (fitting x.place (product_of u v)))))
-                (next-is w.text ts a x p y b (subst (Sees w.text ts a) e (h.sees w.text)))
+                (next-is w.text ts a here (subst (Sees w.text ts a) e (h.sees w.text)))
 
-            factored : (z' : Answer) → z ≡ z' → (w : World ns ts ds given) → Small sc → Valid u → (g : Carried)
-                → term_walk w level n sigmas sc g k u (tokens_at w a) ≡ follow (value_outcome w.text ts z') (λ y. term_walk w level n sigmas sc g (k - 1) y)
+            factored : (z' : Result (Value × ℕ) Refused) → z ≡ z' → (w : World ns ts ds given) → Small sc → Valid u → (g : Carried)
+                → term_walk w level n sigmas sc g (4096 - j) u (tokens_at w a) ≡ follow (value_outcome w.text ts z') (λ y. term_walk w level n sigmas sc g (4096 - (j + 1)) y)
             unfolding turn token
             factored z' q w s r g =
                 turns w g a_primary (head_at _ d w)
-                ∙ regroup-two (walk_primary_by (seen_by w level) (walk_inside (seen_by w level) n) p (kind_of w.text x p y) (under w sc) (tokens_at w b)) (λ v. next) (λ v x. lift (fitting x.place (product_of u v))) (λ y. term_walk w level n sigmas sc g (k - 1) y)
-                ∙ ap (λ o. follow o (λ y. term_walk w level n sigmas sc g (k - 1) y)) (sym (primary-at w) ∙ f.is w s r ∙ ap (value_outcome w.text ts) q)
+                ∙ regroup-two (walk_primary_by (seen_by w level) (walk_inside (seen_by w level) n) here.place (kind_of w.text here.kind here.place here.payload) (under w sc) (tokens_at w here.next)) (λ v. next) (λ v x. lift (fitting x.place (product_of u v))) (λ y. term_walk w level n sigmas sc g (4096 - (j + 1)) y)
+                ∙ ap (λ o. follow o (λ y. term_walk w level n sigmas sc g (4096 - (j + 1)) y)) (sym (primary-at w) ∙ f.is w s r ∙ ap (value_outcome w.text ts) q)
 
-            pub ending-refused : (l : Refusal) (q : ℕ) → z ≡ answer.Refused l q → EndingIs n sigmas ns ts ds given level sc at c (ending.Refused l q)
-            ending-refused l q r = stops l q (λ w s y g. factored _ r w s y g)
+            pub ending-refused : (e : Refused) → z ≡ Err e → EndingIs n sigmas ns ts ds given level sc at c (Err e)
+            ending-refused z r = stops z (λ w s y g. factored _ r w s y g)
 
-            pub ending-on : (v : Value) (q : ℕ) → z ≡ answer.Value v q → EndingOn (k - 1) q v
+            pub ending-on : (v : Value) (q : ℕ) → z ≡ Ok (v, q) → EndingOn (j + 1) q v
             ending-on v q r =
                 record {
                   same = λ w s y g. sym (factored _ r w s (o.valid w s y) g) ∙ o.same w s y g;

@@ -1,5 +1,6 @@
 -- A walk never goes back: no more tokens are left than there were. So a sigma's body stands behind its word.
-use Rattle.std.specs.Prelude.{Option, Some, None}
+use Rattle.std.specs.Prelude.{Ok, Result, Option, Some, None}
+use Rattle.rules.specs.declared.Refused.{Refused}
 use mathlib.Core.Path.{◌≡◌, refl, sym, ◌∙◌, ap, subst}
 use mathlib.Core.Bool.{Bool, true, false, cond}
 use mathlib.Core.List.{List, [], ◌∷◌}
@@ -28,7 +29,6 @@ use Rattle.onepass.specs.Walk.{Walk, skip, name_number, opens_bracket, closes_br
 use Rattle.onepass.specs.Entries.{read}
 use Rattle.onepass.proofs.Steps.{after_read, same_rest}
 use Rattle.tokens.specs.declared.Seen.{Seen}
-use Rattle.tokens.specs.declared.Seen.TheVariants as seen
 use Rattle.tokens.specs.Stored.{view, from, Sees, Looks}
 
 abbrev Forward : {A : Type 0} → Reader A → Type 0
@@ -233,7 +233,7 @@ unfolding from
 length_from s ts at = length-view s (drop at ts) ∙ length-drop at ts
 
 -- one token fewer is left behind a token
-pub one_fewer : (ts : List ℕ) (at k p x a : ℕ) (t : Seen) → Looks ts at t → t ≡ seen.Token k p x a → length ts - at ≡ suc (length ts - a)
-one_fewer ts at k p x a t h e =
+pub one_fewer : (ts : List ℕ) (at : ℕ) (w : Seen) (t : Result Seen Refused) → Looks ts at t → t ≡ Ok w → length ts - at ≡ suc (length ts - w.next)
+one_fewer ts at z t h e =
     let f = ap length (subst (Sees [] ts at) e (h.sees [])).1 in
-    sym (length_from [] ts at) ∙ f ∙ ap suc (length_from [] ts a)
+    sym (length_from [] ts at) ∙ f ∙ ap suc (length_from [] ts z.next)

@@ -1,5 +1,7 @@
 -- Laws over plain variables for the two loops that write the row: what is gathered from here on is what is gathered from the
 -- start.
+use Rattle.std.specs.Prelude.{Err, Ok, Result}
+use Rattle.rules.specs.declared.Refused.{Refused}
 use mathlib.Core.Path.{◌≡◌, refl, sym, ◌∙◌, ap, subst}
 use mathlib.Core.Bool.{Bool, true, false, ◌||◌}
 use mathlib.Core.List.{List}
@@ -8,7 +10,6 @@ use native.Mathlib.Omega.{arith}
 use lib.Dec.{eqb}
 use lib.ListN.{length}
 use lib.IntN.{ℤ, pos, ◌+ℤ◌, +ℤ_assoc, +ℤ_idr}
-use Rattle.rules.specs.declared.Refusal.{Refusal}
 use Rattle.rules.specs.Limits.{token_limit, run_limit}
 use Rattle.value.specs.declared.Value.{Value}
 use Rattle.value.specs.Decimal.{Valid}
@@ -26,10 +27,7 @@ use Rattle.onepass.specs.Walk.{skip, behind_bracket}
 use Rattle.onepass.specs.WalkLinear.{walk_linear_terms, walk_runs}
 use Rattle.onepass.specs.Entries.{read}
 use Rattle.onepass.proofs.Steps.{on}
-use Rattle.tokens.specs.declared.Move.{Move}
-use Rattle.tokens.specs.declared.Move.TheVariants as move
 use Rattle.tokens.specs.declared.Seen.{Seen}
-use Rattle.tokens.specs.declared.Seen.TheVariants as seen
 use Rattle.tokens.specs.Stored.{token, Sees, Looks}
 use Rattle.tokens.proofs.Moved.{look_is}
 use Rattle.evaluator.specs.declared.steps.scope.Scope.{Scope}
@@ -59,18 +57,19 @@ module _ (n : ℕ) (sigmas : Bool) (ns ts ds : List ℕ) (given : ℕ) (xs : Lis
     pub holds : RowOf w.variables l row
     pub same : on_row w k row a ≡ on_row w token_limit r₀ at
 
-  pub record TermsOn (k a : ℕ) (l : List ℤ) : Type 0 where
+  -- behind j terms
+  pub record TermsOn (j a : ℕ) (l : List ℤ) : Type 0 where
     pub size : length l ≡ length l₀
-    pub reached : (w : Model ns ts ds given xs total) → Small sc → Valid c → (r₀ : Row) → RowOf w.variables l₀ r₀ → Reached w r₀ k a l
+    pub reached : (w : Model ns ts ds given xs total) → Small sc → Valid c → (r₀ : Row) → RowOf w.variables l₀ r₀ → Reached w r₀ (4096 - j) a l
 
-  pub terms-start : TermsOn 4096 at l₀
+  pub terms-start : TermsOn 0 at l₀
   unfolding token_limit
   terms-start = record { size = refl; reached = λ w g v r x. record { row = r; holds = x; same = refl } }
 
-  module _ (k a : ℕ) (l : List ℤ) (o : TermsOn k a l) where
+  module _ (j a : ℕ) (l : List ℤ) (o : TermsOn j a l) where
     -- by what the terms from here on do
-    from-here : (z : Move) (l' : List ℤ)
-        → ((w : Model ns ts ds given xs total) → Small sc → Valid c → (r : Row) → RowOf w.variables l r → Does w.world.text ts w.variables (on_row w k r a) z l')
+    from-here : (z : Result ℕ Refused) (l' : List ℤ)
+        → ((w : Model ns ts ds given xs total) → Small sc → Valid c → (r : Row) → RowOf w.variables l r → Does w.world.text ts w.variables (on_row w (4096 - j) r a) z l')
         → Gathers (terms_in sigmas n token_limit) ns ts ds given xs total level sc at c m l₀ z l'
     from-here z l' f =
         record {
@@ -79,24 +78,24 @@ module _ (n : ℕ) (sigmas : Bool) (ns ts ds : List ℕ) (given : ℕ) (xs : Lis
               subst (λ o. Does w.world.text ts w.variables o z l') q.same (f w g v q.row q.holds);
         }
 
-    pub terms-none : k ≤ 0 → Gathers (terms_in sigmas n token_limit) ns ts ds given xs total level sc at c m l₀ (move.At a) l
+    pub terms-none : 4096 ≤ j → Gathers (terms_in sigmas n token_limit) ns ts ds given xs total level sc at c m l₀ (Ok a) l
     unfolding terms_in walk_linear_terms
-    terms-none h = from-here (move.At a) l (λ w g v r x. record { gathered = r; is = go k h w r; row = x })
+    terms-none h = from-here (Ok a) l (λ w g v r x. record { gathered = r; is = go (4096 - j) (omega arith) w r; row = x })
       where
         go : (k : ℕ) → k ≤ 0 → (w : Model ns ts ds given xs total) (r : Row) → on_row w k r a ≡ read r (tokens_at w.world a)
         go zero h w r = refl
         go (suc k) h w r = absurd (omega arith)
 
-    module _ (t : Seen) (i : 0 < k) (h : Looks ts a t) where
-      pub terms-wrong : (j : Refusal) (p : ℕ) → t ≡ seen.Refused j p → Gathers (terms_in sigmas n token_limit) ns ts ds given xs total level sc at c m l₀ (move.Refused j p) l
+    module _ (t : Result Seen Refused) (i : j < 4096) (h : Looks ts a t) where
+      pub terms-wrong : (e : Refused) → t ≡ Err e → Gathers (terms_in sigmas n token_limit) ns ts ds given xs total level sc at c m l₀ (Err e) l
       unfolding terms_in walk_linear_terms
-      terms-wrong j p e = from-here (move.Refused j p) l (λ w g v r x. go k i w r)
+      terms-wrong z e = from-here (Err z) l (λ w g v r x. go (4096 - j) (omega arith) w r)
         where
-          go : (k : ℕ) → 0 < k → (w : Model ns ts ds given xs total) (r : Row) → on_row w k r a ≡ refused j p
+          go : (k : ℕ) → 0 < k → (w : Model ns ts ds given xs total) (r : Row) → on_row w k r a ≡ refused z.refusal z.place
           go zero i w r = absurd (omega arith)
-          go (suc k) i w r = stop _ _ j p (subst (Sees w.world.text ts a) e (h.sees w.world.text)).looks
+          go (suc k) i w r = stop _ _ z.refusal z.place (subst (Sees w.world.text ts a) e (h.sees w.world.text)).looks
 
-      module _ (x p y b : ℕ) (e : t ≡ seen.Token x p y b) where
+      module _ (here : Seen) (e : t ≡ Ok here) where
         turn : Model ns ts ds given xs total → ℕ → Row → Bool → Bool → Reader Row
         turn w k r f s = elim s as (λ _. Reader Row) [
           | true ↦ skip >>= (λ _. term_in sigmas n w.variables (seen_by w.world level) (under w.world sc) c (xor m f) r
@@ -104,50 +103,49 @@ module _ (n : ℕ) (sigmas : Bool) (ns ts ds : List ℕ) (given : ℕ) (xs : Lis
           | false ↦ give r
         ]
 
-        turns : (s : Bool) → (eqb x 43 || eqb x 45) ≡ s → (w : Model ns ts ds given xs total) (r : Row) → on_row w k r a ≡ turn w (k - 1) r (eqb x 45) s (tokens_at w.world a)
+        turns : (s : Bool) → (eqb here.kind 43 || eqb here.kind 45) ≡ s → (w : Model ns ts ds given xs total) (r : Row) → on_row w (4096 - j) r a ≡ turn w (4096 - (j + 1)) r (eqb here.kind 45) s (tokens_at w.world a)
         unfolding terms_in walk_linear_terms turn token
-        turns s q w r = go k i
+        turns s q w r = go (4096 - j) refl
           where
-            sums : is_sum (token w.world.text x p y) ≡ s
-            sums = rw (is-mark w.world.text x p y 43 (omega arith), is-mark w.world.text x p y 45 (omega arith)) q
+            sums : is_sum (token w.world.text here.kind here.place here.payload) ≡ s
+            sums = rw (is-mark w.world.text here.kind here.place here.payload 43 (omega arith), is-mark w.world.text here.kind here.place here.payload 45 (omega arith)) q
 
-            go : (k : ℕ) → 0 < k → on_row w k r a ≡ turn w (k - 1) r (eqb x 45) s (tokens_at w.world a)
-            go zero i = absurd (omega arith)
-            go (suc k) i =
-                let d : suc k - 1 ≡ k = omega arith in
-                on _ _ (token w.world.text x p y) (tokens_at w.world a) _ (look_is w.world.text ts a x p y b (subst (Sees w.world.text ts a) e (h.sees w.world.text)))
-                (ap (λ s. turn w k r (is_mark minus_sign (token w.world.text x p y)) s (tokens_at w.world a)) sums
-                ∙ ap (λ f. turn w k r f s (tokens_at w.world a)) (is-mark w.world.text x p y 45 (omega arith))
-                ∙ ap (λ k. turn w k r (eqb x 45) s (tokens_at w.world a)) (sym d))
+            go : (k : ℕ) → 4096 - j ≡ k → on_row w k r a ≡ turn w (4096 - (j + 1)) r (eqb here.kind 45) s (tokens_at w.world a)
+            go zero m = absurd (omega arith)
+            go (suc k) m =
+                let d : 4096 - (j + 1) ≡ k = omega arith in
+                on _ _ (token w.world.text here.kind here.place here.payload) (tokens_at w.world a) _ (look_is w.world.text ts a here (subst (Sees w.world.text ts a) e (h.sees w.world.text)))
+                (ap (λ s. turn w k r (is_mark minus_sign (token w.world.text here.kind here.place here.payload)) s (tokens_at w.world a)) sums
+                ∙ ap (λ f. turn w k r f s (tokens_at w.world a)) (is-mark w.world.text here.kind here.place here.payload 45 (omega arith))
+                ∙ ap (λ k. turn w k r (eqb here.kind 45) s (tokens_at w.world a)) (sym d))
 
-        pub terms-end : (eqb x 43 || eqb x 45) ≡ false → Gathers (terms_in sigmas n token_limit) ns ts ds given xs total level sc at c m l₀ (move.At a) l
+        pub terms-end : (eqb here.kind 43 || eqb here.kind 45) ≡ false → Gathers (terms_in sigmas n token_limit) ns ts ds given xs total level sc at c m l₀ (Ok a) l
         unfolding turn
-        terms-end q = from-here (move.At a) l (λ w g v r u. record { gathered = r; is = turns false q w r; row = u })
+        terms-end q = from-here (Ok a) l (λ w g v r u. record { gathered = r; is = turns false q w r; row = u })
 
-        module _ (q : (eqb x 43 || eqb x 45) ≡ true) (f : Bool) (d : f ≡ xor m (eqb x 45)) (z : Move) (l' : List ℤ) (s : Gathers (term_in sigmas n) ns ts ds given xs total level sc b c f l z l') where
-          next-term : Gathers (term_in sigmas n) ns ts ds given xs total level sc b c (xor m (eqb x 45)) l z l'
-          next-term = subst (λ f. Gathers (term_in sigmas n) ns ts ds given xs total level sc b c f l z l') d s
+        module _ (q : (eqb here.kind 43 || eqb here.kind 45) ≡ true) (f : Bool) (d : f ≡ xor m (eqb here.kind 45)) (z : Result ℕ Refused) (l' : List ℤ) (s : Gathers (term_in sigmas n) ns ts ds given xs total level sc here.next c f l z l') where
+          next-term : Gathers (term_in sigmas n) ns ts ds given xs total level sc here.next c (xor m (eqb here.kind 45)) l z l'
+          next-term = subst (λ f. Gathers (term_in sigmas n) ns ts ds given xs total level sc here.next c f l z l') d s
 
-          pub terms-refused : (j : Refusal) (o : ℕ) → z ≡ move.Refused j o → Gathers (terms_in sigmas n token_limit) ns ts ds given xs total level sc at c m l₀ z l'
+          pub terms-refused : (e : Refused) → z ≡ Err e → Gathers (terms_in sigmas n token_limit) ns ts ds given xs total level sc at c m l₀ (Err e) l'
           unfolding turn
-          terms-refused j o u =
-              subst (λ z. Gathers (terms_in sigmas n token_limit) ns ts ds given xs total level sc at c m l₀ z l') (sym u)
-              (from-here (move.Refused j o) l' (λ w g v r y'.
-              turns true q w r ∙ on _ _ tt (tokens_at w.world b) _ ((skips-seen ts a x p y b t h e).is w.world.text) (stop _ _ j o (refused-at next-term w g v r y' u))))
+          terms-refused y u =
+              from-here (Err y) l' (λ w g v r x.
+              turns true q w r ∙ on _ _ tt (tokens_at w.world here.next) _ ((skips-seen ts a here t h e).is w.world.text) (stop _ _ y.refusal y.place (refused-at next-term w g v r x u)))
 
-          pub terms-on : (j : ℕ) → z ≡ move.At j → length l' ≡ length l → TermsOn (k - 1) j l'
+          pub terms-on : (b : ℕ) → z ≡ Ok b → length l' ≡ length l → TermsOn (j + 1) b l'
           unfolding turn
-          terms-on j u z' =
+          terms-on b u s' =
               record {
-                size = z' ∙ o.size;
-                reached = λ w g v r₀ y'.
-                    let s = o.reached w g v r₀ y' in
+                size = s' ∙ o.size;
+                reached = λ w g v r₀ x.
+                    let s = o.reached w g v r₀ x in
                     let d = done_at next-term w g v s.row s.holds u in
                     record {
                       row = d.gathered;
                       holds = d.row;
                       same =
-                          sym (turns true q w s.row ∙ on _ _ tt (tokens_at w.world b) _ ((skips-seen ts a x p y b t h e).is w.world.text) (on _ _ d.gathered (tokens_at w.world j) _ d.is refl))
+                          sym (turns true q w s.row ∙ on _ _ tt (tokens_at w.world here.next) _ ((skips-seen ts a here t h e).is w.world.text) (on _ _ d.gathered (tokens_at w.world b) _ d.is refl))
                           ∙ s.same;
                     };
               }
@@ -175,7 +173,7 @@ module _ (n i : ℕ) (ns ts ds : List ℕ) (given : ℕ) (xs : List ℕ) (total 
       record { size = refl; within = omega arith; turned = λ w g y v r x. record { row = r; holds = x; same = rw (d, +ℤ_idr b.lower) refl } }
 
   module _ (j : ℕ) (l : List ℤ) (o : RunsOn j l) where
-    pub runs-end : (end : ℕ) → k ≤ j → Ends ts at end → RunsAre n i ns ts ds given xs total level sc at c m b k l₀ (move.At end) l
+    pub runs-end : (end : ℕ) → k ≤ j → Ends ts at end → RunsAre n i ns ts ds given xs total level sc at c m b k l₀ (Ok end) l
     unfolding walk_runs step each
     runs-end end h f =
         record {
@@ -191,7 +189,7 @@ module _ (n i : ℕ) (ns ts ds : List ℕ) (given : ℕ) (xs : List ℕ) (total 
         last : (w : Model ns ts ds given xs total) (r : Row) → each (step w) (up_from (b.lower +ℤ pos j) (k - j)) r ≡ done r
         last w r = let d : k - j ≡ 0 = omega arith in rw d refl
 
-    module _ (u : j < k) (t : Scope) (f : bindings_of t ≡ bound_more i (number_in b j) (bindings_of sc)) (z : Move) (l' : List ℤ) (h : Gathers (body_in n) ns ts ds given xs total level t at c m l z l') where
+    module _ (u : j < k) (t : Scope) (f : bindings_of t ≡ bound_more i (number_in b j) (bindings_of sc)) (z : Result ℕ Refused) (l' : List ℤ) (h : Gathers (body_in n) ns ts ds given xs total level t at c m l z l') where
       bound : Ready sc b k → bindings_of t ≡ bound_more i (b.lower +ℤ pos j) (bindings_of sc)
       unfolding run_limit
       bound y = f ∙ ap (λ z. bound_more i z (bindings_of sc)) (number_small b j y.small.low (omega (arith, y.short)))
@@ -214,17 +212,17 @@ module _ (n i : ℕ) (ns ts ds : List ℕ) (given : ℕ) (xs : List ℕ) (total 
           let s : b.lower +ℤ pos j +ℤ pos 1 ≡ b.lower +ℤ pos (j + 1) = +ℤ_assoc b.lower (pos j) (pos 1) in
           rw (d, s) (ap (λ o. outcome.◌>>=◌ o (λ q. each (step w) (up_from (b.lower +ℤ pos (j + 1)) (k - (j + 1))) q)) e)
 
-      pub runs-refused : (q : Refusal) (s : ℕ) → z ≡ move.Refused q s → RunsAre n i ns ts ds given xs total level sc at c m b k l₀ z l'
+      pub runs-refused : (e : Refused) → z ≡ Err e → RunsAre n i ns ts ds given xs total level sc at c m b k l₀ (Err e) l'
       unfolding walk_runs step
-      runs-refused q s e =
-          subst (λ z. RunsAre n i ns ts ds given xs total level sc at c m b k l₀ z l') (sym e) (record {
+      runs-refused q e =
+          record {
             does = λ w g y v r x.
                 let a = o.turned w g y v r x in
                 ap (λ o. as_read o (behind_bracket 0 (tokens_at w.world at)))
-                (sym a.same ∙ round w a.row (refused q s) (step_is w y a.row ∙ ap what_of (refused-at h w (inner g y) v a.row a.holds e)));
-          })
+                (sym a.same ∙ round w a.row (refused q.refusal q.place) (step_is w y a.row ∙ ap what_of (refused-at h w (inner g y) v a.row a.holds e)));
+          }
 
-      pub runs_on : (q : ℕ) → z ≡ move.At q → length l' ≡ length l → RunsOn (j + 1) l'
+      pub runs_on : (q : ℕ) → z ≡ Ok q → length l' ≡ length l → RunsOn (j + 1) l'
       runs_on q e s =
           record {
             size = s ∙ o.size;

@@ -1,6 +1,7 @@
 -- What each function answers: for every text, names, data and variables that the tables hold, what the walk of the tokens from a
 -- position on gathers. `level`: how many names are visible. `n`: how many brackets may still open.
-use Rattle.std.specs.Prelude.{◌≡◌, Bool, true, false, cond, ◌&&◌, ◌||◌, List, ℕ, ◌<◌, eqb, ltb, length, get_or, ℤ}
+use Rattle.std.specs.Prelude.{Err, None, Ok, Option, Result, Some, ◌≡◌, Bool, true, false, cond, ◌&&◌, ◌||◌, List, ℕ, ◌<◌, eqb, ltb, length, get_or, ℤ}
+use Rattle.rules.specs.declared.Refused.{Refused}
 use Rattle.rules.specs.Limits.{token_limit}
 use Rattle.value.specs.declared.Value.{Value}
 use Rattle.value.specs.Decimal.{Valid, product_of}
@@ -14,25 +15,18 @@ use Rattle.language.specs.Evaluation.{run_of}
 use Rattle.language.specs.Numbering.{Variable, Row}
 use Rattle.onepass.specs.Walk.{Walk, walk_head, walk_primary, walk_inside}
 use Rattle.onepass.specs.WalkLinear.{Gatherer, walk_number, walk_variable, walk_linear_term, walk_linear_terms, walk_linear, no_sigma_walk, walk_body_form, walk_runs, walk_sigma, gather_at}
-use Rattle.tokens.specs.declared.Move.{Move}
-use Rattle.tokens.specs.declared.Move.TheVariants as move
-use Rattle.tokens.specs.declared.Seen.TheVariants as seen
 use Rattle.tokens.specs.Stored.{kind_of, from, size, Looks}
 use Rattle.store.specs.Entries.{Numbered as Held}
 use Rattle.evaluator.specs.declared.steps.scope.Scope.{Scope}
 use Rattle.evaluator.specs.declared.steps.names.Listed.{Listed}
-use Rattle.evaluator.specs.declared.steps.names.Listed.TheVariants as listed
 use Rattle.evaluator.specs.declared.steps.values.Limits as code
 use Rattle.evaluator.specs.Steps.Scopes.{Small}
 use Rattle.evaluator.specs.Steps.Names.{number_part, listed_of}
 use Rattle.evaluator.specs.Tables.{DomainAt, World}
 use Rattle.evaluator.specs.Cycle.{limits_walk, seen_by, under, tokens_at, Ready}
-use Rattle.gatherer.specs.declared.Numbered.{Numbered}
-use Rattle.gatherer.specs.declared.Numbered.TheVariants as numbered
 use Rattle.gatherer.specs.declared.Ending.{Ending}
 use Rattle.gatherer.specs.declared.Ending.TheVariants as ending
 use Rattle.gatherer.specs.declared.Running.{Running}
-use Rattle.gatherer.specs.declared.Running.TheVariants as running
 use Rattle.rows.specs.Counts.{RowOf}
 
 -- ---- the walks, each a function of the variables and the names
@@ -81,9 +75,9 @@ pub record Done (s ts : List ℕ) (vs : List Variable) (o : Outcome (Read Row)) 
   pub is : o ≡ done (record { what = gathered; rest = from s ts a })
   pub row : RowOf vs l gathered
 
-abbrev pub Does : List ℕ → List ℕ → List Variable → Outcome (Read Row) → Move → List ℤ → Type 0
-Does s ts vs o (move.At a) l = Done s ts vs o a l
-Does s ts vs o (move.Refused r p) l = o ≡ refused r p
+abbrev pub Does : List ℕ → List ℕ → List Variable → Outcome (Read Row) → Result ℕ Refused → List ℤ → Type 0
+Does s ts vs o (Ok a) l = Done s ts vs o a l
+Does s ts vs o (Err e) l = o ≡ refused e.refusal e.place
 
 -- a declared domain with k indices of the name i, declared at q
 pub record Declared {ns ts ds : List ℕ} {given : ℕ} (w : World ns ts ds given) (i : ℕ) (d : Spans) (k q : ℕ) : Type 0 where
@@ -93,33 +87,33 @@ pub record Declared {ns ts ds : List ℕ} {given : ℕ} (w : World ns ts ds give
 
 -- ---- contracts
 
-abbrev pub number_outcome : List ℕ → List ℕ → Numbered → Outcome (Read ℕ)
-number_outcome s ts (numbered.Number j a) = done (record { what = j; rest = from s ts a })
-number_outcome s ts (numbered.Refused r p) = refused r p
+abbrev pub number_outcome : List ℕ → List ℕ → Result (ℕ × ℕ) Refused → Outcome (Read ℕ)
+number_outcome s ts (Ok (j, a)) = done (record { what = j; rest = from s ts a })
+number_outcome s ts (Err e) = refused e.refusal e.place
 
 -- the number of the variable of name i that is read at p
-pub record NumberIs (n i k q p : ℕ) (ns ts ds : List ℕ) (given : ℕ) (xs : List ℕ) (total level : ℕ) (sc : Scope) (at : ℕ) (r : Numbered) : Type 0 where
+pub record NumberIs (n i k q p : ℕ) (ns ts ds : List ℕ) (given : ℕ) (xs : List ℕ) (total level : ℕ) (sc : Scope) (at : ℕ) (r : Result (ℕ × ℕ) Refused) : Type 0 where
   pub is : (w : Model ns ts ds given xs total) → Small sc → (d : Spans) → Declared w.world i d k q
       → walk_number w.variables (seen_by w.world level) n i d p (under w.world sc) (tokens_at w.world at) ≡ number_outcome w.world.text ts r
-  pub below : Model ns ts ds given xs total → (j a : ℕ) → r ≡ numbered.Number j a → j < total
+  pub below : Model ns ts ds given xs total → (j a : ℕ) → r ≡ Ok (j, a) → j < total
 
 -- what a token begins: a variable of a declared domain, or a primary
-abbrev pub Heads : {ns ts ds : List ℕ} {given : ℕ} → World ns ts ds given → Head → Listed → Type 0
-Heads w h listed.Nothing = h ≡ a_primary
-Heads w h (listed.Name i j k q) = (d : Spans) × ((h ≡ a_variable i d) × Declared w i d k q)
+abbrev pub Heads : {ns ts ds : List ℕ} {given : ℕ} → World ns ts ds given → Head → Option Listed → Type 0
+Heads w h None = h ≡ a_primary
+Heads w h (Some x) = (d : Spans) × ((h ≡ a_variable x.number d) × Declared w x.number d x.count x.start)
 
 -- the variable that a name is, if it is one of the first `level` names
-abbrev pub variable_listed : ℕ → Listed → Listed
-variable_listed level (listed.Name i j c q) = cond (ltb i level) (cond (eqb j 4 || eqb j 5) (listed.Name i j c q) listed.Nothing) listed.Nothing
-variable_listed level listed.Nothing = listed.Nothing
+abbrev pub variable_listed : ℕ → Option Listed → Option Listed
+variable_listed level (Some x) = cond (ltb x.number level) (cond (eqb x.sort 4 || eqb x.sort 5) (Some x) None) None
+variable_listed level None = None
 
 -- the variable that a token of kind k names by its number, if it names one
-unfoldable pub variable_seen : List ℕ → List ℕ → ℕ → ℕ → ℕ → Listed
-variable_seen ns ts level at k = cond (eqb k 1) (variable_listed level (listed_of ns (number_part (get_or ts at 0)))) listed.Nothing
+unfoldable pub variable_seen : List ℕ → List ℕ → ℕ → ℕ → ℕ → Option Listed
+variable_seen ns ts level at k = cond (eqb k 1) (variable_listed level (listed_of ns (number_part (get_or ts at 0)))) None
 
 -- of the token there, in every world
-pub record Begins (ns ts : List ℕ) (level at k : ℕ) (r : Listed) : Type 0 where
-  pub heads : (p x b : ℕ) → Looks ts at (seen.Token k p x b) → (sigmas : Bool) → (sigmas && eqb k sigma_word) ≡ false
+pub record Begins (ns ts : List ℕ) (level at k : ℕ) (r : Option Listed) : Type 0 where
+  pub heads : (p x b : ℕ) → Looks ts at (Ok (record { kind = k; place = p; payload = x; next = b })) → (sigmas : Bool) → (sigmas && eqb k sigma_word) ≡ false
       → (ds : List ℕ) (given : ℕ) (w : World ns ts ds given) → Heads w (head_by (seen_by w level) sigmas (kind_of w.text k p x)) r
 
 -- what a term is walked with: variables, what walks a sigma, a sign, a row
@@ -141,45 +135,45 @@ module _ {ns ts ds : List ℕ} {given : ℕ} (w : World ns ts ds given) (level n
     pub is : o ≡ g.sigma p (under w sc) u g.minus g.row (tokens_at w a)
     pub valid : Valid u
 
-  abbrev pub Ends : Ending → Type 0
-  Ends (ending.Variable u i k q p a) = AtVariable u i k q p a
-  Ends (ending.Sigma u p a) = AtSigma u p a
-  Ends (ending.Refused r p) = o ≡ refused r p
+  abbrev pub Ends : Result Ending Refused → Type 0
+  Ends (Ok (ending.Variable u x p a)) = AtVariable u x.number x.count x.start p a
+  Ends (Ok (ending.Sigma u p a)) = AtSigma u p a
+  Ends (Err e) = o ≡ refused e.refusal e.place
 
 -- a term with at most k primaries
 unfoldable pub term_walk : {ns ts ds : List ℕ} {given : ℕ} → World ns ts ds given → ℕ → ℕ → Bool → Scope → Carried → ℕ → Value → Reader Row
 term_walk w level n sigmas sc g k c = walk_linear_term g.variables (seen_by w level) g.sigma sigmas n k (under w sc) c g.minus g.row
 
-pub record EndingIs (n : ℕ) (sigmas : Bool) (ns ts ds : List ℕ) (given level : ℕ) (sc : Scope) (at : ℕ) (c : Value) (r : Ending) : Type 0 where
+pub record EndingIs (n : ℕ) (sigmas : Bool) (ns ts ds : List ℕ) (given level : ℕ) (sc : Scope) (at : ℕ) (c : Value) (r : Result Ending Refused) : Type 0 where
   pub is : (w : World ns ts ds given) → Small sc → Valid c → (g : Carried) → Ends w level n sigmas sc g (term_walk w level n sigmas sc g token_limit c (tokens_at w at)) r
-  pub allowed : (u : Value) (p a : ℕ) → r ≡ ending.Sigma u p a → sigmas ≡ true
+  pub allowed : (u : Value) (p a : ℕ) → r ≡ Ok (ending.Sigma u p a) → sigmas ≡ true
 
 -- a linear form, or a part of one, gathered from the row l
-pub record Gathers (G : Gatherers) (ns ts ds : List ℕ) (given : ℕ) (xs : List ℕ) (total level : ℕ) (sc : Scope) (at : ℕ) (c : Value) (m : Bool) (l : List ℤ) (z : Move) (l' : List ℤ) : Type 0 where
+pub record Gathers (G : Gatherers) (ns ts ds : List ℕ) (given : ℕ) (xs : List ℕ) (total level : ℕ) (sc : Scope) (at : ℕ) (c : Value) (m : Bool) (l : List ℤ) (z : Result ℕ Refused) (l' : List ℤ) : Type 0 where
   pub does : (w : Model ns ts ds given xs total) → Small sc → Valid c → (r : Row) → RowOf w.variables l r
       → Does w.world.text ts w.variables (G w.variables (seen_by w.world level) (under w.world sc) c m r (tokens_at w.world at)) z l'
 
 -- a variable's coefficient
-pub record VariableIs (n i k q p : ℕ) (ns ts ds : List ℕ) (given : ℕ) (xs : List ℕ) (total level : ℕ) (sc : Scope) (at : ℕ) (c : Value) (m : Bool) (l : List ℤ) (z : Move) (l' : List ℤ) : Type 0 where
+pub record VariableIs (n i k q p : ℕ) (ns ts ds : List ℕ) (given : ℕ) (xs : List ℕ) (total level : ℕ) (sc : Scope) (at : ℕ) (c : Value) (m : Bool) (l : List ℤ) (z : Result ℕ Refused) (l' : List ℤ) : Type 0 where
   pub does : (w : Model ns ts ds given xs total) → Small sc → Valid c → (r : Row) → RowOf w.variables l r → (d : Spans) → Declared w.world i d k q
       → Does w.world.text ts w.variables (walk_variable w.variables (seen_by w.world level) n i d p (under w.world sc) c m r (tokens_at w.world at)) z l'
 
 -- the run of a sigma, and what is walked with its index and numbers
-abbrev pub running_outcome : {ns ts ds : List ℕ} {given : ℕ} → World ns ts ds given → (ℕ → List ℤ → Reader Row) → Running → Outcome (Read Row)
-running_outcome w K (running.Run i l k a) = K i (up_from l.lower k) (tokens_at w a)
-running_outcome w K (running.Refused r p) = refused r p
+abbrev pub running_outcome : {ns ts ds : List ℕ} {given : ℕ} → World ns ts ds given → (ℕ → List ℤ → Reader Row) → Result Running Refused → Outcome (Read Row)
+running_outcome w K (Ok x) = K x.index (up_from x.limits.lower x.count) (tokens_at w x.body)
+running_outcome w K (Err e) = refused e.refusal e.place
 
-abbrev pub ReadyRun : Scope → Running → Type 0
-ReadyRun sc (running.Run i l k a) = Ready sc l k
-ReadyRun sc (running.Refused r p) = Unit {0}
+abbrev pub ReadyRun : Scope → Result Running Refused → Type 0
+ReadyRun sc (Ok x) = Ready sc x.limits x.count
+ReadyRun sc (Err e) = Unit {0}
 
-pub record RunningIs (n p : ℕ) (ns ts ds : List ℕ) (given level : ℕ) (sc : Scope) (at : ℕ) (r : Running) : Type 0 where
+pub record RunningIs (n p : ℕ) (ns ts ds : List ℕ) (given level : ℕ) (sc : Scope) (at : ℕ) (r : Result Running Refused) : Type 0 where
   pub is : (w : World ns ts ds given) → Small sc → (K : ℕ → List ℤ → Reader Row)
       → (walk_head (seen_by w level) >>= (λ i. limits_walk n (seen_by w level) (under w sc) >>= (λ l. lift (run_of l i (under w sc) p) >>= K i))) (tokens_at w at) ≡ running_outcome w K r
   pub ready : World ns ts ds given → Small sc → ReadyRun sc r
-  pub after : (i : ℕ) (l : code.Limits) (k a : ℕ) → r ≡ running.Run i l k a → at < a
+  pub after : (w : Running) → r ≡ Ok w → at < w.body
 
 -- a sigma's body for each number of its run
-pub record RunsAre (n i : ℕ) (ns ts ds : List ℕ) (given : ℕ) (xs : List ℕ) (total level : ℕ) (sc : Scope) (at : ℕ) (c : Value) (m : Bool) (b : code.Limits) (k : ℕ) (l : List ℤ) (z : Move) (l' : List ℤ) : Type 0 where
+pub record RunsAre (n i : ℕ) (ns ts ds : List ℕ) (given : ℕ) (xs : List ℕ) (total level : ℕ) (sc : Scope) (at : ℕ) (c : Value) (m : Bool) (b : code.Limits) (k : ℕ) (l : List ℤ) (z : Result ℕ Refused) (l' : List ℤ) : Type 0 where
   pub does : (w : Model ns ts ds given xs total) → Small sc → Ready sc b k → Valid c → (r : Row) → RowOf w.variables l r
       → Does w.world.text ts w.variables (walk_runs w.variables (seen_by w.world level) (body_in n w.variables (seen_by w.world level)) i (under w.world sc) c m r (up_from b.lower k) (tokens_at w.world at)) z l'

@@ -7,197 +7,126 @@ ghost use Rattle.rules.specs.Limits.{token_limit, nesting_limit};
 ghost use Rattle.value.specs.Decimal.{one_value};
 ghost use Rattle.language.specs.Numbering.{xor};
 ghost use Rattle.evaluator.specs.Cycle.{Continues};
+ghost use Rattle.evaluator.specs.Context.{Over, Under};
 ghost use Rattle.gatherer.specs.Cycle.{factor_in, term_in, terms_in, form_in, sigma_in, body_in, gather_in, variable_seen, NumberIs, EndingIs, VariableIs, RunningIs, RunsAre, Gathers};
 
-use evaluator::steps::names::{Headed, Listed};
-use evaluator::steps::passing::Lead;
-use evaluator::steps::values::{Answer, Limits, Runs};
+use evaluator::Context;
+use evaluator::steps::names::Listed;
+use evaluator::steps::values::Limits;
 use evaluator::steps::{passing, values};
-use evaluator::{Context, Limited, Numbers, Passed};
 use lexer::marks;
-use tokens::{Move, Seen, kinds, sorts};
+use rules::{Refused, refused};
+use tokens::{kinds, sorts};
 use value::Value;
 
-// A variable's number from 0 and the position behind its subscripts.
-#[derive(Clone, Copy)]
-pub enum Numbered {
-    Number(usize, usize),
-    Refused(rules::Refusal, u64),
-}
-
-// What a term ends with behind its primaries, with their product: a variable, by its number of name, number of indices, the
-// position of its declared domain, its place and the position behind its name; or a sigma, by its place and the position behind
-// its word.
+// What a term ends with behind its primaries, with their product: a variable, by its name, its place and the position behind it; or
+// a sigma, by its place and the position behind its word.
 #[derive(Clone, Copy)]
 enum Ending {
-    Variable(Value, usize, u64, usize, u64, usize),
+    Variable(Value, Listed, u64, usize),
     Sigma(Value, u64, usize),
-    Refused(rules::Refusal, u64),
 }
 
 // A run: its index, limits, how many numbers it has, and the position of its body.
 #[derive(Clone, Copy)]
-enum Running {
-    Run(usize, Limits, usize, usize),
-    Refused(rules::Refusal, u64),
+struct Running {
+    index: usize,
+    limits: Limits,
+    count: usize,
+    body: usize,
 }
 
-// The number of the variable of name i, whose domain has `count` indices and was declared at `start`, read at p.
+// The number of the variable of a name, read at p.
 pub fn number(
-    names: &[u64],
-    tokens: &[u64],
-    table: &[u64],
     variables: &[u64],
     total: usize,
-    cx: Context,
+    cx: &Context<'_>,
     at: usize,
-    i: usize,
-    count: u64,
-    start: usize,
+    name: Listed,
     p: u64,
-) -> Numbered
-    ensures { NumberIs cx.nest i count start p names.now tokens.now table.now cx.given variables.now total cx.level cx.scope at result }
+) -> Result<(usize, usize), Refused>
+    ensures { Over (NumberIs cx.now.nest name.number name.count name.start p) cx.now.stored variables.now total cx.now.level cx.now.scope at result }
 {
-    let all = evaluator::subscripts(names, tokens, table, cx, at, count, p);
-    match all {
-        Numbers::Element(e, a) => {
-            let test = evaluator::within(names, tokens, table, cx.given, i, start, e, p);
-            match test {
-                Passed::Inside => {
-                    let key = store::key_of(i, e);
-                    let found = store::find(variables, total, key);
-                    match found {
-                        Some(j) => Numbered::Number(j, a),
-                        None => Numbered::Refused(rules::Refusal::Outside, p),
-                    }
-                }
-                Passed::Refused(n, q) => Numbered::Refused(n, q),
-            }
-        }
-        Numbers::Refused(n, q) => Numbered::Refused(n, q),
-    }
+    let (e, next) = evaluator::subscripts(cx, at, name.count, p)?;
+    evaluator::within(cx.stored, name.number, name.start, e, p)?;
+    let key = store::key_of(name.number, e);
+    let Some(j) = store::find(variables, total, key) else {
+        return refused!(Outside, p);
+    };
+    Ok((j, next))
 }
 
 // The variable at a position, whose token has kind k, if it names one.
-pub fn variable_at(names: &[u64], tokens: &[u64], level: usize, at: usize, k: u64) -> Listed
+pub fn variable_at(names: &[u64], tokens: &[u64], level: usize, at: usize, k: u64) -> Option<Listed>
     ensures { result ≡ variable_seen names.now tokens.now level at k }
 {
     if k != kinds::NAME {
-        return Listed::Nothing;
+        return None;
     }
-    let name = evaluator::steps::names::name_at(names, tokens, at);
-    match name {
-        Listed::Name(i, sort, count, start) => {
-            if level <= i {
-                return Listed::Nothing;
-            }
-            if (sort == sorts::DISCRETE) | (sort == sorts::CONTINUOUS) {
-                return Listed::Name(i, sort, count, start);
-            }
-            Listed::Nothing
-        }
-        Listed::Nothing => Listed::Nothing,
+    let name = evaluator::steps::names::name_at(names, tokens, at)?;
+    if level <= name.number {
+        return None;
     }
+    if (name.sort == sorts::DISCRETE) | (name.sort == sorts::CONTINUOUS) {
+        return Some(name);
+    }
+    None
 }
 
 // A primary and the `*` behind it: its product with c, refused at the `*`.
-fn factor(names: &[u64], tokens: &[u64], table: &[u64], cx: Context, at: usize, c: Value) -> Answer
-    ensures { Continues (factor_in cx.nest) names.now tokens.now table.now cx.given cx.level cx.scope at c result }
+fn factor(cx: &Context<'_>, at: usize, c: Value) -> Result<(Value, usize), Refused>
+    ensures { Under (Continues (factor_in cx.now.nest)) cx.now at c result }
 {
-    let r = evaluator::primary(names, tokens, table, cx, at);
-    let Answer::Value(v, a) = r else {
-        return r;
-    };
-    let star = tokens::token_at(tokens, a);
-    match star {
-        Seen::Token(k, p, x, next) => values::product(c, v, p, next),
-        Seen::Refused(n, p) => Answer::Refused(n, p),
-    }
+    let (v, next) = evaluator::primary(cx, at)?;
+    let star = tokens::token_at(cx.stored.tokens, next)?;
+    values::product(c, v, star.place, star.next)
 }
 
 // Primaries each followed by `*`, and what the term ends with.
-fn end_of(
-    names: &[u64],
-    tokens: &[u64],
-    table: &[u64],
-    cx: Context,
-    at: usize,
-    c: Value,
-    sigmas: bool,
-) -> Ending
-    ensures { EndingIs cx.nest sigmas names.now tokens.now table.now cx.given cx.level cx.scope at c result }
+fn end_of(cx: &Context<'_>, at: usize, c: Value, sigmas: bool) -> Result<Ending, Refused>
+    ensures { Under (EndingIs cx.now.nest sigmas) cx.now at c result }
 {
     let mut a = at;
     let mut u = c;
-    let mut left = rules::TOKEN_LIMIT;
-    while 0 < left {
-        let token = tokens::token_at(tokens, a);
-        match token {
-            Seen::Token(k, p, x, next) => {
-                if sigmas & (k == marks::SIGMA as u64) {
-                    return Ending::Sigma(u, p, next);
-                }
-                let name = variable_at(names, tokens, cx.level, a, k);
-                match name {
-                    Listed::Name(i, sort, count, start) => {
-                        return Ending::Variable(u, i, count, start, p, next);
-                    }
-                    Listed::Nothing => {
-                        let f = factor(names, tokens, table, cx, a, u);
-                        match f {
-                            Answer::Value(v, b) => {
-                                u = v;
-                                a = b;
-                            }
-                            Answer::Refused(n, q) => {
-                                return Ending::Refused(n, q);
-                            }
-                        }
-                    }
-                }
-            }
-            Seen::Refused(n, p) => {
-                return Ending::Refused(n, p);
-            }
+    for _ in 0..rules::TOKEN_LIMIT {
+        let token = tokens::token_at(cx.stored.tokens, a)?;
+        if sigmas & (token.kind == marks::SIGMA as u64) {
+            return Ok(Ending::Sigma(u, token.place, token.next));
         }
-        left -= 1;
+        if let Some(name) = variable_at(
+            cx.stored.names,
+            cx.stored.tokens,
+            cx.level,
+            a,
+            token.kind,
+        ) {
+            return Ok(Ending::Variable(u, name, token.place, token.next));
+        }
+        (u, a) = factor(cx, a, u)?;
     }
-    Ending::Refused(rules::Refusal::Full, 0)
+    refused!(Full, 0)
 }
 
 // A variable's coefficient c, with its sign, added to the row; refused at its name, p.
 fn variable(
-    names: &[u64],
-    tokens: &[u64],
-    table: &[u64],
     variables: &[u64],
     total: usize,
-    cx: Context,
+    cx: &Context<'_>,
     at: usize,
     c: Value,
     minus: bool,
-    i: usize,
-    count: u64,
-    start: usize,
+    name: Listed,
     p: u64,
     row: &mut [i64],
-) -> Move
-    ensures { VariableIs cx.nest i count start p names.now tokens.now table.now cx.given variables.now total cx.level cx.scope at c minus row.old result row.new }
+) -> Result<usize, Refused>
+    ensures { Over (VariableIs cx.now.nest name.number name.count name.start p) cx.now.stored variables.now total cx.now.level cx.now.scope at c minus row.old result row.new }
 {
-    let which = number(
-        names, tokens, table, variables, total, cx, at, i, count, start, p,
-    );
-    match which {
-        Numbered::Number(j, a) => {
-            let v = values::signed(minus, c);
-            let fits = value::gather(row, j, v);
-            if fits {
-                return Move::At(a);
-            }
-            Move::Refused(rules::Refusal::Unfit, p)
-        }
-        Numbered::Refused(n, q) => Move::Refused(n, q),
+    let (j, next) = number(variables, total, cx, at, name, p)?;
+    let fits = value::gather(row, j, values::signed(minus, c));
+    if !fits {
+        return refused!(Unfit, p);
     }
+    Ok(next)
 }
 
 // A sign under a sign.
@@ -212,216 +141,144 @@ fn flipped(minus: bool, negative: bool) -> bool
 
 // A linear form, from the coefficient 1 and without a sign before it.
 pub fn gathered(
-    names: &[u64],
-    tokens: &[u64],
-    table: &[u64],
     variables: &[u64],
     total: usize,
-    cx: Context,
+    cx: &Context<'_>,
     at: usize,
     row: &mut [i64],
-) -> Move
-    ensures { Gathers (gather_in nesting_limit) names.now tokens.now table.now cx.given variables.now total cx.level cx.scope at one_value false row.old result row.new }
+) -> Result<usize, Refused>
+    ensures { Over (Gathers (gather_in nesting_limit)) cx.now.stored variables.now total cx.now.level cx.now.scope at one_value false row.old result row.new }
 {
     let one = Value { m: 1, s: 0 };
-    let scope = cx.scope;
     let all = Context {
-        given: cx.given,
-        level: cx.level,
         nest: rules::NESTING_LIMIT,
-        scope,
+        ..*cx
     };
-    form(
-        names, tokens, table, variables, total, all, at, one, false, true, row,
-    )
+    form(variables, total, &all, at, one, false, true, row)
 }
 
 // Optional sign, then terms joined by `+` or `-`.
 #[cycle(gathering)]
 fn form(
-    names: &[u64],
-    tokens: &[u64],
-    table: &[u64],
     variables: &[u64],
     total: usize,
-    cx: Context,
+    cx: &Context<'_>,
     at: usize,
     c: Value,
     minus: bool,
     sigmas: bool,
     row: &mut [i64],
-) -> Move
-    ensures { Gathers (form_in sigmas cx.nest) names.now tokens.now table.now cx.given variables.now total cx.level cx.scope at c minus row.old result row.new }
+) -> Result<usize, Refused>
+    ensures { Over (Gathers (form_in sigmas cx.now.nest)) cx.now.stored variables.now total cx.now.level cx.now.scope at c minus row.old result row.new }
 {
-    let lead = passing::sign(tokens, at);
-    match lead {
-        Lead::Sign(negative, a) => {
-            let m = flipped(minus, negative);
-            let first = term(
-                names, tokens, table, variables, total, cx, a, c, m, sigmas, row,
-            );
-            let Move::At(b) = first else {
-                return first;
-            };
-            terms(
-                names, tokens, table, variables, total, cx, b, c, minus, sigmas, row,
-            )
-        }
-        Lead::Refused(n, p) => Move::Refused(n, p),
-    }
+    let (negative, a) = passing::sign(cx.stored.tokens, at)?;
+    let m = flipped(minus, negative);
+    let b = term(variables, total, cx, a, c, m, sigmas, row)?;
+    terms(variables, total, cx, b, c, minus, sigmas, row)
 }
 
 // Terms joined by `+` or `-`, behind the first one.
 #[cycle(gathering)]
 fn terms(
-    names: &[u64],
-    tokens: &[u64],
-    table: &[u64],
     variables: &[u64],
     total: usize,
-    cx: Context,
+    cx: &Context<'_>,
     at: usize,
     c: Value,
     minus: bool,
     sigmas: bool,
     row: &mut [i64],
-) -> Move
-    ensures { Gathers (terms_in sigmas cx.nest token_limit) names.now tokens.now table.now cx.given variables.now total cx.level cx.scope at c minus row.old result row.new }
+) -> Result<usize, Refused>
+    ensures { Over (Gathers (terms_in sigmas cx.now.nest token_limit)) cx.now.stored variables.now total cx.now.level cx.now.scope at c minus row.old result row.new }
 {
     let mut a = at;
-    let mut left = rules::TOKEN_LIMIT;
-    while 0 < left {
-        let token = tokens::token_at(tokens, a);
-        match token {
-            Seen::Token(k, p, x, next) => {
-                let negative = k == marks::MINUS as u64;
-                if (k == marks::PLUS as u64) | negative {
-                    let m = flipped(minus, negative);
-                    let r = term(
-                        names, tokens, table, variables, total, cx, next, c, m, sigmas, row,
-                    );
-                    let Move::At(b) = r else {
-                        return r;
-                    };
-                    a = b;
-                } else {
-                    return Move::At(a);
-                }
-            }
-            Seen::Refused(n, p) => {
-                return Move::Refused(n, p);
-            }
+    for _ in 0..rules::TOKEN_LIMIT {
+        let token = tokens::token_at(cx.stored.tokens, a)?;
+        let negative = token.kind == marks::MINUS as u64;
+        let joined = (token.kind == marks::PLUS as u64) | negative;
+        if !joined {
+            return Ok(a);
         }
-        left -= 1;
+        let m = flipped(minus, negative);
+        a = term(variables, total, cx, token.next, c, m, sigmas, row)?;
     }
-    Move::At(a)
+    Ok(a)
 }
 
 // Primaries each followed by `*`, then a variable, or a sigma where `sigmas` are allowed.
 #[cycle(gathering)]
 fn term(
-    names: &[u64],
-    tokens: &[u64],
-    table: &[u64],
     variables: &[u64],
     total: usize,
-    cx: Context,
+    cx: &Context<'_>,
     at: usize,
     c: Value,
     minus: bool,
     sigmas: bool,
     row: &mut [i64],
-) -> Move
-    ensures { Gathers (term_in sigmas cx.nest) names.now tokens.now table.now cx.given variables.now total cx.level cx.scope at c minus row.old result row.new }
+) -> Result<usize, Refused>
+    ensures { Over (Gathers (term_in sigmas cx.now.nest)) cx.now.stored variables.now total cx.now.level cx.now.scope at c minus row.old result row.new }
 {
-    let end = end_of(names, tokens, table, cx, at, c, sigmas);
+    let end = end_of(cx, at, c, sigmas)?;
     match end {
-        Ending::Variable(u, i, count, start, p, a) => variable(
-            names, tokens, table, variables, total, cx, a, u, minus, i, count, start, p, row,
+        Ending::Variable(u, name, p, next) => variable(
+            variables, total, cx, next, u, minus, name, p, row,
         ),
-        Ending::Sigma(u, p, a) => sigma(
-            names, tokens, table, variables, total, cx, a, u, minus, p, row,
-        ),
-        Ending::Refused(n, p) => Move::Refused(n, p),
+        Ending::Sigma(u, p, next) => sigma(variables, total, cx, next, u, minus, p, row),
     }
 }
 
 // A sigma behind its word, which stands at p.
 #[cycle(gathering)]
 fn sigma(
-    names: &[u64],
-    tokens: &[u64],
-    table: &[u64],
     variables: &[u64],
     total: usize,
-    cx: Context,
+    cx: &Context<'_>,
     at: usize,
     c: Value,
     minus: bool,
     p: u64,
     row: &mut [i64],
-) -> Move
-    ensures { Gathers (sigma_in cx.nest p) names.now tokens.now table.now cx.given variables.now total cx.level cx.scope at c minus row.old result row.new }
+) -> Result<usize, Refused>
+    ensures { Over (Gathers (sigma_in cx.now.nest p)) cx.now.stored variables.now total cx.now.level cx.now.scope at c minus row.old result row.new }
 {
-    let nest = cx.nest;
-    if nest == 0 {
-        return Move::Refused(rules::Refusal::Full, 0);
+    if cx.nest == 0 {
+        return refused!(Full, 0);
     }
-    let fewer = nest - 1;
-    let scope = cx.scope;
     let inner = Context {
-        given: cx.given,
-        level: cx.level,
-        nest: fewer,
-        scope,
+        nest: cx.nest - 1,
+        ..*cx
     };
-    let run = run_of(names, tokens, table, cx, at, p);
-    match run {
-        Running::Run(i, l, n, a) => runs(
-            names, tokens, table, variables, total, inner, a, c, minus, i, l, n, row,
-        ),
-        Running::Refused(m, q) => Move::Refused(m, q),
-    }
+    let run = run_of(cx, at, p)?;
+    runs(
+        variables, total, &inner, run.body, c, minus, run.index, run.limits, run.count, row,
+    )
 }
 
 // The run of a sigma behind its word, which stands at p. Its body stands behind the word: no walk goes back.
-fn run_of(names: &[u64], tokens: &[u64], table: &[u64], cx: Context, at: usize, p: u64) -> Running
-    ensures { RunningIs cx.nest p names.now tokens.now table.now cx.given cx.level cx.scope at result }
+fn run_of(cx: &Context<'_>, at: usize, p: u64) -> Result<Running, Refused>
+    ensures { Under (RunningIs cx.now.nest p) cx.now at result }
 {
-    let head = evaluator::steps::names::head(tokens, cx.level, at);
-    match head {
-        Headed::Index(i, a) => {
-            let both = evaluator::both_limits(names, tokens, table, cx, a);
-            match both {
-                Limited::Limits(l, b) => {
-                    let scope = cx.scope;
-                    let run = values::run(scope, l, i, p);
-                    match run {
-                        Runs::Count(n) => {
-                            if b <= at {
-                                return Running::Refused(rules::Refusal::Full, 0);
-                            }
-                            Running::Run(i, l, n, b)
-                        }
-                        Runs::Refused(m, q) => Running::Refused(m, q),
-                    }
-                }
-                Limited::Refused(m, q) => Running::Refused(m, q),
-            }
-        }
-        Headed::Refused(m, q) => Running::Refused(m, q),
+    let (index, a) = evaluator::steps::names::head(cx.stored.tokens, cx.level, at)?;
+    let (limits, body) = evaluator::both_limits(cx, a)?;
+    let count = values::run(cx.scope, limits, index, p)?;
+    if body <= at {
+        return refused!(Full, 0);
     }
+    Ok(Running {
+        index,
+        limits,
+        count,
+        body,
+    })
 }
 
 // A sigma's body, gathered for each of the n numbers of the run of index i.
 #[cycle(gathering)]
 fn runs(
-    names: &[u64],
-    tokens: &[u64],
-    table: &[u64],
     variables: &[u64],
     total: usize,
-    cx: Context,
+    cx: &Context<'_>,
     at: usize,
     c: Value,
     minus: bool,
@@ -429,59 +286,35 @@ fn runs(
     l: Limits,
     n: usize,
     row: &mut [i64],
-) -> Move
-    ensures { RunsAre cx.nest i names.now tokens.now table.now cx.given variables.now total cx.level cx.scope at c minus l n row.old result row.new }
+) -> Result<usize, Refused>
+    ensures { Over (RunsAre cx.now.nest i) cx.now.stored variables.now total cx.now.level cx.now.scope at c minus l n row.old result row.new }
 {
-    let end = passing::behind_bracket(tokens, at);
-    let scope = cx.scope;
-    let mut j = 0;
-    while j < n {
-        let inner = values::bind_nth(scope, i, l, j);
-        let bound = Context {
-            given: cx.given,
-            level: cx.level,
-            nest: cx.nest,
-            scope: inner,
+    for j in 0..n {
+        let inner = Context {
+            scope: values::bind_nth(cx.scope, i, l, j),
+            ..*cx
         };
-        let r = body(
-            names, tokens, table, variables, total, bound, at, c, minus, row,
-        );
-        let Move::At(a) = r else {
-            return r;
-        };
-        j += 1;
+        body(variables, total, &inner, at, c, minus, row)?;
     }
-    Move::At(end)
+    Ok(passing::behind_bracket(cx.stored.tokens, at))
 }
 
 // A sigma's body: another sigma, or a linear form without sigma.
 #[cycle(gathering)]
 fn body(
-    names: &[u64],
-    tokens: &[u64],
-    table: &[u64],
     variables: &[u64],
     total: usize,
-    cx: Context,
+    cx: &Context<'_>,
     at: usize,
     c: Value,
     minus: bool,
     row: &mut [i64],
-) -> Move
-    ensures { Gathers (body_in cx.nest) names.now tokens.now table.now cx.given variables.now total cx.level cx.scope at c minus row.old result row.new }
+) -> Result<usize, Refused>
+    ensures { Over (Gathers (body_in cx.now.nest)) cx.now.stored variables.now total cx.now.level cx.now.scope at c minus row.old result row.new }
 {
-    let token = tokens::token_at(tokens, at);
-    match token {
-        Seen::Token(k, p, x, next) => {
-            if k == marks::SIGMA as u64 {
-                return sigma(
-                    names, tokens, table, variables, total, cx, next, c, minus, p, row,
-                );
-            }
-            form(
-                names, tokens, table, variables, total, cx, at, c, minus, false, row,
-            )
-        }
-        Seen::Refused(n, p) => Move::Refused(n, p),
+    let token = tokens::token_at(cx.stored.tokens, at)?;
+    if token.kind == marks::SIGMA as u64 {
+        return sigma(variables, total, cx, token.next, c, minus, token.place, row);
     }
+    form(variables, total, cx, at, c, minus, false, row)
 }

@@ -1,4 +1,6 @@
 -- From what was generated to the answer, and from the answer to demand 3.
+use Rattle.std.specs.Prelude.{Err, Ok, Result}
+use Rattle.rules.specs.declared.Refused.{Refused}
 use mathlib.Core.Path.{◌≡◌, refl, sym, ◌∙◌, ap, subst}
 use mathlib.Core.List.{List}
 use Prim.Native.Nat.{ℕ, ◌<◌, ◌≤◌}
@@ -16,8 +18,6 @@ use Rattle.listing.proofs.Lines.{written-zeros}
 use Rattle.generator.specs.declared.Answer.{Answer}
 use Rattle.generator.specs.declared.Report.{Report}
 use Rattle.generator.specs.declared.Report.TheVariants as report
-use Rattle.generator.specs.declared.Generated.{Generated}
-use Rattle.generator.specs.declared.Generated.TheVariants as generated
 use Rattle.generator.specs.Contract.{Gives, Defined, Accepts, Meaning}
 use Rattle.generator.specs.Generated.{report_of, reported, Prints, Generates, Answers}
 
@@ -43,30 +43,30 @@ gives-refused n r p o e a i out' z = record { number = rw (e, i); place = rw (e,
 
 -- ---- the answer to what was generated
 
-module _ (out : List ℕ) (g : Generated) where
-  pub give-refused : (r : Refusal) (p : ℕ) → g ≡ generated.Refused r p → (a : Answer) → a ≡ record { number = refusal_number r; place = p; length = 0 }
+module _ (out : List ℕ) (g : Result ℕ Refused) where
+  pub give-refused : (e : Refused) → g ≡ Err e → (a : Answer) → a ≡ record { number = refusal_number e.refusal; place = e.place; length = 0 }
       → (out' : List ℕ) → out' ≡ replicate (length out) 0 → Answers out g a out'
-  give-refused r p e a i out' z = record { gives = λ n l o h. go n l o (subst (λ g. Prints o (replicate n 0) g out) e h) }
+  give-refused w e a i out' z = record { gives = λ n l o h. go n l o (subst (λ g. Prints o (replicate n 0) g out) e h) }
     where
-      go : (n : ℕ) → length out ≡ n → (o : Outcome (List ℕ)) → Prints o (replicate n 0) (generated.Refused r p) out → Gives n (o >>= fitted n) a out'
+      go : (n : ℕ) → length out ≡ n → (o : Outcome (List ℕ)) → Prints o (replicate n 0) (Err w) out → Gives n (o >>= fitted n) a out'
       go n l (done bytes) h = absurd h
-      go n l (refused r' q) h = gives-refused n r p (refused r' q) (ap (λ x. refused x q) h.0 ∙ ap (refused r) h.1) a i out' (z ∙ ap (λ n. replicate n 0) l)
+      go n l (refused r' q) h = gives-refused n w.refusal w.place (refused r' q) (ap (λ x. refused x q) h.0 ∙ ap (refused w.refusal) h.1) a i out' (z ∙ ap (λ n. replicate n 0) l)
 
-  pub give-long : (k : ℕ) → g ≡ generated.Printed k → length out < k → (a : Answer) → a ≡ record { number = refusal_number LongListing; place = k; length = 0 }
+  pub give-long : (k : ℕ) → g ≡ Ok k → length out < k → (a : Answer) → a ≡ record { number = refusal_number LongListing; place = k; length = 0 }
       → (out' : List ℕ) → out' ≡ replicate (length out) 0 → Answers out g a out'
   give-long k e f a i out' z = record { gives = λ n l o h. go n l o (subst (λ g. Prints o (replicate n 0) g out) e h) }
     where
-      go : (n : ℕ) → length out ≡ n → (o : Outcome (List ℕ)) → Prints o (replicate n 0) (generated.Printed k) out → Gives n (o >>= fitted n) a out'
+      go : (n : ℕ) → length out ≡ n → (o : Outcome (List ℕ)) → Prints o (replicate n 0) (Ok k) out → Gives n (o >>= fitted n) a out'
       go n l (done bytes) h =
           let size : length bytes ≡ k = omega (arith, h.next) in
           gives-refused n LongListing k (fitted n bytes) (fitted-no n bytes (omega (arith, f, size, l)) ∙ ap (refused LongListing) size) a i out' (z ∙ ap (λ n. replicate n 0) l)
       go n l (refused r' q) h = absurd h
 
-  pub give-printed : (k : ℕ) → g ≡ generated.Printed k → k ≤ length out → Answers out g (record { number = 0; place = 0; length = k }) out
+  pub give-printed : (k : ℕ) → g ≡ Ok k → k ≤ length out → Answers out g (record { number = 0; place = 0; length = k }) out
   unfolding respond
   give-printed k e f = record { gives = λ n l o h. go n l o (subst (λ g. Prints o (replicate n 0) g out) e h) }
     where
-      go : (n : ℕ) → length out ≡ n → (o : Outcome (List ℕ)) → Prints o (replicate n 0) (generated.Printed k) out → Gives n (o >>= fitted n) (record { number = 0; place = 0; length = k }) out
+      go : (n : ℕ) → length out ≡ n → (o : Outcome (List ℕ)) → Prints o (replicate n 0) (Ok k) out → Gives n (o >>= fitted n) (record { number = 0; place = 0; length = k }) out
       go n l (done bytes) h =
           let size : k ≡ length bytes = omega (arith, h.next) in
           let fits = fitted-yes n bytes (omega (arith, f, size, l)) in
@@ -83,7 +83,7 @@ printing-is k text n = go (accepted text)
     go (done a) = refl
     go (refused r p) = refl
 
-pub report-gives : (k : Report) (text out₀ out₁ : List ℕ) → out₁ ≡ replicate (length out₀) 0 → (g : Generated) (out₂ : List ℕ) → Generates k text out₁ g out₂ → length out₂ ≡ length out₁
+pub report-gives : (k : Report) (text out₀ out₁ : List ℕ) → out₁ ≡ replicate (length out₀) 0 → (g : Result ℕ Refused) (out₂ : List ℕ) → Generates k text out₁ g out₂ → length out₂ ≡ length out₁
     → (a : Answer) (out₃ : List ℕ) → Answers out₂ g a out₃ → Gives (length out₀) (printing (report_of k) text (length out₀)) a out₃
 report-gives k text out₀ out₁ z g out₂ h same a out₃ d =
     let n = length out₀ in

@@ -1,5 +1,6 @@
 -- The export: from the tables of a text to its bytes, and from an answer to what a reader finds in it; and the reader's answer.
-use Rattle.std.specs.Prelude.{Option, Some, None}
+use Rattle.std.specs.Prelude.{Err, Ok, Result, Option, Some, None}
+use Rattle.rules.specs.declared.Refused.{Refused}
 use mathlib.Core.Path.{◌≡◌, refl, sym, ◌∙◌, ap, subst}
 use mathlib.Core.Bool.{Bool, true, false}
 use mathlib.Core.List.{List, ◌++◌}
@@ -24,14 +25,10 @@ use Rattle.mps.specs.Problem.{sheet_of, export_of}
 use Rattle.mps.proofs.Problems.{discrete-first, sheet-formed, read-back-is}
 use Rattle.mps.proofs.Reread.{outcome_of, rereads}
 use Rattle.exporter.specs.Exports as exporter
-use Rattle.importer.specs.declared.Reading.{Reading}
-use Rattle.importer.specs.declared.Reading.TheVariants as reading
 use Rattle.importer.specs.Reads.{ReadsAs, Reads}
 use Rattle.generator.specs.declared.Answer.{Answer}
 use Rattle.generator.specs.declared.Report.{Report}
 use Rattle.generator.specs.declared.Report.TheVariants as report
-use Rattle.generator.specs.declared.Generated.{Generated}
-use Rattle.generator.specs.declared.Generated.TheVariants as generated
 use Rattle.generator.specs.Contract.{Gives, Exports, Carries, ReadsBack}
 use Rattle.generator.specs.Generated.{report_of, Prints, Writes, Rewrites, Answers}
 
@@ -83,22 +80,22 @@ module _ (text out : List ℕ) (a : Answer) (out' : List ℕ) (h : Gives (length
 
 -- ---- the reader's answer
 
-module _ (text out : List ℕ) (r : Reading) (out' : List ℕ) (h : Reads text out r out') where
-  pub reread-read : (n : ℕ) → r ≡ reading.Read n → Rewrites text out (generated.Printed n) out'
+module _ (text out : List ℕ) (r : Option ℕ) (out' : List ℕ) (h : Reads text out r out') where
+  pub reread-read : (n : ℕ) → r ≡ Some n → Rewrites text out (Ok n) out'
   reread-read n e = record { prints = go (sheet_in text) (subst (λ r. ReadsAs (sheet_in text) out r out') e h.is) }
     where
-      go : (o : Option Sheet) → ReadsAs o out (reading.Read n) out' → Prints (outcome_of o) out (generated.Printed n) out'
+      go : (o : Option Sheet) → ReadsAs o out (Some n) out' → Prints (outcome_of o) out (Ok n) out'
       go (Some s) w = w
       go None w = absurd w
 
-  pub reread-nothing : r ≡ reading.Nothing → Rewrites text out (generated.Refused Misplaced 0) out'
+  pub reread-nothing : r ≡ None → Rewrites text out (Err (record { refusal = Misplaced; place = 0 })) out'
   reread-nothing e = record { prints = go (sheet_in text) (subst (λ r. ReadsAs (sheet_in text) out r out') e h.is) }
     where
-      go : (o : Option Sheet) → ReadsAs o out reading.Nothing out' → Prints (outcome_of o) out (generated.Refused Misplaced 0) out'
+      go : (o : Option Sheet) → ReadsAs o out None out' → Prints (outcome_of o) out (Err (record { refusal = Misplaced; place = 0 })) out'
       go (Some s) w = absurd w
       go None w = (refl, refl)
 
-pub reads-back : (text out₀ out₁ : List ℕ) → out₁ ≡ replicate (length out₀) 0 → (g : Generated) (out₂ : List ℕ) → Rewrites text out₁ g out₂ → length out₂ ≡ length out₁
+pub reads-back : (text out₀ out₁ : List ℕ) → out₁ ≡ replicate (length out₀) 0 → (g : Result ℕ Refused) (out₂ : List ℕ) → Rewrites text out₁ g out₂ → length out₂ ≡ length out₁
     → (a : Answer) (out₃ : List ℕ) → Answers out₂ g a out₃ → ReadsBack text out₀ a out₃
 reads-back text out₀ out₁ z g out₂ h same a out₃ d =
     let n = length out₀ in

@@ -1,4 +1,6 @@
 -- From the tables of a text to its report.
+use Rattle.std.specs.Prelude.{Err, Ok, Result}
+use Rattle.rules.specs.declared.Refused.{Refused}
 use mathlib.Core.Path.{◌≡◌, refl, sym, ◌∙◌, ap, subst, subst₂}
 use mathlib.Core.Bool.{Bool, true, false, cond}
 use mathlib.Core.List.{List}
@@ -28,20 +30,15 @@ use Rattle.listing.proofs.Lines.{lines-shown}
 use Rattle.problem.specs.Variables.Order.{InOrder}
 use Rattle.problem.proofs.variables.Order.{declarations-order}
 use Rattle.model.specs.declared.Model.{Model as Tables}
-use Rattle.model.specs.declared.End.TheVariants as end
 use Rattle.model.specs.ReadAs.{ModelAt, ReadAs}
 use Rattle.model.proofs.Declared.{model-declares}
 use Rattle.model.proofs.Worlds.{text-refused, text-read, model-holds, holds-start}
-use Rattle.rows.specs.declared.Filled.{Filled}
 use Rattle.problem.specs.declared.Problem.{Problem}
-use Rattle.problem.specs.declared.Problem.TheVariants as problem
 use Rattle.problem.specs.Problem.{Poses, Generating, GeneratesAs}
 use Rattle.rows.specs.declared.Sizes.{Sizes}
 use Rattle.listing.specs.Sheet.Shown.{Shown}
 use Rattle.listing.specs.Sheet.Shown as sheet
 use Rattle.listing.proofs.sheet.Texts.{visible-inside}
-use Rattle.generator.specs.declared.Generated.{Generated}
-use Rattle.generator.specs.declared.Generated.TheVariants as generated
 use Rattle.generator.specs.declared.Report.{Report}
 use Rattle.generator.specs.declared.Report.TheVariants as report
 use Rattle.generator.specs.Generated.{reported, Prints, behind_brace, Writes, PrintsModel, PrintsIn, Generates}
@@ -133,28 +130,28 @@ module _ (s ts ns cs ds : List ℕ) (r : Tables) (few : r.constraints ≤ 64) (b
       }
 
   module _ (k : Report) (xs t bs' : List ℕ) (c : List ℤ) (out out' : List ℕ) where
-    made-refused : (n : Refusal) (q : ℕ) → GeneratesAs (rows_of r.names ns) ts ds r.given r.objective r.minimize cs r.constraints bs (problem.Refused n q) xs t bs' c
-        → Prints (reported k (accepted s)) out (generated.Refused n q) out'
-    made-refused n q g = go (generate m) refl (g.is _ m poses)
+    made-refused : (e : Refused) → GeneratesAs (rows_of r.names ns) ts ds r.given r.objective r.minimize cs r.constraints bs (Err e) xs t bs' c
+        → Prints (reported k (accepted s)) out (Err e) out'
+    made-refused z g = go (generate m) refl (g.is _ m poses)
       where
-        go : (o : Outcome Lp) → generate m ≡ o → Generating o m.structure.constraints (problem.Refused n q) xs t bs' c → Prints (reported k (accepted s)) out (generated.Refused n q) out'
+        go : (o : Outcome Lp) → generate m ≡ o → Generating o m.structure.constraints (Err z) xs t bs' c → Prints (reported k (accepted s)) out (Err z) out'
         go (done p) i w = absurd w
-        go (refused n' q') i w = subst (λ o. Prints (reported k o) out (generated.Refused n q) out') (sym (problem-refused s m reads n' q' i)) w
+        go (refused n' q') i w = subst (λ o. Prints (reported k o) out (Err z) out') (sym (problem-refused s m reads n' q' i)) w
 
-    made-printed : (a n : ℕ) (f : Filled) → GeneratesAs (rows_of r.names ns) ts ds r.given r.objective r.minimize cs r.constraints bs (problem.Of a n f) xs t bs' c → (size : ℕ)
-        → Writes k s (rows_of r.names ns) ts (rows_of r.constraints cs) xs t bs' c (record { discrete = a; variables = n; less = f.less; equal = f.equal }) r.title (behind_brace r.section) r.bytes out size out'
-        → Prints (reported k (accepted s)) out (generated.Printed size) out'
+    made-printed : (w : Problem) → GeneratesAs (rows_of r.names ns) ts ds r.given r.objective r.minimize cs r.constraints bs (Ok w) xs t bs' c → (size : ℕ)
+        → Writes k s (rows_of r.names ns) ts (rows_of r.constraints cs) xs t bs' c (record { discrete = w.discrete; variables = w.total; less = w.filled.less; equal = w.filled.equal }) r.title (behind_brace r.section) r.bytes out size out'
+        → Prints (reported k (accepted s)) out (Ok size) out'
     unfolding lines_of
-    made-printed a n f g size l = go (generate m) refl (g.is _ m poses)
+    made-printed z g size l = go (generate m) refl (g.is _ m poses)
       where
-        go : (o : Outcome Lp) → generate m ≡ o → Generating o m.structure.constraints (problem.Of a n f) xs t bs' c → Prints (reported k (accepted s)) out (generated.Printed size) out'
+        go : (o : Outcome Lp) → generate m ≡ o → Generating o m.structure.constraints (Ok z) xs t bs' c → Prints (reported k (accepted s)) out (Ok size) out'
         go (refused n' q') i w = absurd w
         go (done p) i w =
             let acc = problem-accepted s m reads p i in
             let proper : All Proper.Proper (lines_of m p) = accepted-proper s (record { model = m; problem = p }) acc in
             let short = read_short s m reads in
             let titled : Proper.Text m.given.title = proper.0.data-title in
-            let shown : Shown s (rows_of r.names ns) ts (rows_of r.constraints cs) xs t bs' c (record { discrete = a; variables = n; less = f.less; equal = f.equal }) r.title (behind_brace r.section) r.bytes m p =
+            let shown : Shown s (rows_of r.names ns) ts (rows_of r.constraints cs) xs t bs' c (record { discrete = z.discrete; variables = z.total; less = z.filled.less; equal = z.filled.equal }) r.title (behind_brace r.section) r.bytes m p =
             record {
               short = short;
               title_place = h.structure.place;
@@ -172,32 +169,32 @@ module _ (s ts ns cs ds : List ℕ) (r : Tables) (few : r.constraints ≤ 64) (b
               bounds = w.bounds;
               proper = proper;
             } in
-            subst (λ o. Prints (reported k o) out (generated.Printed size) out') (sym acc) (l.report m p i shown)
+            subst (λ o. Prints (reported k o) out (Ok size) out') (sym acc) (l.report m p i shown)
 
 -- the same, of the rows of the names alone
-module _ (k : Report) (s ns ts cs ds : List ℕ) (r : Tables) (few : r.constraints ≤ 64) (bs : List ℕ) (x : Problem) (xs t bs' : List ℕ) (c : List ℤ) (g : GeneratesAs ns ts ds r.given r.objective r.minimize cs r.constraints bs x xs t bs' c) (out out' : List ℕ) where
-  generates-as : (y : Problem) → x ≡ y → (t₀ : List ℕ) → ns ≡ rows_of r.names t₀
+module _ (k : Report) (s ns ts cs ds : List ℕ) (r : Tables) (few : r.constraints ≤ 64) (bs : List ℕ) (x : Result Problem Refused) (xs t bs' : List ℕ) (c : List ℤ) (g : GeneratesAs ns ts ds r.given r.objective r.minimize cs r.constraints bs x xs t bs' c) (out out' : List ℕ) where
+  generates-as : (y : Result Problem Refused) → x ≡ y → (t₀ : List ℕ) → ns ≡ rows_of r.names t₀
       → GeneratesAs (rows_of r.names t₀) ts ds r.given r.objective r.minimize cs r.constraints bs y xs t bs' c
   generates-as y e t₀ i = subst₂ (λ l y. GeneratesAs l ts ds r.given r.objective r.minimize cs r.constraints bs y xs t bs' c) i e g
 
-  pub print-refused : (n : Refusal) (q : ℕ) → x ≡ problem.Refused n q → PrintsIn k s ns ts cs ds r bs out (generated.Refused n q) out'
-  print-refused n q e = record { prints = λ unstated. record { prints = λ m reads t₀ i h. made-refused s ts t₀ cs ds r few bs unstated m reads h k xs t bs' c out out' n q (generates-as (problem.Refused n q) e t₀ i) } }
+  pub print-refused : (e : Refused) → x ≡ Err e → PrintsIn k s ns ts cs ds r bs out (Err e) out'
+  print-refused z e = record { prints = λ unstated. record { prints = λ m reads t₀ i h. made-refused s ts t₀ cs ds r few bs unstated m reads h k xs t bs' c out out' z (generates-as (Err z) e t₀ i) } }
 
-  pub print-done : (a n : ℕ) (f : Filled) → x ≡ problem.Of a n f → (size : ℕ)
-      → Writes k s ns ts (rows_of r.constraints cs) xs t bs' c (record { discrete = a; variables = n; less = f.less; equal = f.equal }) r.title (behind_brace r.section) r.bytes out size out'
-      → PrintsIn k s ns ts cs ds r bs out (generated.Printed size) out'
-  print-done a n f e size l = record {
+  pub print-done : (w : Problem) → x ≡ Ok w → (size : ℕ)
+      → Writes k s ns ts (rows_of r.constraints cs) xs t bs' c (record { discrete = w.discrete; variables = w.total; less = w.filled.less; equal = w.filled.equal }) r.title (behind_brace r.section) r.bytes out size out'
+      → PrintsIn k s ns ts cs ds r bs out (Ok size) out'
+  print-done w e size l = record {
     prints = λ unstated. record {
-      prints = λ m reads t₀ i h. made-printed s ts t₀ cs ds r few bs unstated m reads h k xs t bs' c out out' a n f (generates-as (problem.Of a n f) e t₀ i) size
-          (subst (λ z. Writes k s z ts (rows_of r.constraints cs) xs t bs' c (record { discrete = a; variables = n; less = f.less; equal = f.equal }) r.title (behind_brace r.section) r.bytes out size out') i l);
+      prints = λ m reads t₀ i h. made-printed s ts t₀ cs ds r few bs unstated m reads h k xs t bs' c out out' w (generates-as (Ok w) e t₀ i) size
+          (subst (λ z. Writes k s z ts (rows_of r.constraints cs) xs t bs' c (record { discrete = w.discrete; variables = w.total; less = w.filled.less; equal = w.filled.equal }) r.title (behind_brace r.section) r.bytes out size out') i l);
     };
   }
 
 -- ---- the report of a text
 
-module _ (k : Report) (s : List ℕ) (r : Tables) (ts ns cs ds : List ℕ) (h : ReadAs s r ts ns cs ds) (out : List ℕ) where
-  pub text-unread : (n : Refusal) (q : ℕ) → r.end ≡ end.Refused n q → (out' : List ℕ) → Generates k s out (generated.Refused n q) out'
-  text-unread n q e out' = record { prints = subst (λ o. Prints (reported k o) out (generated.Refused n q) out') (sym (accepted-refused s n q (text-refused s r ts ns cs ds h n q e))) (refl, refl) }
+module _ (k : Report) (s : List ℕ) (r : Result Tables Refused) (ts ns cs ds : List ℕ) (h : ReadAs s r ts ns cs ds) (out : List ℕ) where
+  pub text-unread : (e : Refused) → r ≡ Err e → (out' : List ℕ) → Generates k s out (Err e) out'
+  text-unread z e out' = record { prints = subst (λ o. Prints (reported k o) out (Err z) out') (sym (accepted-refused s z.refusal z.place (text-refused s r ts ns cs ds h z e))) (refl, refl) }
 
-  pub text-printed : r.end ≡ end.Read → (g : Generated) (out' : List ℕ) → PrintsModel k s (rows_of r.names ns) (take r.tokens ts) cs ds r out g out' → Generates k s out g out'
-  text-printed e g out' l = let a = text-read s r ts ns cs ds h e in record { prints = l.prints a.model a.reads ns refl a.tells }
+  pub text-printed : (x : Tables) → r ≡ Ok x → (g : Result ℕ Refused) (out' : List ℕ) → PrintsModel k s (rows_of x.names ns) (take x.tokens ts) cs ds x out g out' → Generates k s out g out'
+  text-printed x e g out' l = let a = text-read s r ts ns cs ds h x e in record { prints = l.prints a.model a.reads ns refl a.tells }

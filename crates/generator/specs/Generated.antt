@@ -1,5 +1,6 @@
 -- What is generated from a text, before it is known whether it fits.
-use Rattle.std.specs.Prelude.{◌≡◌, cond, List, ℕ, ◌+◌, ltb, length, replicate, ℤ}
+use Rattle.std.specs.Prelude.{Err, Ok, Result, ◌≡◌, cond, List, ℕ, ◌+◌, ltb, length, replicate, ℤ}
+use Rattle.rules.specs.declared.Refused.{Refused}
 use Rattle.rules.specs.Limits.{byte_limit}
 use Rattle.value.specs.Printed.{Written}
 use Rattle.language.specs.Outcome.{Outcome, done, refused, ◌>>=◌}
@@ -18,8 +19,6 @@ use Rattle.generator.specs.declared.Answer.{Answer}
 use Rattle.generator.specs.declared.Report.{Report}
 use Rattle.generator.specs.declared.Report.TheVariants.{Listing, Export}
 use Rattle.generator.specs.Contract.{Gives}
-use Rattle.generator.specs.declared.Generated.{Generated}
-use Rattle.generator.specs.declared.Generated.TheVariants as generated
 
 -- what a report prints of an accepted text
 abbrev pub report_of : Report → Accepted → List ℕ
@@ -31,11 +30,11 @@ reported k (done a) = done (report_of k a)
 reported k (refused r p) = refused r p
 
 -- the same refusal, or the bytes were written, as far as the output reaches
-abbrev pub Prints : Outcome (List ℕ) → List ℕ → Generated → List ℕ → Type 0
-Prints (done bytes) out (generated.Printed n) out' = Written out 0 bytes n out'
-Prints (done bytes) out (generated.Refused r p) out' = ⊥
-Prints (refused r q) out (generated.Printed n) out' = ⊥
-Prints (refused r q) out (generated.Refused r' p) out' = (r ≡ r') × (q ≡ p)
+abbrev pub Prints : Outcome (List ℕ) → List ℕ → Result ℕ Refused → List ℕ → Type 0
+Prints (done bytes) out (Ok n) out' = Written out 0 bytes n out'
+Prints (done bytes) out (Err e) out' = ⊥
+Prints (refused r q) out (Ok n) out' = ⊥
+Prints (refused r q) out (Err e) out' = (r ≡ e.refusal) × (q ≡ e.place)
 
 -- the report of a problem, from its tables, of every model and problem that the tables are of
 pub record Writes (k : Report) (s ns ts cs vs rows bs : List ℕ) (m : List ℤ) (sizes : Sizes) (at place bytes : ℕ) (out : List ℕ) (r : ℕ) (out' : List ℕ) : Type 0 where
@@ -46,23 +45,23 @@ unfoldable pub behind_brace : ℕ → ℕ
 behind_brace p = cond (ltb p byte_limit) (p + 1) 0
 
 -- of a text that was read into tables; ns are the rows of its names
-pub record PrintsModel (k : Report) (s ns ts cs ds : List ℕ) (r : Read) (out : List ℕ) (g : Generated) (out' : List ℕ) : Type 0 where
+pub record PrintsModel (k : Report) (s ns ts cs ds : List ℕ) (r : Read) (out : List ℕ) (g : Result ℕ Refused) (out' : List ℕ) : Type 0 where
   pub prints : (m : Model) → read_model s ≡ done m → (t : List ℕ) → ns ≡ rows_of r.names t → ModelAt s ts t cs ds r m → Prints (reported k (accepted s)) out g out'
 
 -- with tables for its problem, in which no bound is stated
-pub record PrintsIn (k : Report) (s ns ts cs ds : List ℕ) (r : Read) (bs out : List ℕ) (g : Generated) (out' : List ℕ) : Type 0 where
+pub record PrintsIn (k : Report) (s ns ts cs ds : List ℕ) (r : Read) (bs out : List ℕ) (g : Result ℕ Refused) (out' : List ℕ) : Type 0 where
   pub prints : bs ≡ replicate 1024 0 → PrintsModel k s ns ts cs ds r out g out'
 
 -- of every text
-pub record Generates (k : Report) (text out : List ℕ) (g : Generated) (out' : List ℕ) : Type 0 where
+pub record Generates (k : Report) (text out : List ℕ) (g : Result ℕ Refused) (out' : List ℕ) : Type 0 where
   pub prints : Prints (reported k (accepted text)) out g out'
 
 -- ---- the answer
 
 -- what was generated in a buffer of n zeros is answered: the bytes if they fit, else 11 at their length; or the refusal
-pub record Answers (out : List ℕ) (g : Generated) (a : Answer) (out' : List ℕ) : Type 0 where
+pub record Answers (out : List ℕ) (g : Result ℕ Refused) (a : Answer) (out' : List ℕ) : Type 0 where
   pub gives : (n : ℕ) → length out ≡ n → (o : Outcome (List ℕ)) → Prints o (replicate n 0) g out → Gives n (o >>= fitted n) a out'
 
 -- what is read of an export, as far as the output reaches
-pub record Rewrites (text out : List ℕ) (g : Generated) (out' : List ℕ) : Type 0 where
+pub record Rewrites (text out : List ℕ) (g : Result ℕ Refused) (out' : List ℕ) : Type 0 where
   pub prints : Prints (outcome_of (sheet_in text)) out g out'

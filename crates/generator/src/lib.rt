@@ -5,13 +5,15 @@ ghost use Rattle.std.specs.Prelude.{◌≡◌, ◌≤◌, length, take, replicat
 ghost use Rattle.rules.specs.Refusals.{refusal_number};
 ghost use Rattle.language.specs.Answer.{printing};
 ghost use Rattle.tokens.specs.Stored.{rows_of};
+ghost use Rattle.tokens.specs.Text.{In};
 ghost use Rattle.generator.specs.Contract.{Gives, Defined, Accepts, Meaning, Exports, Carries, ReadsBack, Calls};
 ghost use Rattle.generator.specs.Generated.{behind_brace, report_of, Writes, PrintsModel, PrintsIn, Generates, Rewrites, Answers};
 
-use importer::Reading;
-use model::{End, Model};
-use problem::Problem;
+use evaluator::Stored;
+use model::Model;
 use rows::Sizes;
+use rules::{Refused, refused};
+use tokens::Text;
 
 // Number 0, place 0 and the report's length; or a refusal's number and place, and length 0.
 #[repr(C)]
@@ -37,13 +39,6 @@ enum Report {
     Export,
 }
 
-// The report's length, whether or not the output reaches that far; or a refusal and its place.
-#[derive(Clone, Copy)]
-enum Generated {
-    Printed(usize),
-    Refused(rules::Refusal, u64),
-}
-
 // The byte behind the opening brace of a string; 0 past the end of every text.
 fn behind_brace(p: u64) -> u64
     ensures { result ≡ behind_brace p }
@@ -56,9 +51,7 @@ fn behind_brace(p: u64) -> u64
 
 // The report of a problem, of the first rows of the table of constraints.
 fn write(
-    text: &[u8],
-    names: &[u64],
-    tokens: &[u64],
+    text: Text<'_>,
     constraints: &[u64],
     variables: &[u64; 2048],
     slots: &[u64; 4104],
@@ -70,15 +63,13 @@ fn write(
     out: &mut [u8],
 ) -> usize
     requires { (model.constraints ≤ 64) × (320 ≤ length constraints.now) }
-    ensures { Writes kind text.now names.now tokens.now (rows_of model.constraints constraints.now) variables.now slots.now bounds.now counts.now sizes model.title (behind_brace model.section) model.bytes out.old result out.new }
+    ensures { In (Writes kind) text.entry (rows_of model.constraints constraints.now) variables.now slots.now bounds.now counts.now sizes model.title (behind_brace model.section) model.bytes out.old result out.new }
 {
     match kind {
         Report::Listing => {
             let c = model.constraints * 5;
             listing::sheet::write(
                 text,
-                names,
-                tokens,
                 &constraints[..c],
                 variables,
                 slots,
@@ -98,9 +89,7 @@ fn write(
 // The report of a model that was read into tables, with tables for its problem: no bound is stated in them. `names` are the rows of
 // its names, `tokens` its tokens.
 fn list_in(
-    text: &[u8],
-    names: &[u64],
-    tokens: &[u64],
+    text: Text<'_>,
     constraints: &[u64; 320],
     store: &[u64],
     model: Model,
@@ -110,15 +99,18 @@ fn list_in(
     counts: &mut [i64; 263168],
     kind: Report,
     out: &mut [u8],
-) -> Generated
+) -> Result<usize, Refused>
     requires { model.constraints ≤ 64 }
-    ensures { PrintsIn kind text.now names.now tokens.now constraints.now store.now model bounds.old out.old result out.new }
+    ensures { In (PrintsIn kind) text.entry constraints.now store.now model bounds.old out.old result out.new }
 {
-    let made = problem::generate(
-        names,
-        tokens,
-        store,
-        model.given,
+    let stored = Stored {
+        names: text.names,
+        tokens: text.tokens,
+        table: store,
+        given: model.given,
+    };
+    let problem = problem::generate(
+        stored,
         model.objective as usize,
         model.minimize,
         constraints,
@@ -127,47 +119,38 @@ fn list_in(
         slots,
         bounds,
         counts,
-    );
-    match made {
-        Problem::Of(discrete, total, f) => {
-            let sizes = Sizes {
-                discrete,
-                variables: total,
-                less: f.less,
-                equal: f.equal,
-            };
-            Generated::Printed(write(
-                text,
-                names,
-                tokens,
-                constraints,
-                variables,
-                slots,
-                bounds,
-                counts,
-                model,
-                sizes,
-                kind,
-                out,
-            ))
-        }
-        Problem::Refused(n, p) => Generated::Refused(n, p),
-    }
+    )?;
+    let sizes = Sizes {
+        discrete: problem.discrete,
+        variables: problem.total,
+        less: problem.filled.less,
+        equal: problem.filled.equal,
+    };
+    Ok(write(
+        text,
+        constraints,
+        variables,
+        slots,
+        bounds,
+        counts,
+        model,
+        sizes,
+        kind,
+        out,
+    ))
 }
 
 // The report of a model that was read into tables.
 fn list(
-    text: &[u8],
-    names: &[u64],
-    tokens: &[u64],
+    text: Text<'_>,
     constraints: &[u64; 320],
     store: &[u64],
     model: Model,
     kind: Report,
     out: &mut [u8],
-) -> Generated
+) -> Result<usize, Refused>
     requires { model.constraints ≤ 64 }
-    ensures { PrintsModel kind text.now names.now tokens.now constraints.now store.now model out.old result out.new }
+    ensures { In (PrintsModel kind) text.entry constraints.now store.now model out.old result out.new }
 {
     let mut variables = [0u64; 2048];
     let mut slots = [0u64; 4104];
@@ -175,8 +158,6 @@ fn list(
     let mut counts = [0i64; 263168];
     list_in(
         text,
-        names,
-        tokens,
         constraints,
         store,
         model,
@@ -191,30 +172,24 @@ fn list(
 
 // The same, of all rows and tokens of the tables.
 fn part(
-    text: &[u8],
-    names: &[u64],
-    tokens: &[u64],
+    text: Text<'_>,
     constraints: &[u64; 320],
     store: &[u64; 8192],
     model: Model,
     kind: Report,
     out: &mut [u8],
-) -> Generated
-    requires { (model.tokens ≤ length tokens.now) × (model.names ≤ 64) × (320 ≤ length names.now) × (model.constraints ≤ 64) }
-    ensures { PrintsModel kind text.now (rows_of model.names names.now) (take model.tokens tokens.now) constraints.now store.now model out.old result out.new }
+) -> Result<usize, Refused>
+    requires { (model.tokens ≤ length text.tokens.now) × (model.names ≤ 64) × (320 ≤ length text.names.now) × (model.constraints ≤ 64) }
+    ensures { PrintsModel kind text.entry.bytes.now (rows_of model.names text.entry.names.now) (take model.tokens text.entry.tokens.now) constraints.now store.now model out.old result out.new }
 {
     let k = model.names * 5;
     let n = model.tokens;
-    list(
-        text,
-        &names[..k],
-        &tokens[..n],
-        constraints,
-        store,
-        model,
-        kind,
-        out,
-    )
+    let filled = Text {
+        bytes: text.bytes,
+        names: &text.names[..k],
+        tokens: &text.tokens[..n],
+    };
+    list(filled, constraints, store, model, kind, out)
 }
 
 // The report of a text, as far as the output reaches, with tables to read it into.
@@ -226,19 +201,20 @@ fn generate_in(
     store: &mut [u64; 8192],
     kind: Report,
     out: &mut [u8],
-) -> Generated
+) -> Result<usize, Refused>
     ensures { Generates kind text.now out.old result out.new }
 {
-    let model = model::read(text, tokens, names, constraints, store);
-    let end = model.end;
-    match end {
-        End::Read => part(text, names, tokens, constraints, store, model, kind, out),
-        End::Refused(n, p) => Generated::Refused(n, p),
-    }
+    let model = model::read(text, tokens, names, constraints, store)?;
+    let read = Text {
+        bytes: text,
+        names,
+        tokens,
+    };
+    part(read, constraints, store, model, kind, out)
 }
 
 // The report of a text, as far as the output reaches.
-fn generate(text: &[u8], kind: Report, out: &mut [u8]) -> Generated
+fn generate(text: &[u8], kind: Report, out: &mut [u8]) -> Result<usize, Refused>
     ensures { Generates kind text.now out.old result out.new }
 {
     let mut tokens = [0u64; 16385];
@@ -257,14 +233,13 @@ fn generate(text: &[u8], kind: Report, out: &mut [u8]) -> Generated
 }
 
 // What an export says, as far as the output reaches; what is no export is refused.
-fn reread(text: &[u8], out: &mut [u8]) -> Generated
+fn reread(text: &[u8], out: &mut [u8]) -> Result<usize, Refused>
     ensures { Rewrites text.now out.old result out.new }
 {
-    let reading = importer::read(text, out);
-    match reading {
-        Reading::Read(n) => Generated::Printed(n),
-        Reading::Nothing => Generated::Refused(rules::Refusal::Misplaced, 0),
-    }
+    let Some(length) = importer::read(text, out) else {
+        return refused!(Misplaced, 0);
+    };
+    Ok(length)
 }
 
 // A refusal: every output byte is zero.
@@ -281,11 +256,11 @@ fn refuse(out: &mut [u8], r: rules::Refusal, p: usize) -> Answer
 }
 
 // The answer, of what was generated in an output of zeros.
-fn give(out: &mut [u8], generated: Generated) -> Answer
+fn give(out: &mut [u8], generated: Result<usize, Refused>) -> Answer
     ensures { Answers out.old generated result out.new }
 {
     match generated {
-        Generated::Printed(n) => {
+        Ok(n) => {
             if out.len() < n {
                 return refuse(out, rules::Refusal::LongListing, n);
             }
@@ -295,7 +270,7 @@ fn give(out: &mut [u8], generated: Generated) -> Answer
                 length: n,
             }
         }
-        Generated::Refused(r, p) => refuse(out, r, p as usize),
+        Err(e) => refuse(out, e.refusal, e.place as usize),
     }
 }
 

@@ -21,12 +21,6 @@ use Rattle.mps.specs.Sheet.{Column}
 use Rattle.mps.specs.Export.{named, cell_head, floor_cell_head, objective_head, value_line}
 use Rattle.mps.specs.Report.{bare_line, bare_lines, cells_from, column_of}
 use Rattle.mps.specs.Reading.{Read, Reader, follow, ◌>>=◌, give, unless, strip, as_read, expect, read_value, line_value, first_has, later_have, repeated, cell_by, read_cells, read_column}
-use Rattle.importer.specs.declared.Move.{Move}
-use Rattle.importer.specs.declared.Move.TheVariants as move
-use Rattle.importer.specs.declared.Found.{Found}
-use Rattle.importer.specs.declared.Found.TheVariants as found
-use Rattle.importer.specs.declared.Step.{Step}
-use Rattle.importer.specs.declared.Step.TheVariants.{To, Nothing}
 use Rattle.importer.specs.Sections.{read_each, bytes_each, head_of, again_line, cell_or, cell_at, cell_bytes, column_bytes}
 use Rattle.importer.specs.Steps.{rest_of, Strips, read_of, Finds, Walked, Walks}
 use Rattle.importer.proofs.Stripping.{then-none, then_some}
@@ -36,65 +30,65 @@ use Rattle.importer.proofs.Lines.{column-bare, cell-written}
 -- ---- a coefficient's line again, in the floor
 
 module _ (bs : List Bool) (j i : ℕ) (v : Value) (text : List ℕ) (at : ℕ) (q : Bool) (g : q ≡ get_or bs i false) where
-  pub again-none : not q ≡ true → at ≤ length text → Strips (again_line bs j i v) text at (move.At at)
+  pub again-none : not q ≡ true → at ≤ length text → Strips (again_line bs j i v) text at (Some at)
   unfolding again_line strip
   again-none f h = record { is = rw (← g, not-true q f); inside = h }
 
-  module _ (f : not q ≡ false) (ok : Valid v) (m : Move) (s : Strips (head_of (j + 1) (bytes " F") (i + 1)) text at m) where
+  module _ (f : not q ≡ false) (ok : Valid v) (m : Option ℕ) (s : Strips (head_of (j + 1) (bytes " F") (i + 1)) text at m) where
     line-is : head_of (j + 1) (bytes " F") (i + 1) ++ (shown v ++ (line_feed ∷ [])) ≡ again_line bs j i v
     unfolding again_line head_of floor_cell_head value_line
     line-is = rw (← g, not-false q f, shown-valid v ok, add-one j, add-one i)
 
-    pub again-head : m ≡ move.Nothing → Strips (again_line bs j i v) text at move.Nothing
+    pub again-head : m ≡ None → Strips (again_line bs j i v) text at None
     again-head e = rw line-is at (then-none s (shown v ++ (line_feed ∷ [])) e)
 
-    module _ (n : ℕ) (e : m ≡ move.At n) (k : Move) (t : Strips (shown v) text n k) where
-      pub again-other : k ≡ move.Nothing → Strips (again_line bs j i v) text at move.Nothing
+    module _ (n : ℕ) (e : m ≡ Some n) (k : Option ℕ) (t : Strips (shown v) text n k) where
+      pub again-other : k ≡ None → Strips (again_line bs j i v) text at None
       again-other z = rw line-is at (then_some s (shown v ++ (line_feed ∷ [])) e (then-none t (line_feed ∷ []) z))
 
-      pub again-all : (x : ℕ) (r : Move) → k ≡ move.At x → Strips (line_feed ∷ []) text x r → Strips (again_line bs j i v) text at r
+      pub again-all : (x : ℕ) (r : Option ℕ) → k ≡ Some x → Strips (line_feed ∷ []) text x r → Strips (again_line bs j i v) text at r
       again-all x r z u = rw line-is at (then_some s (shown v ++ (line_feed ∷ [])) e (then_some t (line_feed ∷ []) z u))
 
 -- ---- one coefficient
 
-module _ (bs : List Bool) (j i : ℕ) (text : List ℕ) (at : ℕ) (m : Move) (s : Strips (head_of (j + 1) (bytes " R") (i + 1)) text at m) where
+module _ (bs : List Bool) (j i : ℕ) (text : List ℕ) (at : ℕ) (m : Option ℕ) (s : Strips (head_of (j + 1) (bytes " R") (i + 1)) text at m) where
   head : strip (cell_head (suc j) (suc i)) (drop at text) ≡ rest_of text m
   unfolding head_of cell_head
   head = rw (add-one j, add-one i) at s.is
 
-  pub cell-blank : (z : Value) → m ≡ move.Nothing → z ≡ of_whole (pos 0) → at ≤ length text → Finds (cell_at bs j i) text at (found.Value z at)
+  pub cell-blank : (z : Value) → m ≡ None → z ≡ of_whole (pos 0) → at ≤ length text → Finds (cell_at bs j i) text at (Some (z, at))
   unfolding cell_at cell_or of_whole
   cell-blank z e f h = record { is = rw (head, e, f); inside = (rw f zero-valid, h) }
 
-  module _ (n : ℕ) (e : m ≡ move.At n) (r : Found) (d : Finds read_value text n r) where
-    pub cell-unread : r ≡ found.Nothing → Finds (cell_at bs j i) text at found.Nothing
+  module _ (n : ℕ) (e : m ≡ Some n) (r : Option (Value × ℕ)) (d : Finds read_value text n r) where
+    pub cell-unread : r ≡ None → Finds (cell_at bs j i) text at None
     unfolding cell_at cell_or
     cell-unread f = record { is = rw (head, e, d.is, f); inside = tt }
 
-    module _ (v : Value) (x : ℕ) (f : r ≡ found.Value v x) (z : Bool) (g : z ≡ is_zero v) where
-      pub cell-zero : z ≡ true → Finds (cell_at bs j i) text at found.Nothing
+    module _ (v : Value) (x : ℕ) (f : r ≡ Some (v, x)) (z : Bool) (g : z ≡ is_zero v) where
+      pub cell-zero : z ≡ true → Finds (cell_at bs j i) text at None
       unfolding cell_at cell_or
       cell-zero k = record { is = rw (head, e, d.is, f, ← g, k); inside = tt }
 
-      module _ (k : z ≡ false) (a : Move) (t : Strips (again_line bs j i v) text x a) where
-        pub cell_other : a ≡ move.Nothing → Finds (cell_at bs j i) text at found.Nothing
+      module _ (k : z ≡ false) (a : Option ℕ) (t : Strips (again_line bs j i v) text x a) where
+        pub cell_other : a ≡ None → Finds (cell_at bs j i) text at None
         unfolding cell_at cell_or
         cell_other y = record { is = rw (head, e, d.is, f, ← g, k, t.is, y); inside = tt }
 
-        pub cell-found : (y : ℕ) → a ≡ move.At y → Finds (cell_at bs j i) text at (found.Value v y)
+        pub cell-found : (y : ℕ) → a ≡ Some y → Finds (cell_at bs j i) text at (Some (v, y))
         unfolding cell_at cell_or
         cell-found y u = record { is = rw (head, e, d.is, f, ← g, k, t.is, u); inside = ((rw f at d.inside).0, rw u at t.inside) }
 
 -- ---- the coefficients of a variable
 
-module _ (bs : List Bool) (n j : ℕ) (text : List ℕ) (at : ℕ) (out : List ℕ) (place i next : ℕ) (o : List ℕ) (p : ℕ) (h : Each (cell_at bs j) (cell_bytes j) n text at out place i next o p) (b : i < n) (r : Found) (d : Finds (cell_at bs j i) text next r) where
-  pub cells-more : (v : Value) (x p' : ℕ) (o' : List ℕ) → n ≤ 512 → j < 512 → r ≡ found.Value v x → Written o p (shown_lines (cond (is_zero v) [] (col_line (j + 1) (i + 1) v ∷ []))) p' o' → p' ≤ p + 128
+module _ (bs : List Bool) (n j : ℕ) (text : List ℕ) (at : ℕ) (out : List ℕ) (place i next : ℕ) (o : List ℕ) (p : ℕ) (h : Each (cell_at bs j) (cell_bytes j) n text at out place i next o p) (b : i < n) (r : Option (Value × ℕ)) (d : Finds (cell_at bs j i) text next r) where
+  pub cells-more : (v : Value) (x p' : ℕ) (o' : List ℕ) → n ≤ 512 → j < 512 → r ≡ Some (v, x) → Written o p (shown_lines (cond (is_zero v) [] (col_line (j + 1) (i + 1) v ∷ []))) p' o' → p' ≤ p + 128
       → Each (cell_at bs j) (cell_bytes j) n text at out place (i + 1) x o' p'
   cells-more v x p' o' k t e w s =
       let f = rw e at d.inside in
       each_more (cell_at bs j) (cell_bytes j) n text at out place i next o p h b v x p' o' (rw e at d.is) f.1 (cell-written j i v t (omega arith) f.0 w) (omega arith)
 
-  pub cells-stop : (l : List ℕ) → r ≡ found.Nothing → Walks (read_each (cell_at bs j) n 0) (bytes_each (cell_bytes j) 0) (256 * n) text at out place Nothing l
+  pub cells-stop : (l : List ℕ) → r ≡ None → Walks (read_each (cell_at bs j) n 0) (bytes_each (cell_bytes j) 0) (256 * n) text at out place None l
   cells-stop l e = record { is = each-stop (cell_at bs j) (cell_bytes j) n text at out place i next o p h b (rw e at d.is); inside = tt }
 
 -- ---- as the definition reads and prints them
@@ -169,12 +163,12 @@ column-bytes j c =
 
 -- ---- a column
 
-module _ (bs : List Bool) (rows j : ℕ) (text : List ℕ) (at : ℕ) (out : List ℕ) (place : ℕ) (r : Step) (o : List ℕ) (h : Walks (read_each (cell_at bs j) rows 0) (bytes_each (cell_bytes j) 0) (256 * rows) text at out place r o) where
-  pub column-none : (l : List ℕ) → r ≡ Nothing → Walks (read_column bs rows j) (column_bytes j) 131328 text at out place Nothing l
+module _ (bs : List Bool) (rows j : ℕ) (text : List ℕ) (at : ℕ) (out : List ℕ) (place : ℕ) (r : Option (ℕ × ℕ)) (o : List ℕ) (h : Walks (read_each (cell_at bs j) rows 0) (bytes_each (cell_bytes j) 0) (256 * rows) text at out place r o) where
+  pub column-none : (l : List ℕ) → r ≡ None → Walks (read_column bs rows j) (column_bytes j) 131328 text at out place None l
   unfolding read_column
   column-none l e = record { is = rw (cells_are bs j rows (drop at text), (rw e at h.is)); inside = tt }
 
-  module _ (n p : ℕ) (e : r ≡ To n p) (f : Found) (d : Finds (line_value (named (bytes " C") (j + 1) (bytes " OBJ "))) text n f) where
+  module _ (n p : ℕ) (e : r ≡ Some (n, p)) (f : Option (Value × ℕ)) (d : Finds (line_value (named (bytes " C") (j + 1) (bytes " OBJ "))) text n f) where
     goal : line_value (objective_head (suc j)) (drop n text) ≡ read_of text f
     unfolding objective_head
     goal = rw (add-one j) at d.is
@@ -182,11 +176,11 @@ module _ (bs : List Bool) (rows j : ℕ) (text : List ℕ) (at : ℕ) (out : Lis
     walked : Walked (read_each (cell_at bs j) rows 0) (bytes_each (cell_bytes j) 0) text at out place n p o
     walked = rw e at h.is
 
-    pub column-open : (l : List ℕ) → f ≡ found.Nothing → Walks (read_column bs rows j) (column_bytes j) 131328 text at out place Nothing l
+    pub column-open : (l : List ℕ) → f ≡ None → Walks (read_column bs rows j) (column_bytes j) 131328 text at out place None l
     unfolding read_column
     column-open l g = record { is = rw (cells_are bs j rows (drop at text), walked.is, (rw g at goal)); inside = tt }
 
-    module _ (v : Value) (x : ℕ) (g : f ≡ found.Value v x) (w : Value) (i : w ≡ cond (in_range v) (negate v) v) (p' : ℕ) (o' : List ℕ) where
+    module _ (v : Value) (x : ℕ) (g : f ≡ Some (v, x)) (w : Value) (i : w ≡ cond (in_range v) (negate v) v) (p' : ℕ) (o' : List ℕ) where
       valid : Valid v
       valid = (rw g at d.inside).0
 
@@ -196,7 +190,7 @@ module _ (bs : List Bool) (rows j : ℕ) (text : List ℕ) (at : ℕ) (out : Lis
       count : length walked.what ≡ rows
       count = each-length (cell_at bs j) (cell_bytes j) rows 0 (drop at text) _ walked.is
 
-      pub column-all : rows ≤ 512 → j < 512 → Written o p (shown_line (col_line (j + 1) (rows + 1) w)) p' o' → p' ≤ p + 128 → Walks (read_column bs rows j) (column_bytes j) 131328 text at out place (To x p') o'
+      pub column-all : rows ≤ 512 → j < 512 → Written o p (shown_line (col_line (j + 1) (rows + 1) w)) p' o' → p' ≤ p + 128 → Walks (read_column bs rows j) (column_bytes j) 131328 text at out place (Some (x, p')) o'
       unfolding read_column
       column-all a b k s =
           let ok : Valid w = rw opposite (negate-valid v valid) in
@@ -212,6 +206,6 @@ module _ (bs : List Bool) (rows j : ℕ) (text : List ℕ) (at : ℕ) (out : Lis
             inside = ((rw g at d.inside).1, omega (arith, (rw e at h.inside).1));
           }
 
-pub column-place : (bs : List Bool) (rows j : ℕ) (text : List ℕ) (at : ℕ) (out : List ℕ) (place : ℕ) (r : Step) (o : List ℕ) (n p : ℕ)
-    → Walks (read_each (cell_at bs j) rows 0) (bytes_each (cell_bytes j) 0) (256 * rows) text at out place r o → r ≡ To n p → rows ≤ 512 → place < 2 ^ 39 → p < 2 ^ 40
+pub column-place : (bs : List Bool) (rows j : ℕ) (text : List ℕ) (at : ℕ) (out : List ℕ) (place : ℕ) (r : Option (ℕ × ℕ)) (o : List ℕ) (n p : ℕ)
+    → Walks (read_each (cell_at bs j) rows 0) (bytes_each (cell_bytes j) 0) (256 * rows) text at out place r o → r ≡ Some (n, p) → rows ≤ 512 → place < 2 ^ 39 → p < 2 ^ 40
 column-place bs rows j text at out place r o n p h e b k = omega (arith, (rw e at h.inside).1)

@@ -1,7 +1,7 @@
 -- The text up to its columns: rows, counted, and which of them have a floor.
-use Rattle.std.specs.Prelude.{None, Some}
+use Rattle.std.specs.Prelude.{Option, None, Some, is_some, unwrap_or}
 use mathlib.Core.Path.{◌≡◌, refl, sym, ◌∙◌}
-use mathlib.Core.Bool.{Bool, true, false}
+use mathlib.Core.Bool.{Bool, false}
 use mathlib.Core.List.{List, [], ◌∷◌, ◌++◌, append_assoc, append-nil}
 use Prim.Native.Nat.{ℕ, suc, ◌+◌, ◌-◌, ◌<◌, ◌≤◌}
 use native.Mathlib.Omega.{arith}
@@ -12,31 +12,34 @@ use Rattle.rules.specs.Characters.{bytes}
 use Rattle.rules.specs.Limits.{row_limit}
 use Rattle.mps.specs.Export.{named, less_line, floor_line, equal_line}
 use Rattle.mps.specs.Reading.{Read, strip, floor_here, less_rows, equal_rows, read_kinds}
-use Rattle.importer.specs.declared.Move.{Move}
-use Rattle.importer.specs.declared.Move.TheVariants as move
-use Rattle.importer.specs.declared.Floor.{Floor}
 use Rattle.importer.specs.declared.Count.{Count}
-use Rattle.importer.specs.declared.RowsRead.TheVariants as opened
 use Rattle.importer.specs.Sections.{opening}
-use Rattle.importer.specs.Steps.{rest_of, Strips, FindsFloor, Lists, Counts, Opens}
+use Rattle.importer.specs.Steps.{rest_of, MoveInside, Strips, Lists, Counts, Opens}
 
 same : {A : Type 0} (q : Read A) (a : A) (l : List ℕ) → q.what ≡ a → q.rest ≡ l → q ≡ record { what = a; rest = l }
 same q a l e f = rw (← e, ← f)
 
 -- ---- a floor's line
 
-module _ (i : ℕ) (text : List ℕ) (at : ℕ) (m : Move) (s : Strips (named (bytes " G F") (i + 1) (bytes "\n")) text at m) where
+module _ (i : ℕ) (text : List ℕ) (at : ℕ) (m : Option ℕ) (s : Strips (named (bytes " G F") (i + 1) (bytes "\n")) text at m) where
   here : strip (floor_line (suc i)) (drop at text) ≡ rest_of text m
   unfolding floor_line
   here = rw (add-one i) at s.is
 
-  pub floor-none : m ≡ move.Nothing → at ≤ length text → FindsFloor i text at (record { has = false; at = at })
+  floor-is : floor_here i (drop at text) ≡ record { what = is_some m; rest = drop (unwrap_or m at) text }
   unfolding floor_here
-  floor-none e h = record { is = rw (here, e, floor_here); inside = h }
+  floor-is = go m here
+    where
+      go : (q : Option ℕ) → strip (floor_line (suc i)) (drop at text) ≡ rest_of text q → floor_here i (drop at text) ≡ record { what = is_some q; rest = drop (unwrap_or q at) text }
+      go None e = rw (e, floor_here)
+      go (Some n) e = rw (e, floor_here)
 
-  pub floor-some : (n : ℕ) → m ≡ move.At n → FindsFloor i text at (record { has = true; at = n })
-  unfolding floor_here
-  floor-some n e = record { is = rw (here, e, floor_here); inside = rw e at s.inside }
+  floor-inside : at ≤ length text → unwrap_or m at ≤ length text
+  floor-inside h = go m s.inside
+    where
+      go : (q : Option ℕ) → MoveInside text q → unwrap_or q at ≤ length text
+      go None e = h
+      go (Some n) e = e
 
 -- behind the rows of `<=` and `>=` no row has a floor
 pub floor-behind : (fs : List Bool) (i : ℕ) → length fs ≤ i → false ≡ get_or fs i false
@@ -66,7 +69,7 @@ less-end : (l : List ℕ) (i : ℕ) → less_rows 0 i l ≡ record { what = []; 
 unfolding less_rows
 less-end l i = refl
 
-less-strips : (text : List ℕ) (at i : ℕ) (m : Move) → Strips (named (bytes " L R") (i + 1) (bytes "\n")) text at m → Strips (less_line (suc i)) text at m
+less-strips : (text : List ℕ) (at i : ℕ) (m : Option ℕ) → Strips (named (bytes " L R") (i + 1) (bytes "\n")) text at m → Strips (less_line (suc i)) text at m
 unfolding less_line
 less-strips text at i m s = rw (add-one i) at s
 
@@ -81,28 +84,32 @@ module _ (text : List ℕ) (at : ℕ) (fs₀ : List Bool) where
         let b : (less_rows 512 0 (drop at text)).rest ≡ drop next text = c.rest ∙ rw (e, f) in
         record { is = same (less_rows 512 0 (drop at text)) (take k fs) (drop next text) a b; few = c.few; size = omega (arith, c.large, c.size); inside = c.inside }
 
-    pub list-out : 512 ≤ k → Lists text at (record { rows = k; at = next }) fs
-    list-out h = let z : 512 - k ≡ 0 = omega arith in list-ends _ refl (rw z (less-end (drop next text) k))
+    pub list-out : 512 ≤ k → Lists text at (record { rows = 512; at = next }) fs
+    list-out h =
+        let z : 512 - k ≡ 0 = omega arith in
+        let y : k ≡ 512 = omega (arith, c.few) in
+        rw y at (list-ends _ refl (rw z (less-end (drop next text) k)))
 
-    module _ (h : k < 512) (m : Move) (s : Strips (named (bytes " L R") (k + 1) (bytes "\n")) text next m) where
+    module _ (h : k < 512) (m : Option ℕ) (s : Strips (named (bytes " L R") (k + 1) (bytes "\n")) text next m) where
       room : 512 - k ≡ suc (512 - suc k)
       room = omega arith
 
-      pub list-stop : m ≡ move.Nothing → Lists text at (record { rows = k; at = next }) fs
+      pub list-stop : m ≡ None → Lists text at (record { rows = k; at = next }) fs
       list-stop e =
           list-ends _ refl (rw room (less_none (drop next text) (512 - suc k) k ((less-strips text next k m s).is ∙ rw e)))
 
-      pub list-more : (n : ℕ) (f : Floor) → m ≡ move.At n → FindsFloor k text n f → Listing text at fs₀ (k + 1) f.at (set fs k f.has)
-      list-more n f e d =
-          let q = less-some (drop next text) (drop n text) (512 - suc k) k f.has (drop f.at text) ((less-strips text next k m s).is ∙ rw e) d.is in
-          let t = less_rows (512 - suc k) (suc k) (drop f.at text) in
-          let u : take (suc k) (set fs k f.has) ≡ take k fs ++ (f.has ∷ []) = take-suc-set fs k f.has (omega (arith, c.large, c.size)) in
+      pub list-more : (n : ℕ) (f : Option ℕ) (b : Bool) (next' : ℕ) → m ≡ Some n → Strips (named (bytes " G F") (k + 1) (bytes "\n")) text n f → b ≡ is_some f → next' ≡ unwrap_or f n → Listing text at fs₀ (k + 1) next' (set fs k b)
+      list-more n f b next' e d g i =
+          let z : floor_here k (drop n text) ≡ record { what = b; rest = drop next' text } = rw (g, i) (floor-is k text n f d) in
+          let q = less-some (drop next text) (drop n text) (512 - suc k) k b (drop next' text) ((less-strips text next k m s).is ∙ rw e) z in
+          let t = less_rows (512 - suc k) (suc k) (drop next' text) in
+          let u : take (suc k) (set fs k b) ≡ take k fs ++ (b ∷ []) = take-suc-set fs k b (omega (arith, c.large, c.size)) in
           record {
             few = omega arith;
-            inside = d.inside;
+            inside = rw i (floor-inside k text n f d (rw e at s.inside));
             large = c.large;
-            size = length-set fs k f.has ∙ c.size;
-            what = c.what ∙ rw (room, q, add-one k, u) (sym (append_assoc (take k fs) (f.has ∷ []) t.what));
+            size = length-set fs k b ∙ c.size;
+            what = c.what ∙ rw (room, q, add-one k, u) (sym (append_assoc (take k fs) (b ∷ []) t.what));
             rest = c.rest ∙ rw (room, q, add-one k);
           }
 
@@ -128,7 +135,7 @@ count-end : (l : List ℕ) (i : ℕ) → equal_rows 0 i l ≡ record { what = 0;
 unfolding equal_rows
 count-end l i = refl
 
-equal-strips : (text : List ℕ) (at i : ℕ) (m : Move) → Strips (named (bytes " E R") (i + 1) (bytes "\n")) text at m → Strips (equal_line (suc i)) text at m
+equal-strips : (text : List ℕ) (at i : ℕ) (m : Option ℕ) → Strips (named (bytes " E R") (i + 1) (bytes "\n")) text at m → Strips (equal_line (suc i)) text at m
 unfolding equal_line
 equal-strips text at i m s = rw (add-one i) at s
 
@@ -146,18 +153,21 @@ module _ (text : List ℕ) (at from limit : ℕ) where
         let b : (equal_rows limit from (drop at text)).rest ≡ drop next text = c.rest ∙ rw (e, f) in
         record { is = same (equal_rows limit from (drop at text)) k (drop next text) a b; few = c.few; inside = c.inside }
 
-    pub count-out : limit ≤ k → Counts text at from limit (record { rows = k; at = next })
-    count-out h = let z : limit - k ≡ 0 = omega arith in ends _ refl (rw z (count-end (drop next text) (from + k)))
+    pub count-out : limit ≤ k → Counts text at from limit (record { rows = limit; at = next })
+    count-out h =
+        let z : limit - k ≡ 0 = omega arith in
+        let y : k ≡ limit = omega (arith, c.few) in
+        rw y at (ends _ refl (rw z (count-end (drop next text) (from + k))))
 
-    module _ (h : k < limit) (m : Move) (s : Strips (named (bytes " E R") (from + k + 1) (bytes "\n")) text next m) where
+    module _ (h : k < limit) (m : Option ℕ) (s : Strips (named (bytes " E R") (from + k + 1) (bytes "\n")) text next m) where
       left : limit - k ≡ suc (limit - (k + 1))
       left = omega arith
 
-      pub count-stop : m ≡ move.Nothing → Counts text at from limit (record { rows = k; at = next })
+      pub count-stop : m ≡ None → Counts text at from limit (record { rows = k; at = next })
       count-stop e =
           ends _ refl (rw left (count_none (drop next text) (limit - (k + 1)) (from + k) ((equal-strips text next (from + k) m s).is ∙ rw e)))
 
-      pub count-more : (n : ℕ) → m ≡ move.At n → Counting text at from limit (k + 1) n
+      pub count-more : (n : ℕ) → m ≡ Some n → Counting text at from limit (k + 1) n
       count-more n e =
           let q = count-some (drop next text) (drop n text) (limit - (k + 1)) (from + k) ((equal-strips text next (from + k) m s).is ∙ rw e) in
           let y : from + (k + 1) ≡ suc (from + k) = omega arith in
@@ -175,19 +185,19 @@ kinds-are : (l l' : List ℕ) (bs : List Bool) (a b : ℕ) (l'' : List ℕ) → 
 unfolding read_kinds row_limit
 kinds-are l l' bs a b l'' h e g = rw (h, e, g)
 
-module _ (text : List ℕ) (m : Move) (s : Strips (bytes "NAME MODEL\nROWS\n N OBJ\n") text 0 m) where
-  pub open_none : (fs : List Bool) → m ≡ move.Nothing → Opens text opened.Nothing fs
+module _ (text : List ℕ) (m : Option ℕ) (s : Strips (bytes "NAME MODEL\nROWS\n N OBJ\n") text 0 m) where
+  pub open_none : (fs : List Bool) → m ≡ None → Opens text None fs
   unfolding opening
   open_none fs e = record { is = rw (s.is, e); inside = tt }
 
-  module _ (at : ℕ) (e : m ≡ move.At at) (fs : List Bool) (a b : Count) (h : Lists text at a fs) (g : Counts text a.at a.rows (512 - a.rows) b) (k : Move) (z : Strips (bytes "COLUMNS\n") text b.at k) where
+  module _ (at : ℕ) (e : m ≡ Some at) (fs : List Bool) (a b : Count) (h : Lists text at a fs) (g : Counts text a.at a.rows (512 - a.rows) b) (k : Option ℕ) (z : Strips (bytes "COLUMNS\n") text b.at k) where
     kinds : read_kinds (drop at text) ≡ Some (record { what = record { less = take a.rows fs; equal = b.rows }; rest = drop b.at text })
     kinds = kinds-are _ _ _ a.rows _ _ h.is (length-take-le a.rows fs (omega (arith, h.few, h.size))) g.is
 
-    pub open-other : k ≡ move.Nothing → Opens text opened.Nothing fs
+    pub open-other : k ≡ None → Opens text None fs
     unfolding opening
     open-other f = record { is = rw (s.is, e, kinds, z.is, f); inside = tt }
 
-    pub open-all : (n : ℕ) → k ≡ move.At n → Opens text (opened.At n a.rows b.rows) fs
+    pub open-all : (n : ℕ) → k ≡ Some n → Opens text (Some (record { next = n; less = a.rows; equal = b.rows })) fs
     unfolding opening
     open-all n f = record { is = rw (s.is, e, kinds, z.is, f); inside = (rw f at z.inside, omega (arith, h.few, g.few), h.size) }

@@ -3,57 +3,48 @@ use Rattle.std.specs.Prelude.{Option, Some, None}
 use mathlib.Core.Path.{◌≡◌, refl, sym, ◌∙◌, ap}
 use mathlib.Core.Bool.{Bool, true, false}
 use mathlib.Core.List.{List, [], ◌∷◌, ◌++◌, append_assoc}
-use Prim.Native.Nat.{ℕ, ◌+◌, ◌<◌, ◌≤◌}
+use Prim.Native.Nat.{ℕ, ◌+◌, ◌-◌, ◌<◌, ◌≤◌}
 use native.Mathlib.Omega.{arith}
 use native.Mathlib.Numerals.{add-one}
-use borrow.Author.Tests.{eq-eqb, ne_eqb}
 use lib.Dec.{eqb}
-use lib.ListN.{length, get_or, drop, drop_of_length-le}
-use lib.Seq.{drop-cons}
+use lib.ListN.{length, get_or, take, drop, length-drop}
+use lib.Seq.{drop-cons, drop-drop}
 use Rattle.rules.specs.Characters.{bytes}
 use Rattle.mps.specs.Export.{named}
 use Rattle.mps.specs.Reading.{strip}
 use Rattle.value.specs.Printed.{natural}
-use Rattle.importer.specs.declared.Move.{Move}
-use Rattle.importer.specs.declared.Move.TheVariants.{At, Nothing}
 use Rattle.importer.specs.Sections.{head_of}
 use Rattle.importer.specs.Steps.{Strips}
+use Rattle.value.proofs.Reading.{part-rest}
+use Rattle.mps.proofs.Stripped.{strip-own, strip-is}
+use Rattle.std.specs.List.{starts_with}
+use Rattle.std.proofs.lemmas.Bool.Decides.{Decides-eqb}
+use Rattle.std.proofs.lemmas.Slice.Eq.{starts_is}
 
 pub drop_here : (s : List ℕ) (i : ℕ) → i < length s → drop i s ≡ get_or s i 0 ∷ drop (i + 1) s
 drop_here s i h = rw (add-one i, drop-cons s i 0)
 
--- ---- the loop of `strip`
+-- ---- one word
 
--- what is left of the word, behind what was passed of the text
-pub record Stripped (w text : List ℕ) (at i next : ℕ) : Type 0 where
-  pub inside : next ≤ length text
-  pub same : strip w (drop at text) ≡ strip (drop i w) (drop next text)
+-- the text from `at` on starts with the word, or it does not
+module _ (w text : List ℕ) (at : ℕ) (t : Bool) (e : t ≡ starts_with eqb (take (length text - at) (drop at text)) w) where
+  tested : t ≡ starts_with eqb (drop at text) w
+  tested = rw part-rest at e
 
-module _ (w text : List ℕ) (at : ℕ) where
-  pub strip-first : at ≤ length text → Stripped w text at 0 at
-  strip-first h = record { inside = h; same = refl }
+  pub strip-none : t ≡ false → Strips w text at None
+  strip-none f = record { is = go (strip w (drop at text)) refl; inside = tt }
+    where
+      go : (o : Option (List ℕ)) → strip w (drop at text) ≡ o → strip w (drop at text) ≡ None
+      go None g = g
+      go (Some r) g = absurd (let z : true ≡ false = sym ((starts_is Decides-eqb (drop at text) w t tested).1 r (strip-is w (drop at text) r g)) ∙ f in cc)
 
-  module _ (i next : ℕ) (s : Stripped w text at i next) where
-    pub strip-out : i < length w → length text ≤ next → Strips w text at Nothing
-    unfolding strip
-    strip-out h g = record { is = s.same ∙ rw (drop_here w i h, drop_of_length-le text {i = next} g); inside = tt }
+  pub strip-fits : at ≤ length text → length w ≤ length (take (length text - at) (drop at text)) → at + length w ≤ length text
+  strip-fits h g = omega (arith, rw part-rest at g, length-drop at text)
 
-    pub strip-other : i < length w → next < length text → (get_or text next 0 ≡ get_or w i 0 → ⊥) → Strips w text at Nothing
-    unfolding strip
-    strip-other h g f =
-        record { is = s.same ∙ rw (drop_here w i h, drop_here text next g) (rw (ne_eqb (get_or w i 0) (get_or text next 0) (λ e. f (sym e)), strip)); inside = tt }
-
-    pub strip-more : i < length w → next < length text → get_or text next 0 ≡ get_or w i 0 → Stripped w text at (i + 1) (next + 1)
-    unfolding strip
-    strip-more h g e =
-        record {
-          inside = omega arith;
-          same = s.same ∙ rw (drop_here w i h, drop_here text next g) (rw (eq-eqb (get_or w i 0) (get_or text next 0) (sym e), strip));
-        }
-
-    pub strip-end : length w ≤ i → Strips w text at (At next)
-    unfolding strip
-    strip-end h = record { is = s.same ∙ rw (drop_of_length-le w {i = i} h); inside = s.inside }
+  pub strip-some : t ≡ true → at + length w ≤ length text → Strips w text at (Some (at + length w))
+  strip-some f h =
+      let z : drop at text ≡ w ++ drop (length w) (drop at text) = (starts_is Decides-eqb (drop at text) w t tested).0 f in
+      record { is = ap (strip w) z ∙ strip-own w (drop (length w) (drop at text)) ∙ ap Some (drop-drop (length w) at text); inside = h }
 
 -- ---- one word after the other
 
@@ -73,30 +64,30 @@ strip-append (x ∷ a) b (y ∷ l) = go (eqb x y) (strip-append a b l)
     go true e = e
     go false e = refl
 
-module _ {a text : List ℕ} {at : ℕ} {m : Move} (s : Strips a text at m) where
-  pub move-inside : {n : ℕ} → m ≡ At n → n ≤ length text
+module _ {a text : List ℕ} {at : ℕ} {m : Option ℕ} (s : Strips a text at m) where
+  pub move-inside : {n : ℕ} → m ≡ Some n → n ≤ length text
   move-inside e = rw e at s.inside
 
-  pub then-none : (b : List ℕ) → m ≡ Nothing → Strips (a ++ b) text at Nothing
+  pub then-none : (b : List ℕ) → m ≡ None → Strips (a ++ b) text at None
   unfolding after
   then-none b e = record { is = strip-append a b (drop at text) ∙ rw (s.is, e); inside = tt }
 
-  pub then_some : (b : List ℕ) {n : ℕ} {r : Move} → m ≡ At n → Strips b text n r → Strips (a ++ b) text at r
+  pub then_some : (b : List ℕ) {n : ℕ} {r : Option ℕ} → m ≡ Some n → Strips b text n r → Strips (a ++ b) text at r
   unfolding after
   then_some b e t = record { is = strip-append a b (drop at text) ∙ rw (s.is, e) t.is; inside = t.inside }
 
 -- ---- a name with its number
 
 module _ (w : List ℕ) (n : ℕ) (t : List ℕ) where
-  pub named_none : {text : List ℕ} {at : ℕ} {m : Move} → Strips w text at m → m ≡ Nothing → Strips (named w n t) text at Nothing
+  pub named_none : {text : List ℕ} {at : ℕ} {m : Option ℕ} → Strips w text at m → m ≡ None → Strips (named w n t) text at None
   unfolding named
   named_none s e = then-none s (natural n ++ t) e
 
-  pub named-number : {text : List ℕ} {at : ℕ} {m k : Move} {x : ℕ} → Strips w text at m → m ≡ At x → Strips (natural n) text x k → k ≡ Nothing → Strips (named w n t) text at Nothing
+  pub named-number : {text : List ℕ} {at : ℕ} {m k : Option ℕ} {x : ℕ} → Strips w text at m → m ≡ Some x → Strips (natural n) text x k → k ≡ None → Strips (named w n t) text at None
   unfolding named
   named-number s e u f = then_some s (natural n ++ t) e (then-none u t f)
 
-  pub named-all : {text : List ℕ} {at : ℕ} {m k r : Move} {x y : ℕ} → Strips w text at m → m ≡ At x → Strips (natural n) text x k → k ≡ At y → Strips t text y r → Strips (named w n t) text at r
+  pub named-all : {text : List ℕ} {at : ℕ} {m k r : Option ℕ} {x y : ℕ} → Strips w text at m → m ≡ Some x → Strips (natural n) text x k → k ≡ Some y → Strips t text y r → Strips (named w n t) text at r
   unfolding named
   named-all s e u f v = then_some s (natural n ++ t) e (then_some u t f v)
 
@@ -107,12 +98,12 @@ module _ (j : ℕ) (w : List ℕ) (n : ℕ) where
   unfolding named head_of
   head-is = ap (λ (l : List ℕ). bytes " C" ++ l) (append_assoc (natural j) w (natural n ++ bytes " "))
 
-  module _ {text : List ℕ} {at : ℕ} {m : Move} (s : Strips (named (bytes " C") j w) text at m) where
-    pub head-none : m ≡ Nothing → Strips (head_of j w n) text at Nothing
+  module _ {text : List ℕ} {at : ℕ} {m : Option ℕ} (s : Strips (named (bytes " C") j w) text at m) where
+    pub head-none : m ≡ None → Strips (head_of j w n) text at None
     head-none e = rw head-is at (then-none s (natural n ++ bytes " ") e)
 
-    pub head-number : {k : Move} {x : ℕ} → m ≡ At x → Strips (natural n) text x k → k ≡ Nothing → Strips (head_of j w n) text at Nothing
+    pub head-number : {k : Option ℕ} {x : ℕ} → m ≡ Some x → Strips (natural n) text x k → k ≡ None → Strips (head_of j w n) text at None
     head-number e u f = rw head-is at (then_some s (natural n ++ bytes " ") e (then-none u (bytes " ") f))
 
-    pub head-all : {k r : Move} {x y : ℕ} → m ≡ At x → Strips (natural n) text x k → k ≡ At y → Strips (bytes " ") text y r → Strips (head_of j w n) text at r
+    pub head-all : {k r : Option ℕ} {x y : ℕ} → m ≡ Some x → Strips (natural n) text x k → k ≡ Some y → Strips (bytes " ") text y r → Strips (head_of j w n) text at r
     head-all e u f v = rw head-is at (then_some s (natural n ++ bytes " ") e (then_some u (bytes " ") f v))

@@ -1,6 +1,7 @@
 -- Numbers that are printed to be compared, and values that are read.
 use Rattle.std.specs.Prelude.{Option, Some, None}
 use mathlib.Core.Path.{◌≡◌, refl, sym, ◌∙◌, ap}
+use mathlib.Core.Logic.{◌≢◌}
 use mathlib.Core.Bool.{Bool, true, false, not, cond}
 use mathlib.Core.List.{List, [], ◌∷◌, ◌++◌, append_assoc, append-nil}
 use Prim.Native.Nat.{ℕ, suc, ◌+◌, ◌-◌, ◌<◌, ◌≤◌}
@@ -17,17 +18,13 @@ use Rattle.value.specs.declared.Value.{Value}
 use Rattle.value.specs.Decimal.{Valid, of_whole, in_range, negate}
 use Rattle.value.specs.Literal.{literal_of}
 use Rattle.value.specs.Printed.{natural, shown, Written}
-use Rattle.value.proofs.Reading.{literal-empty, literal-valid, part-rest}
+use Rattle.value.proofs.Reading.{literal-valid}
 use Rattle.value.proofs.Operations.{negate-valid, valid-negated}
 use Rattle.value.proofs.Writing.{written-length, shown-valid}
 use Rattle.value.proofs.ReadBack.{read_back, opposite}
 use Rattle.lexer.specs.Text.{front, behind, same_bytes}
 use Rattle.listing.proofs.Showing.{shown-most, whole_is, natural-read, natural-shown}
 use Rattle.mps.specs.Reading.{Reader, strip, in_line, print_of, value_of, read_value, line_value}
-use Rattle.importer.specs.declared.Move.{Move}
-use Rattle.importer.specs.declared.Move.TheVariants as move
-use Rattle.importer.specs.declared.Found.{Found}
-use Rattle.importer.specs.declared.Found.TheVariants as found
 use Rattle.importer.specs.Steps.{Strips, LineEnds, Finds}
 use Rattle.importer.proofs.Stripping.{drop_here}
 
@@ -51,10 +48,10 @@ module _ (l : List ℕ) (v : Value) (k : ℕ) (l' : List ℕ) (w : Written l 0 (
   pub print-size : k ≡ length (take k l')
   print-size = rw length-take (omega (arith, print-fits))
 
-  pub print-strips : (text : List ℕ) (at : ℕ) (r : Move) → Strips (take k l') text at r → Strips (shown v) text at r
+  pub print-strips : (text : List ℕ) (at : ℕ) (r : Option ℕ) → Strips (take k l') text at r → Strips (shown v) text at r
   print-strips text at r s = rw (print-part l v k l' w h) at s
 
-pub number-strips : (n : ℕ) (v : Value) (text : List ℕ) (at : ℕ) (r : Move) → v ≡ of_whole (to_z w64 n) → n < 1024 → Strips (shown v) text at r → Strips (natural n) text at r
+pub number-strips : (n : ℕ) (v : Value) (text : List ℕ) (at : ℕ) (r : Option ℕ) → v ≡ of_whole (to_z w64 n) → n < 1024 → Strips (shown v) text at r → Strips (natural n) text at r
 unfolding mantissa_limit
 number-strips n v text at r e g s = rw (whole_is v (to_z w64 n) e ∙ natural-read n (omega arith) ∙ natural-shown n (omega arith)) at s
 
@@ -120,42 +117,37 @@ module _ (text : List ℕ) (at i : ℕ) (r : Running text at i) where
         rest = sym (behind-stop h e) ∙ r.rest;
       }
 
-  pub run_out : length text ≤ i → LineEnds text at i
+  pub run_out : length text ≤ i → LineEnds text at (length text)
   unfolding front behind
   run_out h =
       let z = drop_of_length-le text {i = i} h in
+      let y : i ≡ length text = omega (arith, r.high) in
       record {
-        low = r.low;
-        high = r.high;
-        run = sym (append-nil (take (i - at) (drop at text))) ∙ (rw z at r.run);
-        rest = z ∙ (rw z at r.rest);
+        low = omega (arith, r.low);
+        high = omega arith;
+        run = rw (← y) (sym (append-nil (take (i - at) (drop at text))) ∙ (rw z at r.run));
+        rest = rw (← y) (z ∙ (rw z at r.rest));
       }
 
 -- ---- a literal with its sign
 
-pub signed-empty : (t : List ℕ) → length t ≡ 0 → None ≡ read_back t
-unfolding read_back
-signed-empty [] h = literal-empty [] refl
-signed-empty (b ∷ t) h = absurd (omega arith)
-
-pub signed-plain : (t : List ℕ) (r : Option Value) → (get_or t 0 0 ≡ 45 → ⊥) → r ≡ literal_of t → r ≡ read_back t
+pub signed-plain : (t : List ℕ) (r : Option Value) → ((rest : List ℕ) → t ≢ (45 ∷ []) ++ rest) → r ≡ literal_of t → r ≡ read_back t
 unfolding read_back
 signed-plain [] r f e = e
-signed-plain (b ∷ t) r f e = rw (ne_eqb b 45 f) e
+signed-plain (b ∷ t) r f e = rw (ne_eqb b 45 (λ g. f t (ap (λ (x : ℕ). x ∷ t) g))) e
 
-read-minus : (t : List ℕ) → (length t ≡ 0 → ⊥) → get_or t 0 0 ≡ 45 → read_back t ≡ opposite (literal_of (take (length t - 1) (drop 1 t)))
-unfolding read_back
-read-minus [] f e = absurd (f refl)
-read-minus (b ∷ t) f e = rw (part-rest (b ∷ t) 1, eq-eqb b 45 e)
+module _ (t rest : List ℕ) (e : t ≡ (45 ∷ []) ++ rest) (r : Option Value) (h : r ≡ literal_of rest) where
+  read-minus : read_back t ≡ opposite r
+  unfolding read_back
+  read-minus = rw (e, h)
 
-module _ (t : List ℕ) (f : length t ≡ 0 → ⊥) (e : get_or t 0 0 ≡ 45) (r : Option Value) (h : r ≡ literal_of (take (length t - 1) (drop 1 t))) where
   pub minus-big : r ≡ None → None ≡ read_back t
   unfolding opposite
-  minus-big g = sym (read-minus t f e ∙ rw (← h, g))
+  minus-big g = sym (read-minus ∙ rw g)
 
   pub minus-fits : (v w : Value) → r ≡ Some v → w ≡ cond (in_range v) (negate v) v → Some w ≡ read_back t
   unfolding opposite
-  minus-fits v w g i = ap Some (i ∙ valid-negated v (literal-valid _ v (sym h ∙ g))) ∙ sym (read-minus t f e ∙ rw (← h, g))
+  minus-fits v w g i = ap Some (i ∙ valid-negated v (literal-valid _ v (sym h ∙ g))) ∙ sym (read-minus ∙ rw g)
 
 opposite-valid : (f : Option Value) → ((u : Value) → f ≡ Some u → Valid u) → (v : Value) → opposite f ≡ Some v → Valid v
 unfolding opposite
@@ -190,12 +182,12 @@ same-strip (a ∷ w) (b ∷ l) = go (eqb a b) (same-strip w l)
     go true e = e
     go false e = refl
 
-module _ (w t : List ℕ) (m : Move) (s : Strips w t 0 m) where
-  pub print-other : m ≡ move.Nothing → false ≡ same_bytes w t
+module _ (w t : List ℕ) (m : Option ℕ) (s : Strips w t 0 m) where
+  pub print-other : m ≡ None → false ≡ same_bytes w t
   unfolding ended
   print-other e = sym (same-strip w t ∙ rw (s.is, e))
 
-  pub print-same : (n : ℕ) → m ≡ move.At n → leb (length t) n ≡ same_bytes w t
+  pub print-same : (n : ℕ) → m ≡ Some n → leb (length t) n ≡ same_bytes w t
   unfolding ended
   print-same n e = sym (same-strip w t ∙ rw (s.is, e) (go (drop n t) (length-drop n t) (leb (length t) n) refl))
     where
@@ -211,7 +203,7 @@ module _ (w t : List ℕ) (m : Move) (s : Strips w t 0 m) where
 -- ---- a value and its line feed
 
 module _ (text : List ℕ) (at end : ℕ) (h : LineEnds text at end) (f : Option Value) (g : f ≡ read_back (take (end - at) (drop at text))) where
-  pub value-big : f ≡ None → Finds read_value text at found.Nothing
+  pub value-big : f ≡ None → Finds read_value text at None
   unfolding read_value value_of print_of
   value-big e = record { is = rw (← h.run, ← g, e); inside = tt }
 
@@ -219,16 +211,16 @@ module _ (text : List ℕ) (at end : ℕ) (h : LineEnds text at end) (f : Option
     valid : Valid v
     valid = read-valid _ v (sym g ∙ e)
 
-    pub value-other : not s ≡ true → Finds read_value text at found.Nothing
+    pub value-other : not s ≡ true → Finds read_value text at None
     unfolding read_value value_of print_of
     value-other k = record { is = rw (← h.run, ← g, e, ← shown-valid v valid, ← i, not-true s k); inside = tt }
 
-    module _ (k : not s ≡ false) (m : Move) (z : Strips (line_feed ∷ []) text end m) where
-      pub value-open : m ≡ move.Nothing → Finds read_value text at found.Nothing
+    module _ (k : not s ≡ false) (m : Option ℕ) (z : Strips (line_feed ∷ []) text end m) where
+      pub value-open : m ≡ None → Finds read_value text at None
       unfolding read_value value_of print_of
       value-open j = record { is = rw (← h.run, ← h.rest, ← g, e, ← shown-valid v valid, ← i, not-false s k, z.is, j); inside = tt }
 
-      pub value_found : (n : ℕ) → m ≡ move.At n → Finds read_value text at (found.Value v n)
+      pub value_found : (n : ℕ) → m ≡ Some n → Finds read_value text at (Some (v, n))
       unfolding read_value value_of print_of
       value_found n j =
           record {
@@ -238,17 +230,17 @@ module _ (text : List ℕ) (at end : ℕ) (h : LineEnds text at end) (f : Option
 
 -- ---- a value's line
 
-module _ (w text : List ℕ) (at : ℕ) (m : Move) (s : Strips w text at m) where
-  pub line-none : m ≡ move.Nothing → Finds (line_value w) text at found.Nothing
+module _ (w text : List ℕ) (at : ℕ) (m : Option ℕ) (s : Strips w text at m) where
+  pub line-none : m ≡ None → Finds (line_value w) text at None
   unfolding line_value
   line-none e = record { is = rw (s.is, e); inside = tt }
 
-  pub line-some : (n : ℕ) (r : Found) → m ≡ move.At n → Finds read_value text n r → Finds (line_value w) text at r
+  pub line-some : (n : ℕ) (r : Option (Value × ℕ)) → m ≡ Some n → Finds read_value text n r → Finds (line_value w) text at r
   unfolding line_value
   line-some n r e f = record { is = rw (s.is, e) f.is; inside = f.inside }
 
 -- where a value's line ends, and the value
-module _ {m : Reader Value} {text : List ℕ} {at : ℕ} {r : Found} (d : Finds m text at r) {v : Value} {n : ℕ} (e : r ≡ found.Value v n) where
+module _ {m : Reader Value} {text : List ℕ} {at : ℕ} {r : Option (Value × ℕ)} (d : Finds m text at r) {v : Value} {n : ℕ} (e : r ≡ Some (v, n)) where
   pub found_inside : n ≤ length text
   found_inside = (rw e at d.inside).1
 

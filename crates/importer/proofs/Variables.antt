@@ -1,5 +1,5 @@
 -- Columns one after the other, and all columns.
-use Rattle.std.specs.Prelude.{None, Some}
+use Rattle.std.specs.Prelude.{Option, None, Some}
 use mathlib.Core.Path.{◌≡◌, refl, sym, ◌∙◌, ap}
 use mathlib.Core.Bool.{Bool, true, false}
 use mathlib.Core.List.{List, [], ◌∷◌, ◌++◌, append_assoc}
@@ -14,13 +14,7 @@ use Rattle.value.proofs.Writing.{written_none, written_then, written-length}
 use Rattle.mps.specs.Sheet.{Column}
 use Rattle.mps.specs.Report.{bare_lines, column_of, columns_of}
 use Rattle.mps.specs.Reading.{Reader, follow, give, strip, read_column, columns_by, read_columns, is_none, discrete_by, read_discrete}
-use Rattle.importer.specs.declared.Move.{Move}
-use Rattle.importer.specs.declared.Move.TheVariants as move
-use Rattle.importer.specs.declared.Step.{Step}
-use Rattle.importer.specs.declared.Step.TheVariants as step
 use Rattle.importer.specs.declared.ColumnsRead.{ColumnsRead}
-use Rattle.importer.specs.declared.ColumnsRead.TheVariants as columns
-use Rattle.importer.specs.declared.MatrixRead.TheVariants as matrix
 use Rattle.importer.specs.Sections.{column_bytes, columns_bytes, read_matrix, matrix_bytes}
 use Rattle.importer.specs.Steps.{Strips, Walked, Walks, WalkedColumns, WalksColumns, WalksMatrix}
 use Rattle.importer.proofs.Coefficients.{bare-append}
@@ -98,7 +92,7 @@ module _ (bs : List Bool) (rows limit from : ℕ) (text : List ℕ) (at : ℕ) (
       }
 
   module _ (k next : ℕ) (o : List ℕ) (p : ℕ) (h : Several bs rows limit from text at out place k next o p) where
-    stopped : read_columns bs rows (limit - k) (from + k) (drop next text) ≡ Some (record { what = []; rest = drop next text }) → WalksColumns (read_columns bs rows limit from) from limit text at out place (columns.To next p k) o
+    stopped : read_columns bs rows (limit - k) (from + k) (drop next text) ≡ Some (record { what = []; rest = drop next text }) → WalksColumns (read_columns bs rows limit from) from limit text at out place (Some (record { next = next; place = p; columns = k })) o
     stopped e =
         let x : k + 0 ≡ k = omega arith in
         record {
@@ -106,25 +100,28 @@ module _ (bs : List Bool) (rows limit from : ℕ) (text : List ℕ) (at : ℕ) (
           inside = (h.inside, h.few, h.short);
         }
 
-    pub several-end : limit ≤ k → WalksColumns (read_columns bs rows limit from) from limit text at out place (columns.To next p k) o
-    several-end b = let z : limit - k ≡ 0 = omega arith in stopped (rw z (columns-over bs rows (from + k) (drop next text)))
+    pub several-end : limit ≤ k → WalksColumns (read_columns bs rows limit from) from limit text at out place (Some (record { next = next; place = p; columns = limit })) o
+    several-end b =
+        let z : limit - k ≡ 0 = omega arith in
+        let y : k ≡ limit = omega (arith, h.few) in
+        rw y at (stopped (rw z (columns-over bs rows (from + k) (drop next text))))
 
-    module _ (b : k < limit) (m : Move) (s : Strips (bytes " C") text next m) where
+    module _ (b : k < limit) (m : Option ℕ) (s : Strips (bytes " C") text next m) where
       left : limit - k ≡ suc (limit - (k + 1))
       left = omega arith
 
-      pub several-stop : m ≡ move.Nothing → WalksColumns (read_columns bs rows limit from) from limit text at out place (columns.To next p k) o
+      pub several-stop : m ≡ None → WalksColumns (read_columns bs rows limit from) from limit text at out place (Some (record { next = next; place = p; columns = k })) o
       several-stop e = stopped (rw left (columns-out bs rows (limit - (k + 1)) (from + k) (drop next text) (rw e at s.is)))
 
-      module _ (y : ℕ) (e : m ≡ move.At y) (r : Step) (o' : List ℕ) (w : Walks (read_column bs rows (from + k)) (column_bytes (from + k)) 131328 text next o p r o') where
-        pub several-none : (l : List ℕ) → r ≡ step.Nothing → WalksColumns (read_columns bs rows limit from) from limit text at out place columns.Nothing l
+      module _ (y : ℕ) (e : m ≡ Some y) (r : Option (ℕ × ℕ)) (o' : List ℕ) (w : Walks (read_column bs rows (from + k)) (column_bytes (from + k)) 131328 text next o p r o') where
+        pub several-none : (l : List ℕ) → r ≡ None → WalksColumns (read_columns bs rows limit from) from limit text at out place None l
         several-none l f =
             record {
               is = h.broken (rw left (columns-bad bs rows (limit - (k + 1)) (from + k) (drop next text) (drop y text) (rw e at s.is) (rw f at w.is)));
               inside = tt;
             }
 
-        pub several-more : (n p' : ℕ) → r ≡ step.To n p' → Several bs rows limit from text at out place (k + 1) n o' p'
+        pub several-more : (n p' : ℕ) → r ≡ Some (n, p') → Several bs rows limit from text at out place (k + 1) n o' p'
         several-more n p' f =
             let a = rw e at s.is in
             let v : Walked (read_column bs rows (from + k)) (column_bytes (from + k)) text next o p n p' o' = rw f at w.is in
@@ -176,37 +173,37 @@ module _ (bs : List Bool) (rows : ℕ) (l : List ℕ) where
       unfolding read_discrete discrete_by variable_limit
       discrete-yes g t' h = rw (e, f, g, h)
 
-module _ (bs : List Bool) (rows : ℕ) (text : List ℕ) (at : ℕ) (out : List ℕ) (place : ℕ) (m : Move) (s : Strips (bytes " M 'MARKER' 'INTORG'\n") text at m) where
-  pub discrete-none : m ≡ move.Nothing → at ≤ length text → WalksColumns (read_discrete bs rows) 0 512 text at out place (columns.To at place 0) out
+module _ (bs : List Bool) (rows : ℕ) (text : List ℕ) (at : ℕ) (out : List ℕ) (place : ℕ) (m : Option ℕ) (s : Strips (bytes " M 'MARKER' 'INTORG'\n") text at m) where
+  pub discrete-none : m ≡ None → at ≤ length text → WalksColumns (read_discrete bs rows) 0 512 text at out place (Some (record { next = at; place = place; columns = 0 })) out
   discrete-none e h =
       record {
         is = nothing_left (read_discrete bs rows) 0 text at out place (discrete-out bs rows (drop at text) (rw e at s.is));
         inside = (h, omega arith, omega arith);
       }
 
-  module _ (n : ℕ) (e : m ≡ move.At n) (r : ColumnsRead) (o : List ℕ) (w : WalksColumns (read_columns bs rows 512 0) 0 512 text n out place r o) where
+  module _ (n : ℕ) (e : m ≡ Some n) (r : Option ColumnsRead) (o : List ℕ) (w : WalksColumns (read_columns bs rows 512 0) 0 512 text n out place r o) where
     begins : strip (bytes " M 'MARKER' 'INTORG'\n") (drop at text) ≡ Some (drop n text)
     begins = rw e at s.is
 
-    pub discrete-bad : (l : List ℕ) → r ≡ columns.Nothing → WalksColumns (read_discrete bs rows) 0 512 text at out place columns.Nothing l
+    pub discrete-bad : (l : List ℕ) → r ≡ None → WalksColumns (read_discrete bs rows) 0 512 text at out place None l
     discrete-bad l f = record { is = discrete-broken bs rows (drop at text) (drop n text) begins (rw f at w.is); inside = tt }
 
-    module _ (x p k : ℕ) (f : r ≡ columns.To x p k) where
-      columns-read : WalkedColumns (read_columns bs rows 512 0) 0 text n out place x p k o
+    module _ (u : ColumnsRead) (f : r ≡ Some u) where
+      columns-read : WalkedColumns (read_columns bs rows 512 0) 0 text n out place u.next u.place u.columns o
       columns-read = rw f at w.is
 
-      pub discrete-empty : (l : List ℕ) → k ≡ 0 → WalksColumns (read_discrete bs rows) 0 512 text at out place columns.Nothing l
+      pub discrete-empty : (l : List ℕ) → u.columns ≡ 0 → WalksColumns (read_discrete bs rows) 0 512 text at out place None l
       discrete-empty l z =
           let v = columns-read in
-          record { is = discrete-no bs rows (drop at text) (drop n text) begins _ _ v.walked.is (no-columns v.walked.what k v.count z); inside = tt }
+          record { is = discrete-no bs rows (drop at text) (drop n text) begins _ _ v.walked.is (no-columns v.walked.what u.columns v.count z); inside = tt }
 
-      module _ (z : k ≡ 0 → ⊥) (a : Move) (t : Strips (bytes " M 'MARKER' 'INTEND'\n") text x a) where
-        pub discrete-open : (l : List ℕ) → a ≡ move.Nothing → WalksColumns (read_discrete bs rows) 0 512 text at out place columns.Nothing l
+      module _ (z : u.columns ≡ 0 → ⊥) (a : Option ℕ) (t : Strips (bytes " M 'MARKER' 'INTEND'\n") text u.next a) where
+        pub discrete-open : (l : List ℕ) → a ≡ None → WalksColumns (read_discrete bs rows) 0 512 text at out place None l
         discrete-open l g =
             let v = columns-read in
-            record { is = discrete-unended bs rows (drop at text) (drop n text) begins _ _ v.walked.is (some-columns v.walked.what k v.count z) (rw g at t.is); inside = tt }
+            record { is = discrete-unended bs rows (drop at text) (drop n text) begins _ _ v.walked.is (some-columns v.walked.what u.columns v.count z) (rw g at t.is); inside = tt }
 
-        pub discrete-all : (y : ℕ) → a ≡ move.At y → WalksColumns (read_discrete bs rows) 0 512 text at out place (columns.To y p k) o
+        pub discrete-all : (y : ℕ) → a ≡ Some y → WalksColumns (read_discrete bs rows) 0 512 text at out place (Some (record { next = y; place = u.place; columns = u.columns })) o
         discrete-all y g =
             let v = columns-read in
             let i = rw f at w.inside in
@@ -216,7 +213,7 @@ module _ (bs : List Bool) (rows : ℕ) (text : List ℕ) (at : ℕ) (out : List 
                     walked =
                         record {
                           what = v.walked.what;
-                          is = discrete-yes bs rows (drop at text) (drop n text) begins _ _ v.walked.is (some-columns v.walked.what k v.count z) (drop y text) (rw g at t.is);
+                          is = discrete-yes bs rows (drop at text) (drop n text) begins _ _ v.walked.is (some-columns v.walked.what u.columns v.count z) (drop y text) (rw g at t.is);
                           written = v.walked.written;
                         };
                     count = v.count;
@@ -251,23 +248,23 @@ module _ (bs : List Bool) (rows : ℕ) (l : List ℕ) where
     unfolding read_matrix variable_limit
     matrix-in cs t f = rw (e, c, f)
 
-module _ (bs : List Bool) (rows : ℕ) (text : List ℕ) (at : ℕ) (out : List ℕ) (place : ℕ) (r : ColumnsRead) (o : List ℕ) (w : WalksColumns (read_discrete bs rows) 0 512 text at out place r o) where
-  pub matrix-none : (l : List ℕ) → r ≡ columns.Nothing → WalksMatrix bs rows text at out place matrix.Nothing l
+module _ (bs : List Bool) (rows : ℕ) (text : List ℕ) (at : ℕ) (out : List ℕ) (place : ℕ) (r : Option ColumnsRead) (o : List ℕ) (w : WalksColumns (read_discrete bs rows) 0 512 text at out place r o) where
+  pub matrix-none : (l : List ℕ) → r ≡ None → WalksMatrix bs rows text at out place None l
   matrix-none l e = record { is = matrix-out bs rows (drop at text) (rw e at w.is); inside = tt }
 
-  module _ (n p d : ℕ) (e : r ≡ columns.To n p d) (q : ColumnsRead) (o' : List ℕ) (v : WalksColumns (read_columns bs rows (512 - d) d) d (512 - d) text n o p q o') where
-    first : WalkedColumns (read_discrete bs rows) 0 text at out place n p d o
+  module _ (z : ColumnsRead) (e : r ≡ Some z) (q : Option ColumnsRead) (o' : List ℕ) (v : WalksColumns (read_columns bs rows (512 - z.columns) z.columns) z.columns (512 - z.columns) text z.next o z.place q o') where
+    first : WalkedColumns (read_discrete bs rows) 0 text at out place z.next z.place z.columns o
     first = rw e at w.is
 
-    pub matrix-bad : (l : List ℕ) → q ≡ columns.Nothing → WalksMatrix bs rows text at out place matrix.Nothing l
+    pub matrix-bad : (l : List ℕ) → q ≡ None → WalksMatrix bs rows text at out place None l
     matrix-bad l f =
         let a = first in
-        record { is = matrix-stop bs rows (drop at text) _ _ d a.count a.walked.is (rw f at v.is); inside = tt }
+        record { is = matrix-stop bs rows (drop at text) _ _ z.columns a.count a.walked.is (rw f at v.is); inside = tt }
 
-    pub matrix-all : (x y k : ℕ) → q ≡ columns.To x y k → WalksMatrix bs rows text at out place (matrix.To x y d (d + k)) o'
-    matrix-all x y k f =
+    pub matrix-all : (y : ColumnsRead) → q ≡ Some y → WalksMatrix bs rows text at out place (Some (record { next = y.next; place = y.place; discrete = z.columns; total = z.columns + y.columns })) o'
+    matrix-all y f =
         let a = first in
-        let b : WalkedColumns (read_columns bs rows (512 - d) d) d text n o p x y k o' = rw f at v.is in
+        let b : WalkedColumns (read_columns bs rows (512 - z.columns) z.columns) z.columns text z.next o z.place y.next y.place y.columns o' = rw f at v.is in
         let i = rw f at v.inside in
         let ds = a.walked.what in
         let cs = b.walked.what in
@@ -277,8 +274,8 @@ module _ (bs : List Bool) (rows : ℕ) (text : List ℕ) (at : ℕ) (out : List 
                 walked =
                     record {
                       what = record { discrete = ds; continuous = cs };
-                      is = matrix-in bs rows (drop at text) ds (drop n text) d a.count a.walked.is cs (drop x text) b.walked.is;
-                      written = rw (matrix-bytes ds cs d a.count) (written_then _ _ _ _ _ _ _ _ a.walked.written b.walked.written);
+                      is = matrix-in bs rows (drop at text) ds (drop z.next text) z.columns a.count a.walked.is cs (drop y.next text) b.walked.is;
+                      written = rw (matrix-bytes ds cs z.columns a.count) (written_then _ _ _ _ _ _ _ _ a.walked.written b.walked.written);
                     };
                 discrete = a.count;
                 variables = omega (arith, a.count, b.count);
@@ -288,24 +285,24 @@ module _ (bs : List Bool) (rows : ℕ) (text : List ℕ) (at : ℕ) (out : List 
 
 -- ---- where columns end
 
-module _ {m : Reader (List Column)} {j limit : ℕ} {text : List ℕ} {at : ℕ} {out : List ℕ} {place : ℕ} {r : ColumnsRead} {o : List ℕ} (w : WalksColumns m j limit text at out place r o) {n p k : ℕ} (e : r ≡ columns.To n p k) where
-  pub columns-inside : n ≤ length text
+module _ {m : Reader (List Column)} {j limit : ℕ} {text : List ℕ} {at : ℕ} {out : List ℕ} {place : ℕ} {r : Option ColumnsRead} {o : List ℕ} (w : WalksColumns m j limit text at out place r o) {u : ColumnsRead} (e : r ≡ Some u) where
+  pub columns-inside : u.next ≤ length text
   columns-inside = (rw e at w.inside).0
 
-  pub columns-few : k ≤ limit
+  pub columns-few : u.columns ≤ limit
   columns-few = (rw e at w.inside).1
 
-  pub columns-short : p ≤ place + 131328 * k
+  pub columns-short : u.place ≤ place + 131328 * u.columns
   columns-short = (rw e at w.inside).2
 
 -- the sums of `matrix` fit
 
-module _ (bs : List Bool) (rows : ℕ) (text : List ℕ) (at : ℕ) (out : List ℕ) (place : ℕ) (r : ColumnsRead) (o : List ℕ) (w : WalksColumns (read_discrete bs rows) 0 512 text at out place r o) (n p d : ℕ) (e : r ≡ columns.To n p d) where
-  pub matrix-few : d + (512 - d) ≤ 512
+module _ (bs : List Bool) (rows : ℕ) (text : List ℕ) (at : ℕ) (out : List ℕ) (place : ℕ) (r : Option ColumnsRead) (o : List ℕ) (w : WalksColumns (read_discrete bs rows) 0 512 text at out place r o) (z : ColumnsRead) (e : r ≡ Some z) where
+  pub matrix-few : z.columns + (512 - z.columns) ≤ 512
   matrix-few = omega (arith, columns-few w e)
 
-  pub matrix-place : place < 2 ^ 36 → p < 2 ^ 38
+  pub matrix-place : place < 2 ^ 36 → z.place < 2 ^ 38
   matrix-place h = omega (arith, columns-few w e, columns-short w e)
 
-  pub matrix-sum : (q : ColumnsRead) (o' : List ℕ) → WalksColumns (read_columns bs rows (512 - d) d) d (512 - d) text n o p q o' → (x y k : ℕ) → q ≡ columns.To x y k → Fits w64 (d + k)
-  matrix-sum q o' v x y k f = omega (arith, columns-few w e, columns-few v f)
+  pub matrix-sum : (q : Option ColumnsRead) (o' : List ℕ) → WalksColumns (read_columns bs rows (512 - z.columns) z.columns) z.columns (512 - z.columns) text z.next o z.place q o' → (w : ColumnsRead) → q ≡ Some w → Fits w64 (z.columns + w.columns)
+  matrix-sum q o' v z f = omega (arith, columns-few w e, columns-few v f)

@@ -9,8 +9,6 @@ use lib.ListN.{length, drop}
 use Rattle.value.specs.Printed.{Written}
 use Rattle.value.proofs.Writing.{written_none, written_then, written-length}
 use Rattle.mps.specs.Reading.{Read, Reader, follow, ◌>>=◌, give}
-use Rattle.importer.specs.declared.Step.{Step}
-use Rattle.importer.specs.declared.Step.TheVariants.{To, Nothing}
 use Rattle.importer.specs.Sections.{read_each, bytes_each}
 use Rattle.importer.specs.Steps.{WalksAs, Walks}
 
@@ -25,23 +23,23 @@ pub record Each {A : Type 0} (g : ℕ → Reader A) (f : ℕ → A → List ℕ)
   pub inside : next ≤ length text
   pub short : p ≤ place + 256 * i
   pub size : length o ≡ length out
-  pub whole : (r : Step) (l : List ℕ) → WalksAs (read_each g (n - i) i) (bytes_each f i) text next o p r l → WalksAs (read_each g n 0) (bytes_each f 0) text at out place r l
+  pub whole : (r : Option (ℕ × ℕ)) (l : List ℕ) → WalksAs (read_each g (n - i) i) (bytes_each f i) text next o p r l → WalksAs (read_each g n 0) (bytes_each f 0) text at out place r l
 
 module _ {A : Type 0} (g : ℕ → Reader A) (f : ℕ → A → List ℕ) where
   -- thing i, then those behind it
   step : (text : List ℕ) (k i next : ℕ) (o : List ℕ) (p : ℕ) (a : A) (next' p' : ℕ) (o' : List ℕ)
       → g i (drop next text) ≡ Some (record { what = a; rest = drop next' text }) → Written o p (f i a) p' o'
-      → (r : Step) (l : List ℕ) → WalksAs (read_each g k (suc i)) (bytes_each f (suc i)) text next' o' p' r l → WalksAs (read_each g (suc k) i) (bytes_each f i) text next o p r l
+      → (r : Option (ℕ × ℕ)) (l : List ℕ) → WalksAs (read_each g k (suc i)) (bytes_each f (suc i)) text next' o' p' r l → WalksAs (read_each g (suc k) i) (bytes_each f i) text next o p r l
   unfolding read_each bytes_each
-  step text k i next o p a next' p' o' e v (To x y) l w =
+  step text k i next o p a next' p' o' e v (Some (x, y)) l w =
       record { what = a ∷ w.what; is = rw (e, w.is); written = written_then _ _ _ _ _ _ _ _ v w.written }
-  step text k i next o p a next' p' o' e v Nothing l w = rw (e, w)
+  step text k i next o p a next' p' o' e v None l w = rw (e, w)
 
   stop : (l : List ℕ) (k i : ℕ) → g i l ≡ None → read_each g (suc k) i l ≡ None
   unfolding read_each
   stop l k i e = rw e
 
-  end : (text : List ℕ) (i next : ℕ) (o : List ℕ) (p : ℕ) → WalksAs (read_each g 0 i) (bytes_each f i) text next o p (To next p) o
+  end : (text : List ℕ) (i next : ℕ) (o : List ℕ) (p : ℕ) → WalksAs (read_each g 0 i) (bytes_each f i) text next o p (Some (next, p)) o
   unfolding read_each bytes_each
   end text i next o p = record { what = []; is = refl; written = written_none o p }
 
@@ -67,13 +65,13 @@ module _ {A : Type 0} (g : ℕ → Reader A) (f : ℕ → A → List ℕ) where
       pub each-stop : i < n → g i (drop next text) ≡ None → read_each g n 0 (drop at text) ≡ None
       each-stop b e =
           let z : n - i ≡ suc (n - suc i) = omega arith in
-          h.whole Nothing o (rw z (stop (drop next text) (n - suc i) i e))
+          h.whole None o (rw z (stop (drop next text) (n - suc i) i e))
 
-      pub each-end : n ≤ i → Walks (read_each g n 0) (bytes_each f 0) (256 * n) text at out place (To next p) o
+      pub each-end : n ≤ i → Walks (read_each g n 0) (bytes_each f 0) (256 * n) text at out place (Some (next, p)) o
       each-end b =
           let z : n - i ≡ 0 = omega arith in
           let k : i ≡ n = omega (arith, h.few) in
-          record { is = h.whole (To next p) o (rw z (end text i next o p)); inside = (h.inside, omega (arith, h.short, k)) }
+          record { is = h.whole (Some (next, p)) o (rw z (end text i next o p)); inside = (h.inside, omega (arith, h.short, k)) }
 
   -- a list of n
   behind-length : (k : ℕ) (a : A) (o : Option (Read (List A))) (q : Read (List A)) → ((x : Read (List A)) → o ≡ Some x → length x.what ≡ k) → follow o (λ xs. give (a ∷ xs)) ≡ Some q → length q.what ≡ suc k
@@ -93,7 +91,7 @@ module _ {A : Type 0} (g : ℕ → Reader A) (f : ℕ → A → List ℕ) where
 
 -- ---- where a step ends
 
-module _ {A : Type 0} {m : Reader A} {f : A → List ℕ} {most : ℕ} {text : List ℕ} {at : ℕ} {out : List ℕ} {place : ℕ} {r : Step} {out' : List ℕ} (h : Walks m f most text at out place r out') {n p : ℕ} (e : r ≡ To n p) where
+module _ {A : Type 0} {m : Reader A} {f : A → List ℕ} {most : ℕ} {text : List ℕ} {at : ℕ} {out : List ℕ} {place : ℕ} {r : Option (ℕ × ℕ)} {out' : List ℕ} (h : Walks m f most text at out place r out') {n p : ℕ} (e : r ≡ Some (n, p)) where
   pub step-inside : n ≤ length text
   step-inside = (rw e at h.inside).0
 

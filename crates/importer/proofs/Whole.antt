@@ -20,14 +20,8 @@ use Rattle.language.specs.Listing as Listing
 use Rattle.mps.specs.Report.{bare_line, bare_lines, rows_from, variables_from, columns_of, sheet_lines, bare_of}
 use Rattle.mps.specs.Reading as mps
 use Rattle.mps.specs.Reading.{Read, Reader, follow, ◌>>=◌, give, expect, as_read, strip, line_value, first_has, later_have, read_floor, read_less, read_equal, read_upper, read_bounds, read_columns, read_discrete, Kinds, read_kinds, read_sheet, alone, sheet_in}
-use Rattle.importer.specs.declared.Step.{Step}
-use Rattle.importer.specs.declared.Step.TheVariants as step
 use Rattle.importer.specs.declared.MatrixRead.{MatrixRead}
-use Rattle.importer.specs.declared.MatrixRead.TheVariants as matrix
 use Rattle.importer.specs.declared.RowsRead.{RowsRead}
-use Rattle.importer.specs.declared.RowsRead.TheVariants as opened
-use Rattle.importer.specs.declared.Reading.{Reading}
-use Rattle.importer.specs.declared.Reading.TheVariants as reading
 use Rattle.importer.specs.Sections.{read_each, bytes_each, opening, columns_bytes, Matrix, read_matrix, matrix_bytes, Side, floor_at, side_at, side_bytes, bounds_at, bounds_bytes, rights_part, bounds_part, Sides, sides_part, sides_bytes, rights_of, floors_of, sheet_of, sheet_from}
 use Rattle.importer.specs.Steps.{Opens, Walked, Walks, WalkedMatrix, WalksMatrix}
 use Rattle.importer.specs.Reads.{Reads, ReadsFrom}
@@ -241,21 +235,21 @@ sheet-joins l = after-opening columns_in l ∙ go (opening l)
 
 -- ---- behind the columns
 
-module _ (bs : List Bool) (rows discrete variables : ℕ) (text : List ℕ) (at : ℕ) (out : List ℕ) (r : Step) (o : List ℕ) (w : Walks (rights_part bs rows) (bytes_each (side_bytes (length bs)) 0) 131072 text at out 0 r o) where
-  pub ending-none : (l : List ℕ) → r ≡ step.Nothing → Walks (sides_part bs rows variables) (sides_bytes (length bs) discrete) 262144 text at out 0 step.Nothing l
+module _ (bs : List Bool) (rows discrete variables : ℕ) (text : List ℕ) (at : ℕ) (out : List ℕ) (r : Option (ℕ × ℕ)) (o : List ℕ) (w : Walks (rights_part bs rows) (bytes_each (side_bytes (length bs)) 0) 131072 text at out 0 r o) where
+  pub ending-none : (l : List ℕ) → r ≡ None → Walks (sides_part bs rows variables) (sides_bytes (length bs) discrete) 262144 text at out 0 None l
   unfolding sides_part
   ending-none l e = record { is = rw (rw e at w.is); inside = tt }
 
-  module _ (n p : ℕ) (e : r ≡ step.To n p) where
+  module _ (n p : ℕ) (e : r ≡ Some (n, p)) where
     pub ending-place : p < 2 ^ 39
     ending-place = omega (arith, (rw e at w.inside).1)
 
     rights-read : Walked (rights_part bs rows) (bytes_each (side_bytes (length bs)) 0) text at out 0 n p o
     rights-read = rw e at w.is
 
-    pub ending-some : (q : Step) (o' : List ℕ) → Walks (bounds_part variables) (bytes_each (bounds_bytes discrete) 0) 131072 text n o p q o' → Walks (sides_part bs rows variables) (sides_bytes (length bs) discrete) 262144 text at out 0 q o'
+    pub ending-some : (q : Option (ℕ × ℕ)) (o' : List ℕ) → Walks (bounds_part variables) (bytes_each (bounds_bytes discrete) 0) 131072 text n o p q o' → Walks (sides_part bs rows variables) (sides_bytes (length bs) discrete) 262144 text at out 0 q o'
     unfolding sides_part sides_bytes
-    ending-some (step.To x y) o' v =
+    ending-some (Some (x, y)) o' v =
         record {
           is =
               record {
@@ -265,7 +259,7 @@ module _ (bs : List Bool) (rows discrete variables : ℕ) (text : List ℕ) (at 
               };
           inside = (v.inside.0, omega (arith, v.inside.1, (rw e at w.inside).1));
         }
-    ending-some step.Nothing o' v = record { is = rw (rights-read.is, v.is); inside = tt }
+    ending-some None o' v = record { is = rw (rights-read.is, v.is); inside = tt }
 
 -- ---- the report
 
@@ -303,82 +297,82 @@ something-after : (s : Sheet) (t : List ℕ) → (length t ≡ 0 → ⊥) → al
 something-after s [] h = absurd (h refl)
 something-after s (b ∷ t) h = refl
 
-reads_none : (n : Kinds) (text : List ℕ) (at : ℕ) (out l : List ℕ) → alone (sheet_from n (drop at text)) ≡ None → ReadsFrom n text at out reading.Nothing l
+reads_none : (n : Kinds) (text : List ℕ) (at : ℕ) (out l : List ℕ) → alone (sheet_from n (drop at text)) ≡ None → ReadsFrom n text at out None l
 reads_none n text at out l e = record { is = rw e tt }
 
-module _ (fs : List Bool) (equal : ℕ) (text : List ℕ) (at : ℕ) (spare spare' : List ℕ) (r : MatrixRead) (w : WalksMatrix fs (length fs + equal) text at spare 0 r spare') (out : List ℕ) where
+module _ (fs : List Bool) (equal : ℕ) (text : List ℕ) (at : ℕ) (spare spare' : List ℕ) (r : Option MatrixRead) (w : WalksMatrix fs (length fs + equal) text at spare 0 r spare') (out : List ℕ) where
   abbrev kinds : Kinds
   kinds = record { less = fs; equal = equal }
 
-  pub sheet-none : (l : List ℕ) → r ≡ matrix.Nothing → ReadsFrom (record { less = fs; equal = equal }) text at out reading.Nothing l
+  pub sheet-none : (l : List ℕ) → r ≡ None → ReadsFrom (record { less = fs; equal = equal }) text at out None l
   sheet-none l e = reads_none kinds text at out l (rw (sheet-out kinds (drop at text) (rw e at w.is)))
 
-  module _ (next p d v : ℕ) (e : r ≡ matrix.To next p d v) where
-    passed : WalkedMatrix fs (length fs + equal) text at spare 0 next p d v spare'
+  module _ (m : MatrixRead) (e : r ≡ Some m) where
+    passed : WalkedMatrix fs (length fs + equal) text at spare 0 m.next m.place m.discrete m.total spare'
     passed = rw e at w.is
 
-    pub sheet-inside : next ≤ length text
+    pub sheet-inside : m.next ≤ length text
     sheet-inside = (rw e at w.inside).0
 
-    pub sheet-few : v ≤ 512
+    pub sheet-few : m.total ≤ 512
     sheet-few = (rw e at w.inside).1
 
-    module _ (q : Step) (o : List ℕ) (u : Walks (sides_part fs (length fs + equal) v) (sides_bytes (length fs) d) 262144 text next out 0 q o) where
-      pub sheet-bad : (l : List ℕ) → q ≡ step.Nothing → ReadsFrom (record { less = fs; equal = equal }) text at out reading.Nothing l
+    module _ (q : Option (ℕ × ℕ)) (o : List ℕ) (u : Walks (sides_part fs (length fs + equal) m.total) (sides_bytes (length fs) m.discrete) 262144 text m.next out 0 q o) where
+      pub sheet-bad : (l : List ℕ) → q ≡ None → ReadsFrom (record { less = fs; equal = equal }) text at out None l
       sheet-bad l f =
           let a = passed in
-          reads_none kinds text at out l (rw (sheet-broken kinds (drop at text) a.walked.what (drop next text) v a.walked.is a.variables (rw f at u.is)))
+          reads_none kinds text at out l (rw (sheet-broken kinds (drop at text) a.walked.what (drop m.next text) m.total a.walked.is a.variables (rw f at u.is)))
 
-      module _ (end place : ℕ) (f : q ≡ step.To end place) where
-        told : Walked (sides_part fs (length fs + equal) v) (sides_bytes (length fs) d) text next out 0 end place o
+      module _ (end place : ℕ) (f : q ≡ Some (end, place)) where
+        told : Walked (sides_part fs (length fs + equal) m.total) (sides_bytes (length fs) m.discrete) text m.next out 0 end place o
         told = rw f at u.is
 
         pub sheet-place : place < 2 ^ 36
         sheet-place = omega (arith, (rw f at u.inside).1)
 
         whole : sheet_from kinds (drop at text) ≡ Some (record { what = sheet_of kinds passed.walked.what told.what; rest = drop end text })
-        whole = sheet-in kinds (drop at text) passed.walked.what (drop next text) v passed.walked.is passed.variables told.what (drop end text) told.is
+        whole = sheet-in kinds (drop at text) passed.walked.what (drop m.next text) m.total passed.walked.is passed.variables told.what (drop end text) told.is
 
-        pub sheet-long : (l : List ℕ) → end < length text → ReadsFrom (record { less = fs; equal = equal }) text at out reading.Nothing l
+        pub sheet-long : (l : List ℕ) → end < length text → ReadsFrom (record { less = fs; equal = equal }) text at out None l
         sheet-long l g =
             reads_none kinds text at out l (ap alone whole ∙ something-after _ (drop end text) (λ z. omega (arith, length-drop end text)))
 
-        module _ (g : length text ≤ end) (t : MatrixRead) (o' : List ℕ) (x : WalksMatrix fs (length fs + equal) text at o place t o') where
-          pub sheet-never : (l : List ℕ) → t ≡ matrix.Nothing → ReadsFrom (record { less = fs; equal = equal }) text at out reading.Nothing l
+        module _ (g : length text ≤ end) (t : Option MatrixRead) (o' : List ℕ) (x : WalksMatrix fs (length fs + equal) text at o place t o') where
+          pub sheet-never : (l : List ℕ) → t ≡ None → ReadsFrom (record { less = fs; equal = equal }) text at out None l
           sheet-never l h =
               let a = passed.walked.is in
               let b = rw h at x.is in
               absurd (let z : ◌≡◌ {A = ℕ} 0 1 = cc in omega arith)
 
-          pub sheet-all : (a y b c : ℕ) → t ≡ matrix.To a y b c → ReadsFrom (record { less = fs; equal = equal }) text at out (reading.Read y) o'
-          sheet-all a y b c h =
-              let k : WalkedMatrix fs (length fs + equal) text at o place a y b c o' = rw h at x.is in
+          pub sheet-all : (w : MatrixRead) → t ≡ Some w → ReadsFrom (record { less = fs; equal = equal }) text at out (Some w.place) o'
+          sheet-all z h =
+              let k : WalkedMatrix fs (length fs + equal) text at o place z.next z.place z.discrete z.total o' = rw h at x.is in
               let same : k.walked.what ≡ passed.walked.what = same-what _ _ _ _ _ k.walked.is passed.walked.is in
               let s = sheet_of kinds passed.walked.what told.what in
               let found : alone (sheet_from kinds (drop at text)) ≡ Some s = ap alone whole ∙ nothing-after s (drop end text) (omega (arith, length-drop end text)) in
-              let written : Written out 0 (sides_bytes (length fs) d told.what ++ matrix_bytes passed.walked.what) y o' = rw same at (written_then _ _ _ _ _ _ _ _ told.written k.walked.written) in
-              record { is = rw (found, report-bytes kinds passed.walked.what told.what d passed.discrete) written }
+              let written : Written out 0 (sides_bytes (length fs) m.discrete told.what ++ matrix_bytes passed.walked.what) z.place o' = rw same at (written_then _ _ _ _ _ _ _ _ told.written k.walked.written) in
+              record { is = rw (found, report-bytes kinds passed.walked.what told.what m.discrete passed.discrete) written }
 
 -- ---- the answer
 
-module _ (text : List ℕ) (r : RowsRead) (fs : List Bool) (h : Opens text r fs) where
-  pub read_none : (out l : List ℕ) → r ≡ opened.Nothing → Reads text out reading.Nothing l
+module _ (text : List ℕ) (r : Option RowsRead) (fs : List Bool) (h : Opens text r fs) where
+  pub read_none : (out l : List ℕ) → r ≡ None → Reads text out None l
   unfolding sheet_in
   read_none out l e = record { is = rw (sheet-joins text, (rw e at h.is)) tt }
 
-  module _ (n less equal : ℕ) (e : r ≡ opened.At n less equal) where
-    pub open-inside : n ≤ length text
+  module _ (z : RowsRead) (e : r ≡ Some z) where
+    pub open-inside : z.next ≤ length text
     open-inside = (rw e at h.inside).0
 
-    pub open-fits : less ≤ length fs
+    pub open-fits : z.less ≤ length fs
     open-fits = let i = rw e at h.inside in omega (arith, i.1, i.2)
 
-    pub open-size : less ≡ length (take less fs)
-    open-size = sym (length-take-le less fs open-fits)
+    pub open-size : z.less ≡ length (take z.less fs)
+    open-size = sym (length-take-le z.less fs open-fits)
 
-    pub open-few : length (take less fs) + equal ≤ 512
+    pub open-few : length (take z.less fs) + z.equal ≤ 512
     open-few = omega (arith, open-size, (rw e at h.inside).1)
 
-    pub read_some : (out : List ℕ) (q : Reading) (o : List ℕ) → ReadsFrom (record { less = take less fs; equal = equal }) text n out q o → Reads text out q o
+    pub read_some : (out : List ℕ) (q : Option ℕ) (o : List ℕ) → ReadsFrom (record { less = take z.less fs; equal = z.equal }) text z.next out q o → Reads text out q o
     unfolding sheet_in
     read_some out q o w = record { is = rw (sheet-joins text, (rw e at h.is)) w.is }

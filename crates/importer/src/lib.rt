@@ -16,34 +16,14 @@ ghost use Rattle.mps.specs.Export.{named as namedBytes};
 ghost use Rattle.mps.specs.Reading.{read_value, line_value, read_column, read_columns, read_discrete, read_upper};
 ghost use Rattle.importer.specs.Sections.{read_each, bytes_each, head_of, again_line, cell_at, cell_bytes, column_bytes, floor_at, side_shown, side_at, side_bytes, bounds_at, bounds_bytes, rights_part, bounds_part, sides_part, sides_bytes};
 ghost use Rattle.importer.specs.Reads.{ReadsFrom, Reads};
-ghost use Rattle.importer.specs.Steps.{Strips, LineEnds, Finds, FindsFloor, Lists, Counts, Opens, Walks, WalksColumns, WalksMatrix, FindsEnd, FindsBounds};
+ghost use Rattle.importer.specs.Steps.{Strips, LineEnds, Finds, Lists, Counts, Opens, Walks, WalksColumns, WalksMatrix, FindsEnd, FindsBounds};
 
-// The report's length, whether or not the output reaches that far; or that the text is no export.
+// An export's text, how many rows it has, and which of those of `<=` and `>=` have a floor.
 #[derive(Clone, Copy)]
-pub enum Reading {
-    Read(usize),
-    Nothing,
-}
-
-// Where the text goes on behind what was awaited, or that this is not there.
-#[derive(Clone, Copy)]
-enum Move {
-    At(usize),
-    Nothing,
-}
-
-// A value that was awaited, and where the text goes on.
-#[derive(Clone, Copy)]
-enum Found {
-    Value(value::Value, usize),
-    Nothing,
-}
-
-// Whether a floor is here, and where the text goes on.
-#[derive(Clone, Copy)]
-struct Floor {
-    has: bool,
-    at: usize,
+struct Export<'a> {
+    text: &'a [u8],
+    floors: &'a [bool],
+    rows: usize,
 }
 
 // The rows that were counted, and where the text goes on.
@@ -55,70 +35,51 @@ struct Count {
 
 // Where the columns begin, and the rows of either kind.
 #[derive(Clone, Copy)]
-enum RowsRead {
-    At(usize, usize, usize),
-    Nothing,
+struct RowsRead {
+    next: usize,
+    less: usize,
+    equal: usize,
 }
 
-// Where the text goes on behind what was read, and the place of the output behind what was written.
+// Where the text goes on behind columns that were read, the place of the output behind what was written, and how many they were.
 #[derive(Clone, Copy)]
-enum Step {
-    To(usize, usize),
-    Nothing,
-}
-
-// The same, with the columns that were read.
-#[derive(Clone, Copy)]
-enum ColumnsRead {
-    To(usize, usize, usize),
-    Nothing,
+struct ColumnsRead {
+    next: usize,
+    place: usize,
+    columns: usize,
 }
 
 // The same, with the whole variables and with all variables.
 #[derive(Clone, Copy)]
-enum MatrixRead {
-    To(usize, usize, usize, usize),
-    Nothing,
-}
-
-// An upper bound or a floor, and where the text goes on.
-#[derive(Clone, Copy)]
-enum EndFound {
-    At(Option<value::Value>, usize),
-    Nothing,
+struct MatrixRead {
+    next: usize,
+    place: usize,
+    discrete: usize,
+    total: usize,
 }
 
 // A variable's bounds, and where the text goes on.
 #[derive(Clone, Copy)]
-enum Limits {
-    At(value::Value, Option<value::Value>, usize),
-    Nothing,
+struct Limits {
+    lower: value::Value,
+    upper: Option<value::Value>,
+    next: usize,
 }
 
 // ---- words and numbers
 
-fn strip(text: &[u8], at: usize, word: &[u8]) -> Move
+fn strip(text: &[u8], at: usize, word: &[u8]) -> Option<usize>
     requires { at ≤ length text.now }
     ensures { Strips word.now text.now at result }
 {
-    let end = text.len();
-    let mut next = at;
-    let mut i = 0;
-    while i < word.len() {
-        if end <= next {
-            return Move::Nothing;
-        }
-        if text[next] != word[i] {
-            return Move::Nothing;
-        }
-        next += 1;
-        i += 1;
+    if text[at..].starts_with(word) {
+        return Some(at + word.len());
     }
-    Move::At(next)
+    None
 }
 
 // The print of a value.
-fn strip_print(text: &[u8], at: usize, v: value::Value) -> Move
+fn strip_print(text: &[u8], at: usize, v: value::Value) -> Option<usize>
     requires { at ≤ length text.now }
     ensures { Strips (shown v) text.now at result }
 {
@@ -127,7 +88,7 @@ fn strip_print(text: &[u8], at: usize, v: value::Value) -> Move
     strip(text, at, &digits[..k])
 }
 
-fn strip_number(text: &[u8], at: usize, n: usize) -> Move
+fn strip_number(text: &[u8], at: usize, n: usize) -> Option<usize>
     requires { (at ≤ length text.now) × (n < 1024) }
     ensures { Strips (natural n) text.now at result }
 {
@@ -135,31 +96,23 @@ fn strip_number(text: &[u8], at: usize, n: usize) -> Move
 }
 
 // A word, a number and a second word.
-fn named(text: &[u8], at: usize, word: &[u8], n: usize, tail: &[u8]) -> Move
+fn named(text: &[u8], at: usize, word: &[u8], n: usize, tail: &[u8]) -> Option<usize>
     requires { (at ≤ length text.now) × (n < 1024) }
     ensures { Strips (namedBytes word.now n tail.now) text.now at result }
 {
-    match strip(text, at, word) {
-        Move::At(next) => match strip_number(text, next, n) {
-            Move::At(next) => strip(text, next, tail),
-            Move::Nothing => Move::Nothing,
-        },
-        Move::Nothing => Move::Nothing,
-    }
+    let next = strip(text, at, word)?;
+    let next = strip_number(text, next, n)?;
+    strip(text, next, tail)
 }
 
 // The start of a coefficient's line, in a row or in its floor.
-fn cell_head(text: &[u8], at: usize, variable: usize, word: &[u8], row: usize) -> Move
+fn cell_head(text: &[u8], at: usize, variable: usize, word: &[u8], row: usize) -> Option<usize>
     requires { (at ≤ length text.now) × (variable < 1024) × (row < 1024) }
     ensures { Strips (head_of variable word.now row) text.now at result }
 {
-    match named(text, at, b" C", variable, word) {
-        Move::At(next) => match strip_number(text, next, row) {
-            Move::At(next) => strip(text, next, b" "),
-            Move::Nothing => Move::Nothing,
-        },
-        Move::Nothing => Move::Nothing,
-    }
+    let next = named(text, at, b" C", variable, word)?;
+    let next = strip_number(text, next, row)?;
+    strip(text, next, b" ")
 }
 
 // ---- values
@@ -169,30 +122,23 @@ fn line_end(text: &[u8], at: usize) -> usize
     requires { at ≤ length text.now }
     ensures { LineEnds text.now at result }
 {
-    let mut i = at;
-    while i < text.len() {
+    for i in at..text.len() {
         if text[i] == b'\n' {
             return i;
         }
-        i += 1;
     }
-    i
+    text.len()
 }
 
 // A literal, or a `-` and a literal.
 fn signed(t: &[u8]) -> Option<value::Value>
     ensures { result ≡ read_back t.now }
 {
-    if t.len() == 0 {
-        return None;
-    }
-    if t[0] != b'-' {
+    let Some(digits) = t.strip_prefix(b"-") else {
         return value::literal(t);
-    }
-    match value::literal(&t[1..]) {
-        Some(v) => Some(value::negated(v)),
-        None => None,
-    }
+    };
+    let v = value::literal(digits)?;
+    Some(value::negated(v))
 }
 
 // Are these bytes what a value prints as?
@@ -200,58 +146,42 @@ fn is_print(t: &[u8], v: value::Value) -> bool
     ensures { result ≡ same_bytes (shown v) t.now }
 {
     match strip_print(t, 0, v) {
-        Move::At(next) => t.len() <= next,
-        Move::Nothing => false,
+        Some(next) => t.len() <= next,
+        None => false,
     }
 }
 
 // A value as it is printed, and the line feed behind it.
-fn read_value(text: &[u8], at: usize) -> Found
+fn read_value(text: &[u8], at: usize) -> Option<(value::Value, usize)>
     requires { at ≤ length text.now }
     ensures { Finds read_value text.now at result }
 {
     let end = line_end(text, at);
     let t = &text[at..end];
-    match signed(t) {
-        Some(v) => {
-            if !is_print(t, v) {
-                return Found::Nothing;
-            }
-            match strip(text, end, b"\n") {
-                Move::At(next) => Found::Value(v, next),
-                Move::Nothing => Found::Nothing,
-            }
-        }
-        None => Found::Nothing,
+    let v = signed(t)?;
+    if !is_print(t, v) {
+        return None;
     }
+    let next = strip(text, end, b"\n")?;
+    Some((v, next))
 }
 
 // A line that ends with a value: a word, a number, a second word, the value.
-fn line_value(text: &[u8], at: usize, word: &[u8], n: usize, tail: &[u8]) -> Found
+fn line_value(
+    text: &[u8],
+    at: usize,
+    word: &[u8],
+    n: usize,
+    tail: &[u8],
+) -> Option<(value::Value, usize)>
     requires { (at ≤ length text.now) × (n < 1024) }
     ensures { Finds (line_value (namedBytes word.now n tail.now)) text.now at result }
 {
-    match named(text, at, word, n, tail) {
-        Move::At(next) => read_value(text, next),
-        Move::Nothing => Found::Nothing,
-    }
+    let next = named(text, at, word, n, tail)?;
+    read_value(text, next)
 }
 
 // ---- rows
-
-// The line of row i's floor, if it is here.
-fn floor_here(text: &[u8], at: usize, i: usize) -> Floor
-    requires { (at ≤ length text.now) × (i < 512) }
-    ensures { FindsFloor i text.now at result }
-{
-    match named(text, at, b" G F", i + 1, b"\n") {
-        Move::At(next) => Floor {
-            has: true,
-            at: next,
-        },
-        Move::Nothing => Floor { has: false, at: at },
-    }
-}
 
 // The lines of rows of `<=` and `>=`, counted; whether each has a floor is put down.
 fn less_rows(text: &[u8], at: usize, floors: &mut [bool]) -> Count
@@ -259,17 +189,18 @@ fn less_rows(text: &[u8], at: usize, floors: &mut [bool]) -> Count
     ensures { Lists text.now at result floors.new }
 {
     let mut next = at;
-    let mut k = 0;
-    while k < rules::ROW_LIMIT {
-        let Move::At(n) = named(text, next, b" L R", k + 1, b"\n") else {
+    for k in 0..rules::ROW_LIMIT {
+        let Some(n) = named(text, next, b" L R", k + 1, b"\n") else {
             return Count { rows: k, at: next };
         };
-        let floor = floor_here(text, n, k);
-        floors[k] = floor.has;
-        next = floor.at;
-        k += 1;
+        let floor = named(text, n, b" G F", k + 1, b"\n");
+        floors[k] = floor.is_some();
+        next = floor.unwrap_or(n);
     }
-    Count { rows: k, at: next }
+    Count {
+        rows: rules::ROW_LIMIT,
+        at: next,
+    }
 }
 
 // The lines of rows of `=`, from row `from` + 1 on, counted, at most so many.
@@ -278,84 +209,69 @@ fn equal_rows(text: &[u8], at: usize, from: usize, limit: usize) -> Count
     ensures { Counts text.now at from limit result }
 {
     let mut next = at;
-    let mut k = 0;
-    while k < limit {
-        let Move::At(n) = named(text, next, b" E R", from + k + 1, b"\n") else {
+    for k in 0..limit {
+        let Some(n) = named(text, next, b" E R", from + k + 1, b"\n") else {
             return Count { rows: k, at: next };
         };
         next = n;
-        k += 1;
     }
-    Count { rows: k, at: next }
+    Count {
+        rows: limit,
+        at: next,
+    }
 }
 
 // The text up to its columns.
-fn opening(text: &[u8], floors: &mut [bool; 512]) -> RowsRead
+fn opening(text: &[u8], floors: &mut [bool; 512]) -> Option<RowsRead>
     ensures { Opens text.now result floors.new }
 {
-    match strip(text, 0, b"NAME MODEL\nROWS\n N OBJ\n") {
-        Move::At(at) => {
-            let less = less_rows(text, at, floors);
-            let n = less.rows;
-            let equal = equal_rows(text, less.at, n, rules::ROW_LIMIT - n);
-            match strip(text, equal.at, b"COLUMNS\n") {
-                Move::At(next) => RowsRead::At(next, n, equal.rows),
-                Move::Nothing => RowsRead::Nothing,
-            }
-        }
-        Move::Nothing => RowsRead::Nothing,
-    }
+    let at = strip(text, 0, b"NAME MODEL\nROWS\n N OBJ\n")?;
+    let less = less_rows(text, at, floors);
+    let equal = equal_rows(text, less.at, less.rows, rules::ROW_LIMIT - less.rows);
+    let next = strip(text, equal.at, b"COLUMNS\n")?;
+    Some(RowsRead {
+        next,
+        less: less.rows,
+        equal: equal.rows,
+    })
 }
 
 // Whether row i has a floor, by those of the rows of `<=` and `>=`.
 fn has_floor(floors: &[bool], i: usize) -> bool
     ensures { result ≡ get_or floors.now i false }
 {
-    if i < floors.len() {
-        return floors[i];
-    }
-    false
+    i < floors.len() && floors[i]
 }
 
 // ---- coefficients; i and j count rows and variables from 0
 
 // A coefficient's line again, in the floor of its row, if this has one.
-fn again(text: &[u8], at: usize, floors: &[bool], j: usize, i: usize, v: value::Value) -> Move
-    requires { (at ≤ length text.now) × (j < 512) × (i < 512) × Valid v }
-    ensures { Strips (again_line floors.now j i v) text.now at result }
+fn again(t: Export, at: usize, j: usize, i: usize, v: value::Value) -> Option<usize>
+    requires { (at ≤ length t.text.now) × (j < 512) × (i < 512) × Valid v }
+    ensures { Strips (again_line t.entry.floors.now j i v) t.entry.text.now at result }
 {
-    if !has_floor(floors, i) {
-        return Move::At(at);
+    if !has_floor(t.floors, i) {
+        return Some(at);
     }
-    match cell_head(text, at, j + 1, b" F", i + 1) {
-        Move::At(next) => match strip_print(text, next, v) {
-            Move::At(next) => strip(text, next, b"\n"),
-            Move::Nothing => Move::Nothing,
-        },
-        Move::Nothing => Move::Nothing,
-    }
+    let next = cell_head(t.text, at, j + 1, b" F", i + 1)?;
+    let next = strip_print(t.text, next, v)?;
+    strip(t.text, next, b"\n")
 }
 
 // The coefficient of variable j in row i: 0 where its line is not here, and a line with a 0 is none.
-fn cell_at(text: &[u8], at: usize, floors: &[bool], j: usize, i: usize) -> Found
-    requires { (at ≤ length text.now) × (j < 512) × (i < 512) }
-    ensures { Finds (cell_at floors.now j i) text.now at result }
+fn cell_at(t: Export, at: usize, j: usize, i: usize) -> Option<(value::Value, usize)>
+    requires { (at ≤ length t.text.now) × (j < 512) × (i < 512) }
+    ensures { Finds (cell_at t.entry.floors.now j i) t.entry.text.now at result }
 {
-    match cell_head(text, at, j + 1, b" R", i + 1) {
-        Move::At(next) => match read_value(text, next) {
-            Found::Value(v, next) => {
-                if value::is_zero(v) {
-                    return Found::Nothing;
-                }
-                match again(text, next, floors, j, i, v) {
-                    Move::At(next) => Found::Value(v, next),
-                    Move::Nothing => Found::Nothing,
-                }
-            }
-            Found::Nothing => Found::Nothing,
-        },
-        Move::Nothing => Found::Value(value::of_whole(0), at),
+    let Some(next) = cell_head(t.text, at, j + 1, b" R", i + 1) else {
+        return Some((value::of_whole(0), at));
+    };
+    let (v, next) = read_value(t.text, next)?;
+    if value::is_zero(v) {
+        return None;
     }
+    let next = again(t, next, j, i, v)?;
+    Some((v, next))
 }
 
 fn column_line(variable: usize, row: usize, v: value::Value, out: &mut [u8], place: usize) -> usize
@@ -377,175 +293,117 @@ fn cell_line(variable: usize, row: usize, v: value::Value, out: &mut [u8], place
     column_line(variable, row, v, out, place)
 }
 
-fn cells(
-    text: &[u8],
-    at: usize,
-    floors: &[bool],
-    rows: usize,
-    j: usize,
-    out: &mut [u8],
-    place: usize,
-) -> Step
-    requires { (at ≤ length text.now) × (rows ≤ 512) × (j < 512) × (place < 2 ^ 39) }
-    ensures { Walks (read_each (cell_at floors.now j) rows 0) (bytes_each (cell_bytes j) 0) (256 * rows) text.now at out.old place result out.new }
+fn cells(t: Export, at: usize, j: usize, out: &mut [u8], place: usize) -> Option<(usize, usize)>
+    requires { (at ≤ length t.text.now) × (t.rows ≤ 512) × (j < 512) × (place < 2 ^ 39) }
+    ensures { Walks (read_each (cell_at t.entry.floors.now j) t.entry.rows 0) (bytes_each (cell_bytes j) 0) (256 * t.entry.rows) t.entry.text.now at out.old place result out.new }
 {
     let mut next = at;
     let mut to = place;
-    let mut i = 0;
-    while i < rows {
-        let Found::Value(v, n) = cell_at(text, next, floors, j, i) else {
-            return Step::Nothing;
-        };
+    for i in 0..t.rows {
+        let (v, n) = cell_at(t, next, j, i)?;
         to = cell_line(j + 1, i + 1, v, out, to);
         next = n;
-        i += 1;
     }
-    Step::To(next, to)
+    Some((next, to))
 }
 
 // The coefficients of variable j, and its objective coefficient, whose sign is changed again.
-fn column(
-    text: &[u8],
-    at: usize,
-    floors: &[bool],
-    rows: usize,
-    j: usize,
-    out: &mut [u8],
-    place: usize,
-) -> Step
-    requires { (at ≤ length text.now) × (rows ≤ 512) × (j < 512) × (place < 2 ^ 39) }
-    ensures { Walks (read_column floors.now rows j) (column_bytes j) 131328 text.now at out.old place result out.new }
+fn column(t: Export, at: usize, j: usize, out: &mut [u8], place: usize) -> Option<(usize, usize)>
+    requires { (at ≤ length t.text.now) × (t.rows ≤ 512) × (j < 512) × (place < 2 ^ 39) }
+    ensures { Walks (read_column t.entry.floors.now t.entry.rows j) (column_bytes j) 131328 t.entry.text.now at out.old place result out.new }
 {
-    match cells(text, at, floors, rows, j, out, place) {
-        Step::To(next, to) => match line_value(text, next, b" C", j + 1, b" OBJ ") {
-            Found::Value(v, next) => {
-                let to = column_line(j + 1, rows + 1, value::negated(v), out, to);
-                Step::To(next, to)
-            }
-            Found::Nothing => Step::Nothing,
-        },
-        Step::Nothing => Step::Nothing,
-    }
+    let (next, to) = cells(t, at, j, out, place)?;
+    let (v, next) = line_value(t.text, next, b" C", j + 1, b" OBJ ")?;
+    let to = column_line(j + 1, t.rows + 1, value::negated(v), out, to);
+    Some((next, to))
 }
 
 // Columns from variable `from` on, as far as their lines go, at most so many.
 fn columns(
-    text: &[u8],
+    t: Export,
     at: usize,
-    floors: &[bool],
-    rows: usize,
     from: usize,
     limit: usize,
     out: &mut [u8],
     place: usize,
-) -> ColumnsRead
-    requires { (at ≤ length text.now) × (rows ≤ 512) × (from + limit ≤ 512) × (place < 2 ^ 38) }
-    ensures { WalksColumns (read_columns floors.now rows limit from) from limit text.now at out.old place result out.new }
+) -> Option<ColumnsRead>
+    requires { (at ≤ length t.text.now) × (t.rows ≤ 512) × (from + limit ≤ 512) × (place < 2 ^ 38) }
+    ensures { WalksColumns (read_columns t.entry.floors.now t.entry.rows limit from) from limit t.entry.text.now at out.old place result out.new }
 {
     let mut next = at;
     let mut to = place;
-    let mut k = 0;
-    while k < limit {
-        let Move::At(_) = strip(text, next, b" C") else {
-            return ColumnsRead::To(next, to, k);
+    for k in 0..limit {
+        let Some(_) = strip(t.text, next, b" C") else {
+            return Some(ColumnsRead {
+                next,
+                place: to,
+                columns: k,
+            });
         };
-        let Step::To(n, p) = column(text, next, floors, rows, from + k, out, to) else {
-            return ColumnsRead::Nothing;
-        };
+        let (n, p) = column(t, next, from + k, out, to)?;
         next = n;
         to = p;
-        k += 1;
     }
-    ColumnsRead::To(next, to, k)
+    Some(ColumnsRead {
+        next,
+        place: to,
+        columns: limit,
+    })
 }
 
 // Whole variables, if any, between their markers.
-fn discrete(
-    text: &[u8],
-    at: usize,
-    floors: &[bool],
-    rows: usize,
-    out: &mut [u8],
-    place: usize,
-) -> ColumnsRead
-    requires { (at ≤ length text.now) × (rows ≤ 512) × (place < 2 ^ 37) }
-    ensures { WalksColumns (read_discrete floors.now rows) 0 512 text.now at out.old place result out.new }
+fn discrete(t: Export, at: usize, out: &mut [u8], place: usize) -> Option<ColumnsRead>
+    requires { (at ≤ length t.text.now) × (t.rows ≤ 512) × (place < 2 ^ 37) }
+    ensures { WalksColumns (read_discrete t.entry.floors.now t.entry.rows) 0 512 t.entry.text.now at out.old place result out.new }
 {
-    let Move::At(next) = strip(text, at, b" M 'MARKER' 'INTORG'\n") else {
-        return ColumnsRead::To(at, place, 0);
+    let Some(next) = strip(t.text, at, b" M 'MARKER' 'INTORG'\n") else {
+        return Some(ColumnsRead {
+            next: at,
+            place,
+            columns: 0,
+        });
     };
-    match columns(
-        text,
-        next,
-        floors,
-        rows,
-        0,
-        rules::VARIABLE_LIMIT,
-        out,
-        place,
-    ) {
-        ColumnsRead::To(next, to, k) => {
-            if k == 0 {
-                return ColumnsRead::Nothing;
-            }
-            match strip(text, next, b" M 'MARKER' 'INTEND'\n") {
-                Move::At(next) => ColumnsRead::To(next, to, k),
-                Move::Nothing => ColumnsRead::Nothing,
-            }
-        }
-        ColumnsRead::Nothing => ColumnsRead::Nothing,
+    let read = columns(t, next, 0, rules::VARIABLE_LIMIT, out, place)?;
+    if read.columns == 0 {
+        return None;
     }
+    let next = strip(t.text, read.next, b" M 'MARKER' 'INTEND'\n")?;
+    Some(ColumnsRead {
+        next,
+        place: read.place,
+        columns: read.columns,
+    })
 }
 
 // All columns.
-fn matrix(
-    text: &[u8],
-    at: usize,
-    floors: &[bool],
-    rows: usize,
-    out: &mut [u8],
-    place: usize,
-) -> MatrixRead
-    requires { (at ≤ length text.now) × (rows ≤ 512) × (place < 2 ^ 36) }
-    ensures { WalksMatrix floors.now rows text.now at out.old place result out.new }
+fn matrix(t: Export, at: usize, out: &mut [u8], place: usize) -> Option<MatrixRead>
+    requires { (at ≤ length t.text.now) × (t.rows ≤ 512) × (place < 2 ^ 36) }
+    ensures { WalksMatrix t.entry.floors.now t.entry.rows t.entry.text.now at out.old place result out.new }
 {
-    match discrete(text, at, floors, rows, out, place) {
-        ColumnsRead::To(next, to, d) => {
-            match columns(
-                text,
-                next,
-                floors,
-                rows,
-                d,
-                rules::VARIABLE_LIMIT - d,
-                out,
-                to,
-            ) {
-                ColumnsRead::To(next, to, k) => {
-                    let all = d + k;
-                    MatrixRead::To(next, to, d, all)
-                }
-                ColumnsRead::Nothing => MatrixRead::Nothing,
-            }
-        }
-        ColumnsRead::Nothing => MatrixRead::Nothing,
-    }
+    let whole = discrete(t, at, out, place)?;
+    let d = whole.columns;
+    let limit = rules::VARIABLE_LIMIT - d;
+    let other = columns(t, whole.next, d, limit, out, whole.place)?;
+    Some(MatrixRead {
+        next: other.next,
+        place: other.place,
+        discrete: d,
+        total: d + other.columns,
+    })
 }
 
 // ---- right sides
 
 // The floor of row i, if it has one.
-fn floor_at(text: &[u8], at: usize, floors: &[bool], i: usize) -> EndFound
-    requires { (at ≤ length text.now) × (i < 512) }
-    ensures { FindsEnd (floor_at floors.now i) text.now at result }
+fn floor_at(t: Export, at: usize, i: usize) -> Option<(Option<value::Value>, usize)>
+    requires { (at ≤ length t.text.now) × (i < 512) }
+    ensures { FindsEnd (floor_at t.entry.floors.now i) t.entry.text.now at result }
 {
-    if !has_floor(floors, i) {
-        return EndFound::At(None, at);
+    if !has_floor(t.floors, i) {
+        return Some((None, at));
     }
-    match line_value(text, at, b" MODEL F", i + 1, b" ") {
-        Found::Value(v, next) => EndFound::At(Some(v), next),
-        Found::Nothing => EndFound::Nothing,
-    }
+    let (v, next) = line_value(t.text, at, b" MODEL F", i + 1, b" ")?;
+    Some((Some(v), next))
 }
 
 fn row_line(
@@ -593,77 +451,49 @@ fn side_lines(
     low_line(number, floor, out, next)
 }
 
-fn rights(
-    text: &[u8],
-    at: usize,
-    floors: &[bool],
-    rows: usize,
-    out: &mut [u8],
-    place: usize,
-) -> Step
-    requires { (at ≤ length text.now) × (rows ≤ 512) × (place < 2 ^ 39) }
-    ensures { Walks (read_each (side_at floors.now) rows 0) (bytes_each (side_bytes (length floors.now)) 0) (256 * rows) text.now at out.old place result out.new }
+fn rights(t: Export, at: usize, out: &mut [u8], place: usize) -> Option<(usize, usize)>
+    requires { (at ≤ length t.text.now) × (t.rows ≤ 512) × (place < 2 ^ 39) }
+    ensures { Walks (read_each (side_at t.entry.floors.now) t.entry.rows 0) (bytes_each (side_bytes (length t.entry.floors.now)) 0) (256 * t.entry.rows) t.entry.text.now at out.old place result out.new }
 {
     let mut next = at;
     let mut to = place;
-    let mut i = 0;
-    while i < rows {
-        let Found::Value(v, n) = line_value(text, next, b" MODEL R", i + 1, b" ") else {
-            return Step::Nothing;
-        };
-        let EndFound::At(floor, n) = floor_at(text, n, floors, i) else {
-            return Step::Nothing;
-        };
-        to = side_lines(i + 1, floors.len() <= i, v, floor, out, to);
+    for i in 0..t.rows {
+        let (v, n) = line_value(t.text, next, b" MODEL R", i + 1, b" ")?;
+        let (floor, n) = floor_at(t, n, i)?;
+        to = side_lines(i + 1, t.floors.len() <= i, v, floor, out, to);
         next = n;
-        i += 1;
     }
-    Step::To(next, to)
+    Some((next, to))
 }
 
-fn rights_part(
-    text: &[u8],
-    at: usize,
-    floors: &[bool],
-    rows: usize,
-    out: &mut [u8],
-    place: usize,
-) -> Step
-    requires { (at ≤ length text.now) × (rows ≤ 512) × (place < 2 ^ 39) }
-    ensures { Walks (rights_part floors.now rows) (bytes_each (side_bytes (length floors.now)) 0) 131072 text.now at out.old place result out.new }
+fn rights_part(t: Export, at: usize, out: &mut [u8], place: usize) -> Option<(usize, usize)>
+    requires { (at ≤ length t.text.now) × (t.rows ≤ 512) × (place < 2 ^ 39) }
+    ensures { Walks (rights_part t.entry.floors.now t.entry.rows) (bytes_each (side_bytes (length t.entry.floors.now)) 0) 131072 t.entry.text.now at out.old place result out.new }
 {
-    match strip(text, at, b"RHS\n") {
-        Move::At(next) => rights(text, next, floors, rows, out, place),
-        Move::Nothing => Step::Nothing,
-    }
+    let next = strip(t.text, at, b"RHS\n")?;
+    rights(t, next, out, place)
 }
 
 // ---- bounds
 
-fn upper_at(text: &[u8], at: usize, number: usize) -> EndFound
+fn upper_at(text: &[u8], at: usize, number: usize) -> Option<(Option<value::Value>, usize)>
     requires { (at ≤ length text.now) × (number < 1024) }
     ensures { FindsEnd (read_upper number) text.now at result }
 {
-    match named(text, at, b" PL MODEL C", number, b"\n") {
-        Move::At(next) => EndFound::At(None, next),
-        Move::Nothing => match line_value(text, at, b" UP MODEL C", number, b" ") {
-            Found::Value(v, next) => EndFound::At(Some(v), next),
-            Found::Nothing => EndFound::Nothing,
-        },
+    if let Some(next) = named(text, at, b" PL MODEL C", number, b"\n") {
+        return Some((None, next));
     }
+    let (v, next) = line_value(text, at, b" UP MODEL C", number, b" ")?;
+    Some((Some(v), next))
 }
 
-fn bounds_at(text: &[u8], at: usize, j: usize) -> Limits
+fn bounds_at(text: &[u8], at: usize, j: usize) -> Option<Limits>
     requires { (at ≤ length text.now) × (j < 512) }
     ensures { FindsBounds (bounds_at j) text.now at result }
 {
-    match line_value(text, at, b" LO MODEL C", j + 1, b" ") {
-        Found::Value(v, next) => match upper_at(text, next, j + 1) {
-            EndFound::At(u, next) => Limits::At(v, u, next),
-            EndFound::Nothing => Limits::Nothing,
-        },
-        Found::Nothing => Limits::Nothing,
-    }
+    let (lower, next) = line_value(text, at, b" LO MODEL C", j + 1, b" ")?;
+    let (upper, next) = upper_at(text, next, j + 1)?;
+    Some(Limits { lower, upper, next })
 }
 
 fn variable_line(
@@ -688,22 +518,18 @@ fn bounds(
     variables: usize,
     out: &mut [u8],
     place: usize,
-) -> Step
+) -> Option<(usize, usize)>
     requires { (at ≤ length text.now) × (variables ≤ 512) × (place < 2 ^ 39) }
     ensures { Walks (read_each bounds_at variables 0) (bytes_each (bounds_bytes discrete) 0) (256 * variables) text.now at out.old place result out.new }
 {
     let mut next = at;
     let mut to = place;
-    let mut j = 0;
-    while j < variables {
-        let Limits::At(lower, upper, n) = bounds_at(text, next, j) else {
-            return Step::Nothing;
-        };
-        to = variable_line(j + 1, j < discrete, lower, upper, out, to);
-        next = n;
-        j += 1;
+    for j in 0..variables {
+        let limits = bounds_at(text, next, j)?;
+        to = variable_line(j + 1, j < discrete, limits.lower, limits.upper, out, to);
+        next = limits.next;
     }
-    Step::To(next, to)
+    Some((next, to))
 }
 
 fn bounds_part(
@@ -713,74 +539,56 @@ fn bounds_part(
     variables: usize,
     out: &mut [u8],
     place: usize,
-) -> Step
+) -> Option<(usize, usize)>
     requires { (at ≤ length text.now) × (variables ≤ 512) × (place < 2 ^ 39) }
     ensures { Walks (bounds_part variables) (bytes_each (bounds_bytes discrete) 0) 131072 text.now at out.old place result out.new }
 {
-    let Move::At(next) = strip(text, at, b"BOUNDS\n") else {
-        return Step::Nothing;
-    };
-    match bounds(text, next, discrete, variables, out, place) {
-        Step::To(next, to) => match strip(text, next, b"ENDATA\n") {
-            Move::At(next) => Step::To(next, to),
-            Move::Nothing => Step::Nothing,
-        },
-        Step::Nothing => Step::Nothing,
-    }
+    let next = strip(text, at, b"BOUNDS\n")?;
+    let (next, to) = bounds(text, next, discrete, variables, out, place)?;
+    let next = strip(text, next, b"ENDATA\n")?;
+    Some((next, to))
 }
 
 // ---- the whole text
 
 // What stands behind the columns.
 fn ending(
-    text: &[u8],
+    t: Export,
     at: usize,
-    floors: &[bool],
-    rows: usize,
     discrete: usize,
     variables: usize,
     out: &mut [u8],
-) -> Step
-    requires { (at ≤ length text.now) × (rows ≤ 512) × (variables ≤ 512) }
-    ensures { Walks (sides_part floors.now rows variables) (sides_bytes (length floors.now) discrete) 262144 text.now at out.old 0 result out.new }
+) -> Option<(usize, usize)>
+    requires { (at ≤ length t.text.now) × (t.rows ≤ 512) × (variables ≤ 512) }
+    ensures { Walks (sides_part t.entry.floors.now t.entry.rows variables) (sides_bytes (length t.entry.floors.now) discrete) 262144 t.entry.text.now at out.old 0 result out.new }
 {
-    match rights_part(text, at, floors, rows, out, 0) {
-        Step::To(next, to) => bounds_part(text, next, discrete, variables, out, to),
-        Step::Nothing => Step::Nothing,
-    }
+    let (next, to) = rights_part(t, at, out, 0)?;
+    bounds_part(t.text, next, discrete, variables, out, to)
 }
 
 // From the columns on. These are passed over first, with nowhere to write them, since they are reported last.
-fn sheet(text: &[u8], at: usize, floors: &[bool], equal: usize, out: &mut [u8]) -> Reading
+fn sheet(text: &[u8], at: usize, floors: &[bool], equal: usize, out: &mut [u8]) -> Option<usize>
     requires { (at ≤ length text.now) × (length floors.now + equal ≤ 512) }
     ensures { ReadsFrom (record { less = floors.now; equal = equal }) text.now at out.old result out.new }
 {
     let rows = floors.len() + equal;
+    let t = Export { text, floors, rows };
     let mut spare = [0u8; 1];
-    let MatrixRead::To(next, _, discrete, variables) = matrix(text, at, floors, rows, &mut spare, 0)
-    else {
-        return Reading::Nothing;
-    };
-    let Step::To(end, place) = ending(text, next, floors, rows, discrete, variables, out) else {
-        return Reading::Nothing;
-    };
+    let passed = matrix(t, at, &mut spare, 0)?;
+    let (end, place) = ending(t, passed.next, passed.discrete, passed.total, out)?;
     if end < text.len() {
-        return Reading::Nothing;
+        return None;
     }
-    match matrix(text, at, floors, rows, out, place) {
-        MatrixRead::To(_, length, _, _) => Reading::Read(length),
-        MatrixRead::Nothing => Reading::Nothing,
-    }
+    let written = matrix(t, at, out, place)?;
+    Some(written.place)
 }
 
 // Writes the report of an export, as far as the output reaches; its length. Nothing is an answer about the text alone: what the output
 // then holds is left open.
-pub fn read(text: &[u8], out: &mut [u8]) -> Reading
+pub fn read(text: &[u8], out: &mut [u8]) -> Option<usize>
     ensures { Reads text.now out.old result out.new }
 {
     let mut floors = [false; 512];
-    match opening(text, &mut floors) {
-        RowsRead::At(at, less, equal) => sheet(text, at, &floors[..less], equal, out),
-        RowsRead::Nothing => Reading::Nothing,
-    }
+    let rows = opening(text, &mut floors)?;
+    sheet(text, rows.next, &floors[..rows.less], rows.equal, out)
 }

@@ -15,7 +15,8 @@ use Rattle.lexer.specs.Text as Text
 use Rattle.lexer.specs.Text.{Kind, mark, name, literal, string, end, wrong, tokens_from, uncounted, counted, tokens}
 use Rattle.lexer.specs.declared.Token.{Token}
 use Rattle.lexer.specs.declared.Token.TheVariants.{Mark, Name, Literal, String, End, Wrong}
-use Rattle.lexer.specs.declared.Step.{Step}
+use Rattle.lexer.specs.declared.Cursor.{Cursor}
+use Rattle.lexer.specs.declared.Read.{Read}
 use Rattle.lexer.specs.declared.Source.{Source}
 use Rattle.lexer.specs.View.{kind_of, Part, Within, is_last, Reads, coming_at, start_of, Turns}
 use Rattle.lexer.proofs.Runs.{true-false}
@@ -34,7 +35,7 @@ module _ (s : List ℕ) (p : ℕ) (t : Token) (w : Within s p t) where
 
 -- ---- one call after the other
 
-module _ (s : List ℕ) (call : ℕ → Step) where
+module _ (s : List ℕ) (call : ℕ → Read Cursor) where
   abbrev given : ℕ → Text.Token
   given at = record { kind = kind_of s (call at).token; place = (call at).place }
 
@@ -56,9 +57,6 @@ module _ (s : List ℕ) (call : ℕ → Step) where
       go false e r = let m = (w at).placed.moves e in ap (λ (l : List Text.Token). given at ∷ l) (r (omega (arith, m.0, m.1, (w at).placed.low)) ∙ rw e refl)
 
 -- ---- which tokens end the count
-
-pub ends_is : (t u : Token) (r : Bool) → t ≡ u → r ≡ uncounted (kind_of [] u) → r ≡ uncounted (kind_of [] t)
-ends_is t u r e h = rw e h
 
 any-text : (s : List ℕ) (t : Token) → uncounted (kind_of [] t) ≡ uncounted (kind_of s t)
 unfolding uncounted
@@ -99,7 +97,7 @@ counts-on : (c f : Bool) → (not c || f) ≡ false → (c ≡ true) × (f ≡ f
 counts-on true f e = (refl, e)
 counts-on false f e = true-false e
 
-module _ (s : List ℕ) (self : Source) (r : Step) (f : Bool) where
+module _ (s : List ℕ) (self : Source) (r : Read Cursor) (f : Bool) where
   pub turn-free : Reads s self.at r → f ≡ uncounted (kind_of [] r.token) → (not self.counts || f) ≡ true
       → Turns s self (record { token = r.token; place = r.place; next = record { at = r.next.at; left = self.left; counts = false } })
   unfolding coming_at

@@ -11,9 +11,8 @@ use lib.Dec.{eqb, leb}
 use lib.ListN.{length, get_or, take, drop, drop_of_length-le, length-drop}
 use lib.Seq.{drop-drop, take-add, length-take-le}
 use Rattle.rules.specs.Limits.{power_digits}
-use Rattle.value.specs.Literal.{literal_of}
+use Rattle.value.specs.Literal.{is_digit, literal_of}
 use Rattle.value.proofs.Reading.{literal-valid}
-use Rattle.lexer.specs.declared.Class.TheVariants.{Digit}
 use Rattle.lexer.specs.Text.{literal_kind, valued, sign_length, power_size, power_length, powered}
 use Rattle.lexer.specs.Inner.{RunLength, SignLength, PowerLength, Gives, found_of}
 use Rattle.lexer.specs.View.{part_of}
@@ -77,7 +76,7 @@ size-most g (suc n) m h = go (leb (suc n) 2) refl
     go true e = omega arith
     go false e = omega (arith, leb-false (suc n) 2 e)
 
-pub power-here : (s : List ℕ) (at b g n r : ℕ) → at < length s → b ≡ get_or s at 0 → b ≡ 69 → SignLength s (at + 1) g → RunLength s (at + 1 + g) Digit n → r ≡ power_size g n
+pub power-here : (s : List ℕ) (at b g n r : ℕ) → at < length s → b ≡ get_or s at 0 → b ≡ 69 → SignLength s (at + 1) g → RunLength s (at + 1 + g) is_digit n → r ≡ power_size g n
     → PowerLength s at r
 unfolding power_length
 power-here s at b g n r h e f w c q =

@@ -1,27 +1,20 @@
 -- Runs of bytes of a class, by positions, and parts of the text.
 use mathlib.Core.Path.{◌≡◌, refl, sym, ◌∙◌, ap}
-use mathlib.Core.Bool.{Bool, true, false, not}
+use mathlib.Core.Bool.{Bool, true, false}
 use mathlib.Core.List.{List, [], ◌∷◌}
 use Prim.Native.Nat.{ℕ, suc, ◌+◌, ◌-◌, ◌<◌, ◌≤◌}
 use native.Mathlib.Omega.{arith}
 use native.Mathlib.Numerals.{add-one}
-use borrow.Author.Tests.{not-true, not-false}
 use lib.ListN.{length, get_or, take, drop, drop_of_length-le, length-drop}
-use lib.Seq.{drop-cons, drop-drop, take_all, take-nil}
-use Rattle.lexer.specs.declared.Class.{Class}
+use lib.Seq.{drop-cons, drop-drop}
 use Rattle.lexer.specs.Text.{no_brace, front, behind}
-use Rattle.lexer.specs.View.{part_of}
-use Rattle.lexer.specs.Inner.{class_of, RunLength}
+use Rattle.lexer.specs.Inner.{RunLength}
 
 pub true-false : {A : Type 0} → ◌≡◌ {A = Bool} true false → A
 true-false e = absurd (let z : ◌≡◌ {A = ℕ} 0 1 = cc in omega arith)
 
 pub drop_here : (s : List ℕ) (i : ℕ) → i < length s → drop i s ≡ get_or s i 0 ∷ drop (i + 1) s
 drop_here s i h = rw (add-one i, drop-cons s i 0)
-
--- the class of a byte, by cases on the class
-pub class-is : (k j : Class) (b : ℕ) (r : Bool) → k ≡ j → r ≡ class_of j b → r ≡ class_of k b
-class-is k j b r e h = rw e h
 
 -- ---- fronts
 
@@ -75,54 +68,42 @@ module _ (c : ℕ → Bool) where
 
 -- ---- the loop of `run_length`
 
-pub run_is : (s : List ℕ) (at : ℕ) (k : Class) (n : ℕ) → n ≡ length (front (class_of k) (drop at s)) → RunLength s at k n
-run_is s at k n e = record { count = e; bound = omega (arith, e, front_length (class_of k) (drop at s), length-drop at s) }
+pub run_is : (s : List ℕ) (at : ℕ) (k : ℕ → Bool) (n : ℕ) → n ≡ length (front k (drop at s)) → RunLength s at k n
+run_is s at k n e = record { count = e; bound = omega (arith, e, front_length k (drop at s), length-drop at s) }
 
 -- i - at bytes of the run are passed
-pub record Run (s : List ℕ) (at : ℕ) (k : Class) (i : ℕ) : Type 0 where
+pub record Run (s : List ℕ) (at : ℕ) (k : ℕ → Bool) (i : ℕ) : Type 0 where
   pub low : at ≤ i
-  pub same : (i - at) + length (front (class_of k) (drop i s)) ≡ length (front (class_of k) (drop at s))
+  pub same : (i - at) + length (front k (drop i s)) ≡ length (front k (drop at s))
 
-pub run-first : (s : List ℕ) (at : ℕ) (k : Class) → Run s at k at
+pub run-first : (s : List ℕ) (at : ℕ) (k : ℕ → Bool) → Run s at k at
 run-first s at k = record { low = omega arith; same = omega arith }
 
-module _ (s : List ℕ) (at : ℕ) (k : Class) (i : ℕ) where
-  pub run_more : (m : Bool) → Run s at k i → i < length s → m ≡ class_of k (get_or s i 0) → not m ≡ false → Run s at k (i + 1)
+module _ (s : List ℕ) (at : ℕ) (k : ℕ → Bool) (i : ℕ) where
+  pub run_more : (m : Bool) → Run s at k i → i < length s → m ≡ k (get_or s i 0) → m ≡ true → Run s at k (i + 1)
   run_more m w h e f =
-      let n = more (class_of k) s i h (sym e ∙ not-false m f) in
+      let n = more k s i h (sym e ∙ f) in
       record { low = omega (arith, w.low); same = omega (arith, n, w.low, w.same) }
 
-  pub run-stop : (m : Bool) → Run s at k i → i < length s → m ≡ class_of k (get_or s i 0) → not m ≡ true → RunLength s at k (i - at)
-  run-stop m w h e f = run_is s at k (i - at) (omega (arith, stop (class_of k) s i h (sym e ∙ not-true m f), w.same))
+  pub run-stop : (m : Bool) → Run s at k i → i < length s → m ≡ k (get_or s i 0) → m ≡ false → RunLength s at k (i - at)
+  run-stop m w h e f = run_is s at k (i - at) (omega (arith, stop k s i h (sym e ∙ f), w.same))
 
-  pub run_out : Run s at k i → length s ≤ i → RunLength s at k (i - at)
-  run_out w h = run_is s at k (i - at) (omega (arith, ap length (front_out (class_of k) s i h), w.same))
+  pub run_out : (n : ℕ) → Run s at k i → (at ≤ length s → i ≤ length s) → length s ≤ i → n ≡ length s - at → RunLength s at k n
+  run_out n w g h e = run_is s at k n (omega (arith, ap length (front_out k s i h), front_length k (drop at s), length-drop at s, w.low, w.same))
 
 -- ---- a run as a part of the text
 
-module _ (s : List ℕ) (at : ℕ) (k : Class) (n : ℕ) (w : RunLength s at k n) where
-  pub run-part : take n (drop at s) ≡ front (class_of k) (drop at s)
-  run-part = rw w.count (sym (front-take (class_of k) (drop at s)))
+module _ (s : List ℕ) (at : ℕ) (k : ℕ → Bool) (n : ℕ) (w : RunLength s at k n) where
+  pub run-part : take n (drop at s) ≡ front k (drop at s)
+  run-part = rw w.count (sym (front-take k (drop at s)))
 
-  pub run-slice : take (at + n - at) (drop at s) ≡ front (class_of k) (drop at s)
+  pub run-slice : take (at + n - at) (drop at s) ≡ front k (drop at s)
   run-slice = let e : at + n - at ≡ n = omega arith in rw e run-part
 
-  pub run-behind : behind (class_of k) (drop at s) ≡ drop (at + n) s
-  run-behind = behind-drop (class_of k) (drop at s) ∙ rw (← w.count) (drop-drop n at s)
+  pub run-behind : behind k (drop at s) ≡ drop (at + n) s
+  run-behind = behind-drop k (drop at s) ∙ rw (← w.count) (drop-drop n at s)
 
--- ---- the parts that `part` and `between_braces` give
-
-module _ (s : List ℕ) (at n : ℕ) where
-  pub part_out : length s ≤ at → take (length s - length s) (drop (length s) s) ≡ part_of s at n
-  part_out h =
-      let z : length s - length s ≡ 0 = omega arith in
-      rw (z, drop_of_length-le s {i = at} h) (sym (take-nil n))
-
-  pub part-rest : length s - at ≤ n → take (length s - at) (drop at s) ≡ part_of s at n
-  part-rest h = take_all (length s - at) (drop at s) (omega (arith, length-drop at s)) ∙ sym (take_all n (drop at s) (omega (arith, length-drop at s)))
-
-  pub part-whole : take (at + n - at) (drop at s) ≡ part_of s at n
-  part-whole = let e : at + n - at ≡ n = omega arith in rw e refl
+-- ---- the part that `between_braces` gives
 
 pub braces-out : (s : List ℕ) (at : ℕ) → length s ≤ at → take (length s - length s) (drop (length s) s) ≡ front no_brace (drop (at + 1) s)
 braces-out s at h = let z : length s - length s ≡ 0 = omega arith in rw z (sym (front_out no_brace s (at + 1) (omega arith)))

@@ -8,7 +8,6 @@ use lib.ListN.{length, get_or, drop, drop_of_length-le, length-drop}
 use lib.Seq.{drop-drop}
 use Rattle.lexer.specs.Text as Text
 use Rattle.lexer.specs.Text.{Kind, end, is_blank, is_wrong, front, step_at, tokens_from}
-use Rattle.lexer.specs.declared.Class.TheVariants.{Blank}
 use Rattle.lexer.specs.declared.Found.{Found}
 use Rattle.lexer.specs.declared.Token.TheVariants.{End}
 use Rattle.lexer.specs.View.{kind_of, is_last, Placed, Reads}
@@ -103,7 +102,7 @@ module _ (s : List ℕ) (at : ℕ) (f : Found) (h : at < length s) (v : Gives s 
 
 -- ---- the cursor's answers
 
-module _ (s : List ℕ) (from n : ℕ) (w : RunLength s from Blank n) where
+module _ (s : List ℕ) (from n : ℕ) (w : RunLength s from is_blank n) where
   passed : drop (length (front is_blank (drop from s))) (drop from s) ≡ drop (from + n) s
   passed = rw (← w.count) (drop-drop n from s)
 

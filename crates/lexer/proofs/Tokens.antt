@@ -1,6 +1,4 @@
 -- What each function that reads a token answers, as laws over plain variables.
-use Rattle.std.specs.Prelude.{Option}
-use Rattle.value.specs.declared.Value.{Value}
 use mathlib.Core.Path.{◌≡◌, refl, sym, ◌∙◌, ap, subst}
 use mathlib.Core.Bool.{Bool, true, false, cond, ◌&&◌, ◌||◌}
 use mathlib.Core.List.{List, [], ◌∷◌, ◌++◌}
@@ -17,28 +15,27 @@ use Rattle.value.specs.Literal.{is_digit}
 use Rattle.lexer.specs.Marks.{capital_words, small_words}
 use Rattle.lexer.specs.Text as Text
 use Rattle.lexer.specs.Text.{mark, name, string, wrong, is_small, is_capital, is_sign, in_name, in_string, no_brace, front, behind, pointed, step, powered, name_step, word_step, literal_step, strange, well_shaped, string_step, order_step, step_at}
-use Rattle.lexer.specs.declared.Class.TheVariants.{Digit, InName, Capital, NoBrace, InString}
 use Rattle.lexer.specs.declared.Found.{Found}
 use Rattle.lexer.specs.declared.Token.TheVariants.{Mark, Name, String, Wrong}
 use Rattle.lexer.specs.View.{part_of}
-use Rattle.lexer.specs.Inner.{RunLength, IsWord, Gives, found_of, PointAfter, fraction_step, other_step}
+use Rattle.lexer.specs.Inner.{RunLength, IsWord, Gives, PointAfter, fraction_step, other_step}
 use Rattle.lexer.proofs.Runs.{true-false, drop_here, run_is, run-part, run-slice, run-behind}
 
 -- ---- names and words
 
 module _ (s : List ℕ) (at n w : ℕ) where
-  name-is : RunLength s at InName n → IsWord small_words (take (at + n - at) (drop at s)) w
+  name-is : RunLength s at in_name n → IsWord small_words (take (at + n - at) (drop at s)) w
       → name_step at (front in_name (drop at s)) ≡ step (cond (eqb w 0) (cond (leb n name_length) (name (part_of s at n)) (wrong BadName)) (mark w)) at n
   unfolding name_step
   name-is c i =
-      let j : IsWord small_words (front in_name (drop at s)) w = subst (λ (l : List ℕ). IsWord small_words l w) (run-slice s at InName n c) i in
-      rw (run-part s at InName n c, ← c.count) (ap (λ k. step k at n) (j.is _))
+      let j : IsWord small_words (front in_name (drop at s)) w = subst (λ (l : List ℕ). IsWord small_words l w) (run-slice s at in_name n c) i in
+      rw (run-part s at in_name n c, ← c.count) (ap (λ k. step k at n) (j.is _))
 
-  pub name-word : RunLength s at InName n → IsWord small_words (take (at + n - at) (drop at s)) w → (w ≡ 0 → ⊥)
+  pub name-word : RunLength s at in_name n → IsWord small_words (take (at + n - at) (drop at s)) w → (w ≡ 0 → ⊥)
       → Gives s (record { token = Mark w; place = at; size = n }) (name_step at (front in_name (drop at s)))
   name-word c i e = record { same = sym (name-is c i ∙ rw (ne_eqb w 0 e) refl); within = tt }
 
-  pub name_new : at < length s → RunLength s at InName n → IsWord small_words (take (at + n - at) (drop at s)) w → w ≡ 0 → n ≤ name_length
+  pub name_new : at < length s → RunLength s at in_name n → IsWord small_words (take (at + n - at) (drop at s)) w → w ≡ 0 → n ≤ name_length
       → Gives s (record { token = Name at n; place = at; size = n }) (name_step at (front in_name (drop at s)))
   name_new a c i e h =
       record {
@@ -46,22 +43,22 @@ module _ (s : List ℕ) (at n w : ℕ) where
         within = record { starts = refl; short = h; inside = omega (arith, c.bound) };
       }
 
-  pub name-long : RunLength s at InName n → IsWord small_words (take (at + n - at) (drop at s)) w → w ≡ 0 → name_length < n
+  pub name-long : RunLength s at in_name n → IsWord small_words (take (at + n - at) (drop at s)) w → w ≡ 0 → name_length < n
       → Gives s (record { token = Wrong BadName; place = at; size = n }) (name_step at (front in_name (drop at s)))
   name-long c i e h = record { same = sym (name-is c i ∙ rw (eq-eqb w 0 e, lt-leb n name_length h) refl); within = tt }
 
-  word-is : RunLength s at Capital n → IsWord capital_words (take (at + n - at) (drop at s)) w
+  word-is : RunLength s at is_capital n → IsWord capital_words (take (at + n - at) (drop at s)) w
       → word_step at (front is_capital (drop at s)) ≡ step (cond (eqb w 0) (wrong Misplaced) (mark w)) at n
   unfolding word_step
   word-is c i =
-      let j : IsWord capital_words (front is_capital (drop at s)) w = subst (λ (l : List ℕ). IsWord capital_words l w) (run-slice s at Capital n c) i in
+      let j : IsWord capital_words (front is_capital (drop at s)) w = subst (λ (l : List ℕ). IsWord capital_words l w) (run-slice s at is_capital n c) i in
       rw (← c.count) (ap (λ k. step k at n) (j.is _))
 
-  pub word-mark : RunLength s at Capital n → IsWord capital_words (take (at + n - at) (drop at s)) w → (w ≡ 0 → ⊥)
+  pub word-mark : RunLength s at is_capital n → IsWord capital_words (take (at + n - at) (drop at s)) w → (w ≡ 0 → ⊥)
       → Gives s (record { token = Mark w; place = at; size = n }) (word_step at (front is_capital (drop at s)))
   word-mark c i e = record { same = sym (word-is c i ∙ rw (ne_eqb w 0 e) refl); within = tt }
 
-  pub word-wrong : RunLength s at Capital n → IsWord capital_words (take (at + n - at) (drop at s)) w → w ≡ 0
+  pub word-wrong : RunLength s at is_capital n → IsWord capital_words (take (at + n - at) (drop at s)) w → w ≡ 0
       → Gives s (record { token = Wrong Misplaced; place = at; size = n }) (word_step at (front is_capital (drop at s)))
   word-wrong c i e = record { same = sym (word-is c i ∙ rw (eq-eqb w 0 e) refl); within = tt }
 
@@ -103,41 +100,38 @@ module _ (s : List ℕ) (at : ℕ) where
 
 -- ---- literals
 
-pub found-is : (w : Bool) (v u : Option Value) (at n : ℕ) (r : Found) → v ≡ u → r ≡ found_of w u at n → r ≡ found_of w v at n
-found-is w v u at n r e h = rw e h
-
 module _ (s : List ℕ) (at w : ℕ) where
-  pub point-after : (b : Bool) → RunLength s at Digit w → b ≡ pointed (drop (at + w) s) → b ≡ true → PointAfter s at w
+  pub point-after : (b : Bool) → RunLength s at is_digit w → b ≡ pointed (drop (at + w) s) → b ≡ true → PointAfter s at w
   point-after b c e f = record { digits = c; point = sym e ∙ f; inside = point-within s (at + w) (sym e ∙ f) }
 
-  fraction-bytes : (f : ℕ) → PointAfter s at w → RunLength s (at + w + 1) Digit f
+  fraction-bytes : (f : ℕ) → PointAfter s at w → RunLength s (at + w + 1) is_digit f
       → take (at + w + 1 + f - at) (drop at s) ≡ front is_digit (drop at s) ++ (46 ∷ front is_digit (drop 1 (behind is_digit (drop at s))))
   fraction-bytes f p c =
       let e : at + w + 1 + f - at ≡ w + suc f = omega arith in
       let b = point-byte s (at + w) p.point in
-      rw (e, take-add w (suc f) (drop at s), run-part s at Digit w p.digits, drop-drop w at s, run-behind s at Digit w p.digits, b)
-      (ap (λ (l : List ℕ). front is_digit (drop at s) ++ (46 ∷ l)) (run-part s (at + w + 1) Digit f c))
+      rw (e, take-add w (suc f) (drop at s), run-part s at is_digit w p.digits, drop-drop w at s, run-behind s at is_digit w p.digits, b)
+      (ap (λ (l : List ℕ). front is_digit (drop at s) ++ (46 ∷ l)) (run-part s (at + w + 1) is_digit f c))
 
-  fraction-behind : (f : ℕ) → PointAfter s at w → RunLength s (at + w + 1) Digit f → drop (at + w + 1 + f) s ≡ behind is_digit (drop 1 (behind is_digit (drop at s)))
-  fraction-behind f p c = rw (run-behind s at Digit w p.digits, drop-drop 1 (at + w) s) (sym (run-behind s (at + w + 1) Digit f c))
+  fraction-behind : (f : ℕ) → PointAfter s at w → RunLength s (at + w + 1) is_digit f → drop (at + w + 1 + f) s ≡ behind is_digit (drop 1 (behind is_digit (drop at s)))
+  fraction-behind f p c = rw (run-behind s at is_digit w p.digits, drop-drop 1 (at + w) s) (sym (run-behind s (at + w + 1) is_digit f c))
 
-  pub fraction-is : (f : ℕ) (r : Found) → PointAfter s at w → RunLength s (at + w + 1) Digit f
+  pub fraction-is : (f : ℕ) (r : Found) → PointAfter s at w → RunLength s (at + w + 1) is_digit f
       → Gives s r (powered false at (part_of s at (at + w + 1 + f - at)) (drop (at + w + 1 + f) s)) → Gives s r (fraction_step at (drop at s))
   fraction-is f r p c g = rw (fraction-bytes f p c, fraction-behind f p c) at g
 
-  pub literal-fraction : (b : Bool) (r : Found) → RunLength s at Digit w → b ≡ pointed (drop (at + w) s) → b ≡ true
+  pub literal-fraction : (b : Bool) (r : Found) → RunLength s at is_digit w → b ≡ pointed (drop (at + w) s) → b ≡ true
       → Gives s r (fraction_step at (drop at s)) → Gives s r (literal_step at (front is_digit (drop at s)) (behind is_digit (drop at s)))
   unfolding literal_step
   literal-fraction b r c e f g =
-      let q : pointed (behind is_digit (drop at s)) ≡ true = ap pointed (run-behind s at Digit w c) ∙ sym e ∙ f in
+      let q : pointed (behind is_digit (drop at s)) ≡ true = ap pointed (run-behind s at is_digit w c) ∙ sym e ∙ f in
       rw (q, literal_step) g
 
-  pub literal-whole : (b : Bool) (r : Found) → RunLength s at Digit w → b ≡ pointed (drop (at + w) s) → b ≡ false
+  pub literal-whole : (b : Bool) (r : Found) → RunLength s at is_digit w → b ≡ pointed (drop (at + w) s) → b ≡ false
       → Gives s r (powered true at (part_of s at (at + w - at)) (drop (at + w) s)) → Gives s r (literal_step at (front is_digit (drop at s)) (behind is_digit (drop at s)))
   unfolding literal_step
   literal-whole b r c e f g =
-      let q : pointed (behind is_digit (drop at s)) ≡ false = ap pointed (run-behind s at Digit w c) ∙ sym e ∙ f in
-      rw (q, literal_step) (rw (run-slice s at Digit w c, ← run-behind s at Digit w c) at g)
+      let q : pointed (behind is_digit (drop at s)) ≡ false = ap pointed (run-behind s at is_digit w c) ∙ sym e ∙ f in
+      rw (q, literal_step) (rw (run-slice s at is_digit w c, ← run-behind s at is_digit w c) at g)
 
 -- ---- strings
 
@@ -193,34 +187,34 @@ module _ (s l : List ℕ) (at : ℕ) where
   abbrev here : Text.Step
   here = string_step at (front no_brace (drop (at + 1) s)) (behind no_brace (drop (at + 1) s))
 
-  inner-run : Inner → RunLength s (at + 1) NoBrace (length l)
-  inner-run e = run_is s (at + 1) NoBrace (length l) (ap length e)
+  inner-run : Inner → RunLength s (at + 1) no_brace (length l)
+  inner-run e = run_is s (at + 1) no_brace (length l) (ap length e)
 
   string-is : Inner → here ≡ strange (at + 1) l (step (cond (shape s l (at + 1 + length l)) (string l) (wrong Misplaced)) at (length l + 2))
   unfolding string_step
-  string-is e = rw (run-behind s (at + 1) NoBrace (length l) (inner-run e), ← e, ← shape_is s l (at + 1 + length l), ← add-one at) refl
+  string-is e = rw (run-behind s (at + 1) no_brace (length l) (inner-run e), ← e, ← shape_is s l (at + 1 + length l), ← add-one at) refl
 
   module _ (m : ℕ) where
-    pub string-strange : Inner → RunLength l 0 InString m → m < length l → Gives s (record { token = Wrong StrangeByte; place = at + 1 + m; size = 0 }) here
+    pub string-strange : Inner → RunLength l 0 in_string m → m < length l → Gives s (record { token = Wrong StrangeByte; place = at + 1 + m; size = 0 }) here
     string-strange e d h = record {
       same = sym (string-is e ∙ strange-at l (at + 1) _ (omega (arith, d.count)) ∙ rw (← d.count) refl);
       within = tt;
     }
 
-    all-good : Inner → RunLength l 0 InString m → length l ≤ m → (u : Bool) → shape s l (at + 1 + length l) ≡ u
+    all-good : Inner → RunLength l 0 in_string m → length l ≤ m → (u : Bool) → shape s l (at + 1 + length l) ≡ u
         → here ≡ step (cond u (string l) (wrong Misplaced)) at (length l + 2)
     all-good e d h u t = string-is e ∙ strange-none l (at + 1) _ (omega (arith, d.count)) ∙ rw t refl
 
-    pub string-good : Inner → RunLength l 0 InString m → length l ≤ m → shape s l (at + 1 + length l) ≡ true
+    pub string-good : Inner → RunLength l 0 in_string m → length l ≤ m → shape s l (at + 1 + length l) ≡ true
         → Gives s (record { token = String (at + 1) (length l); place = at; size = length l + 2 }) here
     string-good e d h t =
         let g = shape-inside s l (at + 1 + length l) t in
         record {
-          same = sym (all-good e d h true t ∙ ap (λ k. step (string k) at (length l + 2)) (e ∙ sym (run-part s (at + 1) NoBrace (length l) (inner-run e))));
+          same = sym (all-good e d h true t ∙ ap (λ k. step (string k) at (length l + 2)) (e ∙ sym (run-part s (at + 1) no_brace (length l) (inner-run e))));
           within = record { starts = refl; short = g.0; inside = omega (arith, g.1) };
         }
 
-    pub string-wrong : Inner → RunLength l 0 InString m → length l ≤ m → shape s l (at + 1 + length l) ≡ false
+    pub string-wrong : Inner → RunLength l 0 in_string m → length l ≤ m → shape s l (at + 1 + length l) ≡ false
         → Gives s (record { token = Wrong Misplaced; place = at; size = length l + 2 }) here
     string-wrong e d h t = record { same = sym (all-good e d h false t); within = tt }
 
@@ -241,20 +235,6 @@ module _ (s : List ℕ) (at k b : ℕ) where
   order-no e h = record { same = sym (order_is s (at + 1) at k ∙ rw (ne_eqb (get_or s (at + 1) 0) 61 (λ z. h (e ∙ z))) refl); within = tt }
 
 -- ---- by the first byte
-
-module _ (s : List ℕ) (at b : ℕ) (r : Found) where
-  pub other-string : b ≡ 123 → Gives s r (string_step at (front no_brace (drop (at + 1) s)) (behind no_brace (drop (at + 1) s))) → Gives s r (other_step at b (drop (at + 1) s))
-  other-string e h = rw e h
-
-  pub other-most : b ≡ 60 → Gives s r (order_step at 60 (drop (at + 1) s)) → Gives s r (other_step at b (drop (at + 1) s))
-  other-most e h = rw e h
-
-  pub other-least : b ≡ 62 → Gives s r (order_step at 62 (drop (at + 1) s)) → Gives s r (other_step at b (drop (at + 1) s))
-  other-least e h = rw e h
-
-pub other-wrong : (s : List ℕ) (at b : ℕ) → (b ≡ 123 → ⊥) → (b ≡ 60 → ⊥) → (b ≡ 62 → ⊥)
-    → Gives s (record { token = Wrong StrangeByte; place = at; size = 0 }) (other_step at b (drop (at + 1) s))
-other-wrong s at b e f g = record { same = rw (ne_eqb b 123 e, ne_eqb b 60 f, ne_eqb b 62 g) refl; within = tt }
 
 via : (f : ℕ → Bool) (b x : ℕ) (g u : Bool) → b ≡ x → g ≡ f b → g ≡ u → f x ≡ u
 via f b x g u e h k = ap f (sym e) ∙ sym h ∙ k

@@ -1,5 +1,5 @@
 -- A run of letters against a list of words, one after the other.
-use mathlib.Core.Path.{◌≡◌, refl, sym, ◌∙◌}
+use mathlib.Core.Path.{◌≡◌, refl}
 use mathlib.Core.Bool.{Bool, true, false, cond}
 use mathlib.Core.List.{List, [], ◌∷◌}
 use Prim.Native.Nat.{ℕ}
@@ -11,13 +11,6 @@ use Rattle.lexer.specs.Inner.{IsWord}
 pub word_none : (l : List ℕ) → IsWord [] l 0
 unfolding among
 word_none l = record { is = λ k. refl }
-
-module _ (x l : List ℕ) (b : Bool) (m o : ℕ) where
-  pub word_same : b ≡ same_bytes x l → b ≡ true → m ≡ cond (same_bytes x l) m o
-  word_same e h = rw (sym e ∙ h) refl
-
-  pub word-other : b ≡ same_bytes x l → b ≡ false → o ≡ cond (same_bytes x l) m o
-  word-other e h = rw (sym e ∙ h) refl
 
 -- one word more in front
 pub word-or : (x l : List ℕ) (m o r : ℕ) (ws : List Word) → eqb m 0 ≡ false → r ≡ cond (same_bytes x l) m o → IsWord ws l o

@@ -6,26 +6,16 @@ use Rattle.rules.specs.Characters.{code}
 use Rattle.value.specs.Literal.{is_digit}
 use Rattle.lexer.specs.Marks.{Word, at_most, at_least}
 use Rattle.lexer.specs.Text as Text
-use Rattle.lexer.specs.Text.{Kind, mark, wrong, is_blank, in_name, is_capital, no_brace, in_string, among, step, pointed, sign_length, power_length, powered, front, behind, string_step, order_step}
+use Rattle.lexer.specs.Text.{Kind, mark, wrong, no_brace, among, step, pointed, sign_length, power_length, powered, front, behind, string_step, order_step}
 use Rattle.lexer.specs.View.{kind_of, Within}
-use Rattle.lexer.specs.declared.Class.{Class}
-use Rattle.lexer.specs.declared.Class.TheVariants.{Blank, Digit, InName, Capital, NoBrace, InString}
 use Rattle.lexer.specs.declared.Token.TheVariants.{Literal, Wrong}
 use Rattle.lexer.specs.declared.Found.{Found}
 
 -- ---- runs of bytes
 
-abbrev pub class_of : Class → ℕ → Bool
-class_of Blank = is_blank
-class_of Digit = is_digit
-class_of InName = in_name
-class_of Capital = is_capital
-class_of NoBrace = no_brace
-class_of InString = in_string
-
--- n bytes of the class k stand from `at` on
-pub record RunLength (s : List ℕ) (at : ℕ) (k : Class) (n : ℕ) : Type 0 where
-  pub count : n ≡ length (front (class_of k) (drop at s))
+-- n bytes of the class c stand from `at` on
+pub record RunLength (s : List ℕ) (at : ℕ) (c : ℕ → Bool) (n : ℕ) : Type 0 where
+  pub count : n ≡ length (front c (drop at s))
   pub bound : n ≤ length s - at
 
 -- ---- one token
@@ -46,7 +36,7 @@ pub record IsWord (ws : List Word) (l : List ℕ) (w : ℕ) : Type 0 where
 
 -- w digits stand from `at` on, and behind them a point and a digit
 pub record PointAfter (s : List ℕ) (at w : ℕ) : Type 0 where
-  pub digits : RunLength s at Digit w
+  pub digits : RunLength s at is_digit w
   pub point : pointed (drop (at + w) s) ≡ true
   pub inside : at + w < length s
 

@@ -6,9 +6,9 @@ use Rattle.lexer.specs.Text as Text
 use Rattle.lexer.specs.Text.{Kind, mark, name, literal, string, end, wrong, tokens_from, counted}
 use Rattle.lexer.specs.declared.Token.{Token}
 use Rattle.lexer.specs.declared.Token.TheVariants.{Mark, Name, Literal, String, End, Wrong}
-use Rattle.lexer.specs.declared.Step.{Step}
+use Rattle.lexer.specs.declared.Cursor.{Cursor}
+use Rattle.lexer.specs.declared.Read.{Read}
 use Rattle.lexer.specs.declared.Source.{Source}
-use Rattle.lexer.specs.declared.Turn.{Turn}
 
 -- ---- tokens
 
@@ -61,7 +61,7 @@ pub record Placed (s : List ℕ) (at : ℕ) (k : Kind) (place next : ℕ) : Type
   pub moves : is_last k ≡ false → (place < next) × (next ≤ length s)
 
 -- the tokens from `at` on are this one, and then those from its `next` on, unless it is the last
-pub record Reads (s : List ℕ) (at : ℕ) (r : Step) : Type 0 where
+pub record Reads (s : List ℕ) (at : ℕ) (r : Read Cursor) : Type 0 where
   pub tokens : tokens_from at 0 (drop at s) ≡ record { kind = kind_of s r.token; place = r.place } ∷ cond (is_last (kind_of s r.token)) [] (tokens_from r.next.at 0 (drop r.next.at s))
   pub within : Within s r.place r.token
   pub placed : Placed s at (kind_of s r.token) r.place r.next.at
@@ -76,7 +76,7 @@ coming_at s c = cond c.counts (counted c.left (tokens_from c.at 0 (drop c.at s))
 abbrev pub start_of : Source
 start_of = record { at = 0; left = token_limit; counts = true }
 
-pub record Turns (s : List ℕ) (c : Source) (r : Turn) : Type 0 where
+pub record Turns (s : List ℕ) (c : Source) (r : Read Source) : Type 0 where
   pub tokens : coming_at s c ≡ record { kind = kind_of s r.token; place = r.place } ∷ cond (is_last (kind_of s r.token)) [] (coming_at s r.next)
   pub within : Within s r.place r.token
   pub placed : Placed s c.at (kind_of s r.token) r.place r.next.at

@@ -2,12 +2,12 @@
 // strings are handed on as parts of the text.
 #![tactic(auto)]
 
-ghost use Rattle.std.specs.Prelude.{◌≡◌, cond, [], ◌+◌, ◌-◌, ◌<◌, ◌≤◌, length, get_or, drop};
+ghost use Rattle.std.specs.Prelude.{◌≡◌, Bool, ℕ, cond, [], ◌+◌, ◌-◌, ◌<◌, ◌≤◌, length, get_or, drop};
 ghost use Rattle.value.specs.Literal.{is_digit};
 ghost use Rattle.lexer.specs.Marks.{capital_words, small_words};
 ghost use Rattle.lexer.specs.Text.{is_blank, is_small, is_capital, in_name, is_sign, in_string, no_brace, front, behind, same_bytes, pointed as pointedBytes, power_size, powered as poweredStep, name_step, word_step, literal_step, string_step, order_step, step_at, uncounted};
 ghost use Rattle.lexer.specs.View.{part_of, Reads, start_of, Turns, kind_of};
-ghost use Rattle.lexer.specs.Inner.{class_of, RunLength, Gives, found_of, PointAfter, SignLength, PowerLength, fraction_step, other_step, IsWord};
+ghost use Rattle.lexer.specs.Inner.{RunLength, Gives, found_of, PointAfter, SignLength, PowerLength, fraction_step, other_step, IsWord};
 
 pub mod marks;
 
@@ -24,17 +24,6 @@ pub enum Token {
 }
 
 // ---- bytes
-
-// What a byte may be part of.
-#[derive(Clone, Copy)]
-enum Class {
-    Blank,
-    Digit,
-    InName,
-    Capital,
-    NoBrace,
-    InString,
-}
 
 fn is_blank(b: u8) -> bool
     ensures { result ≡ is_blank b }
@@ -94,19 +83,6 @@ fn is_sign(b: u8) -> bool
         | (b == marks::RIGHT_BRACKET)
 }
 
-fn in_class(class: Class, b: u8) -> bool
-    ensures { result ≡ class_of class b }
-{
-    match class {
-        Class::Blank => is_blank(b),
-        Class::Digit => is_digit(b),
-        Class::InName => in_name(b),
-        Class::Capital => is_capital(b),
-        Class::NoBrace => no_brace(b),
-        Class::InString => in_string(b),
-    }
-}
-
 // The byte at i, or 0 past the end.
 fn byte_at(s: &[u8], i: usize) -> u8
     ensures { result ≡ get_or s.now i 0 }
@@ -116,19 +92,18 @@ fn byte_at(s: &[u8], i: usize) -> u8
 
 // ---- parts of the text
 
-// How many bytes of the class stand from `at` on.
-fn run_length(s: &[u8], at: usize, class: Class) -> usize
-    ensures { RunLength s.now at class result }
+// How many bytes that pass the test stand from `at` on.
+fn run_length<F: Fn(u8) -> bool>(s: &[u8], at: usize, test: F) -> usize
+    requires { F.IsAlwaysCallable test }
+    ensures run { (c : ℕ → Bool) → ((b : ℕ) (r : Bool) → F.post test b r → r ≡ c b) → RunLength s.now at c result }
+    ensures bound { result ≤ length s.now - at }
 {
-    let mut i = at;
-    while i < s.len() {
-        let more = in_class(class, s[i]);
-        if !more {
+    for i in at..s.len() {
+        if !test(s[i]) {
             return i - at;
         }
-        i += 1;
     }
-    i - at
+    s.len().saturating_sub(at)
 }
 
 // The n bytes from `at` on, or as many of them as the text has.
@@ -155,7 +130,7 @@ fn between_braces<'a>(s: &'a [u8], at: usize) -> &'a [u8]
         return &s[length..length];
     }
     let from = at + 1;
-    let n = run_length(s, from, Class::NoBrace);
+    let n = run_length(s, from, no_brace);
     let end = from + n;
     &s[from..end]
 }
@@ -163,17 +138,7 @@ fn between_braces<'a>(s: &'a [u8], at: usize) -> &'a [u8]
 pub fn same_bytes(a: &[u8], b: &[u8]) -> bool
     ensures { result ≡ same_bytes a.now b.now }
 {
-    if a.len() != b.len() {
-        return false;
-    }
-    let mut i = 0;
-    while i < a.len() {
-        if a[i] != b[i] {
-            return false;
-        }
-        i += 1;
-    }
-    true
+    a == b
 }
 
 // ---- words
@@ -182,8 +147,7 @@ pub fn same_bytes(a: &[u8], b: &[u8]) -> bool
 fn word_or(word: &[u8], mark: u8, run: &[u8], other: u8) -> u8
     ensures { result ≡ cond (same_bytes word.now run.now) mark other }
 {
-    let same = same_bytes(word, run);
-    if same { mark } else { other }
+    if same_bytes(word, run) { mark } else { other }
 }
 
 // The number of the capital word that the run is, or 0.
@@ -226,7 +190,7 @@ fn name(s: &[u8], at: usize) -> Found
     requires { at < length s.now }
     ensures { Gives s.now result (name_step at (front in_name (drop at s.now))) }
 {
-    let n = run_length(s, at, Class::InName);
+    let n = run_length(s, at, in_name);
     let end = at + n;
     let w = small_word(&s[at..end]);
     if w != 0 {
@@ -255,7 +219,7 @@ fn word(s: &[u8], at: usize) -> Found
     requires { at < length s.now }
     ensures { Gives s.now result (word_step at (front is_capital (drop at s.now))) }
 {
-    let n = run_length(s, at, Class::Capital);
+    let n = run_length(s, at, is_capital);
     let end = at + n;
     let w = capital_word(&s[at..end]);
     if w != 0 {
@@ -280,12 +244,12 @@ fn valued(whole: bool, v: Option<value::Value>, at: usize, size: usize) -> Found
         Some(x) => Found {
             token: Token::Literal(whole, x),
             place: at,
-            size: size,
+            size,
         },
         None => Found {
             token: Token::Wrong(rules::Refusal::Unfit),
             place: at,
-            size: size,
+            size,
         },
     }
 }
@@ -297,10 +261,7 @@ fn pointed(s: &[u8], at: usize) -> bool
     if s.len() <= at {
         return false;
     }
-    let b = byte_at(s, at);
-    let c = byte_at(s, at + 1);
-    let digit = is_digit(c);
-    (b == b'.') & digit
+    (byte_at(s, at) == b'.') & is_digit(byte_at(s, at + 1))
 }
 
 // How many bytes at `at` are a sign, at most one.
@@ -308,8 +269,7 @@ fn sign_length(s: &[u8], at: usize) -> usize
     ensures { SignLength s.now at result }
 {
     let b = byte_at(s, at);
-    let sign = (b == b'+') | (b == b'-');
-    if sign { 1 } else { 0 }
+    if (b == b'+') | (b == b'-') { 1 } else { 0 }
 }
 
 // The bytes of `E`, the sign and n digits, of which at most two are taken; 0 without a digit.
@@ -330,14 +290,13 @@ fn power_length(s: &[u8], at: usize) -> usize
     if s.len() <= at {
         return 0;
     }
-    let b = byte_at(s, at);
-    if b != b'E' {
+    if byte_at(s, at) != b'E' {
         return 0;
     }
     let from = at + 1;
     let sign = sign_length(s, from);
     let digits = from + sign;
-    let n = run_length(s, digits, Class::Digit);
+    let n = run_length(s, digits, is_digit);
     power_size(sign, n)
 }
 
@@ -360,7 +319,7 @@ fn fraction(s: &[u8], at: usize, w: usize) -> Found
     ensures { Gives s.now result (fraction_step at (drop at s.now)) }
 {
     let from = at + w + 1;
-    let f = run_length(s, from, Class::Digit);
+    let f = run_length(s, from, is_digit);
     let end = from + f;
     powered(s, at, end, false)
 }
@@ -370,10 +329,9 @@ fn literal(s: &[u8], at: usize) -> Found
     requires { at < length s.now }
     ensures { Gives s.now result (literal_step at (front is_digit (drop at s.now)) (behind is_digit (drop at s.now))) }
 {
-    let w = run_length(s, at, Class::Digit);
+    let w = run_length(s, at, is_digit);
     let end = at + w;
-    let point = pointed(s, end);
-    if point {
+    if pointed(s, end) {
         return fraction(s, at, w);
     }
     powered(s, at, end, true)
@@ -386,13 +344,12 @@ fn string(s: &[u8], at: usize) -> Found
 {
     let inner = between_braces(s, at);
     let n = inner.len();
-    let good = run_length(inner, 0, Class::InString);
+    let good = run_length(inner, 0, in_string);
     let from = at + 1;
     if good < n {
-        let strange = from + good;
         return Found {
             token: Token::Wrong(rules::Refusal::StrangeByte),
-            place: strange,
+            place: from + good,
             size: 0,
         };
     }
@@ -400,18 +357,17 @@ fn string(s: &[u8], at: usize) -> Found
     let size = n + 2;
     let length = s.len();
     let sized = (1 <= n) & (n <= rules::STRING_LENGTH);
-    let shaped = (end < length) & sized;
-    if shaped {
+    if (end < length) & sized {
         return Found {
             token: Token::String(from, n),
             place: at,
-            size: size,
+            size,
         };
     }
     Found {
         token: Token::Wrong(rules::Refusal::Misplaced),
         place: at,
-        size: size,
+        size,
     }
 }
 
@@ -462,26 +418,20 @@ fn token_at(s: &[u8], at: usize) -> Found
     ensures { Gives s.now result (step_at at (get_or s.now at 0) (drop (at + 1) s.now)) }
 {
     let b = byte_at(s, at);
-    let sign = is_sign(b);
-    if sign {
+    if is_sign(b) {
         return Found {
             token: Token::Mark(b),
             place: at,
             size: 1,
         };
     }
-    let digit = is_digit(b);
-    let point = pointed(s, at);
-    let number = digit | point;
-    if number {
+    if is_digit(b) | pointed(s, at) {
         return literal(s, at);
     }
-    let small = is_small(b);
-    if small {
+    if is_small(b) {
         return name(s, at);
     }
-    let capital = is_capital(b);
-    if capital {
+    if is_capital(b) {
         return word(s, at);
     }
     other(s, at, b)
@@ -494,36 +444,34 @@ pub struct Cursor {
     pub at: usize,
 }
 
-// A token, its place, and the cursor past it.
+// A token, its place, and where the next one is read.
 #[derive(Clone, Copy)]
-pub struct Step {
+pub struct Read<N> {
     pub token: Token,
     pub place: usize,
-    pub next: Cursor,
+    pub next: N,
 }
 
 impl Cursor {
     // The token that comes next.
-    pub fn next(self, s: &[u8]) -> Step
+    pub fn next(self, s: &[u8]) -> Read<Cursor>
         ensures { Reads s.now self.at result }
     {
-        let from = self.at;
-        let blanks = run_length(s, from, Class::Blank);
-        let at = from + blanks;
+        let at = self.at + run_length(s, self.at, is_blank);
         if s.len() <= at {
-            return Step {
+            return Read {
                 token: Token::End,
                 place: at,
-                next: Cursor { at: at },
+                next: Cursor { at },
             };
         }
-        let f = token_at(s, at);
-        let token = f.token;
-        let on = at + f.size;
-        Step {
-            token: token,
-            place: f.place,
-            next: Cursor { at: on },
+        let found = token_at(s, at);
+        Read {
+            token: found.token,
+            place: found.place,
+            next: Cursor {
+                at: at + found.size,
+            },
         }
     }
 }
@@ -538,25 +486,14 @@ pub struct Source {
     pub counts: bool,
 }
 
-// A token, its place, and what comes after.
-#[derive(Clone, Copy)]
-pub struct Turn {
-    pub token: Token,
-    pub place: usize,
-    pub next: Source,
-}
-
 // Does the token end the count: `INIT`, `CLOSE`, the end, a refusal?
 fn ends_count(t: Token) -> bool
     ensures { result ≡ uncounted (kind_of [] t) }
 {
     match t {
         Token::Mark(c) => (c == marks::INIT) | (c == marks::CLOSE),
-        Token::Name(_, _) => false,
-        Token::Literal(_, _) => false,
-        Token::String(_, _) => false,
-        Token::End => true,
-        Token::Wrong(_) => true,
+        Token::Name(_, _) | Token::Literal(_, _) | Token::String(_, _) => false,
+        Token::End | Token::Wrong(_) => true,
     }
 }
 
@@ -573,41 +510,35 @@ impl Source {
     }
 
     // The token that comes next, or that the table is full where it is one too many.
-    pub fn next(self, s: &[u8]) -> Turn
+    pub fn next(self, s: &[u8]) -> Read<Source>
         ensures { Turns s.now self result }
     {
         let left = self.left;
-        let c = Cursor { at: self.at };
-        let r = c.next(s);
-        let token = r.token;
-        let on = r.next.at;
-        let ends = ends_count(token);
-        let free = !self.counts | ends;
-        if free {
-            return Turn {
-                token: token,
-                place: r.place,
+        let read = Cursor { at: self.at }.next(s);
+        if !self.counts | ends_count(read.token) {
+            return Read {
+                token: read.token,
+                place: read.place,
                 next: Source {
-                    at: on,
-                    left: left,
+                    at: read.next.at,
+                    left,
                     counts: false,
                 },
             };
         }
         if left == 0 {
-            return Turn {
+            return Read {
                 token: Token::Wrong(rules::Refusal::Full),
-                place: r.place,
+                place: read.place,
                 next: self,
             };
         }
-        let rest = left - 1;
-        Turn {
-            token: token,
-            place: r.place,
+        Read {
+            token: read.token,
+            place: read.place,
             next: Source {
-                at: on,
-                left: rest,
+                at: read.next.at,
+                left: left - 1,
                 counts: true,
             },
         }

@@ -4,167 +4,110 @@
 ghost use Rattle.std.specs.Prelude.{◌≡◌};
 ghost use Rattle.rules.specs.Limits.{token_limit};
 ghost use Rattle.tokens.specs.Stored.{Moves};
+ghost use Rattle.tokens.specs.Text.{In};
 ghost use Rattle.linear.specs.Linear.{variable_of, term_in, sigma_in, terms_in, form_in, body_in, linear_in};
 
 use lexer::marks;
-use tokens::{Found, Move, Seen, kinds, sorts};
+use rules::{Refused, refused};
+use tokens::{Found, Text, kinds, sorts};
 
 // The variable that the token with kind k, place p and payload x names, if it names one.
-pub fn variable(text: &[u8], names: &[u64], k: u64, p: u64, x: u64) -> Found
+pub fn variable(text: &[u8], names: &[u64], k: u64, p: u64, x: u64) -> Option<Found>
     ensures { result ≡ variable_of text.now names.now k p x }
 {
-    if k == kinds::NAME {
-        let name = tokens::find(text, names, p, x % tokens::NAME_UNIT);
-        match name {
-            Found::Name(i, sort, count) => {
-                if (sort == sorts::DISCRETE) | (sort == sorts::CONTINUOUS) {
-                    Found::Name(i, sort, count)
-                } else {
-                    Found::Nothing
-                }
-            }
-            Found::Nothing => Found::Nothing,
-        }
-    } else {
-        Found::Nothing
+    if k != kinds::NAME {
+        return None;
     }
+    let name = tokens::find(text, names, p, x % tokens::NAME_UNIT)?;
+    if (name.sort == sorts::DISCRETE) | (name.sort == sorts::CONTINUOUS) {
+        return Some(name);
+    }
+    None
 }
 
 // A linear form.
-pub fn linear(text: &[u8], names: &[u64], tokens: &[u64], at: usize, nest: usize) -> Move
-    ensures { Moves (linear_in nest) text.now names.now tokens.now at result }
+pub fn linear(text: Text<'_>, at: usize, nest: usize) -> Result<usize, Refused>
+    ensures { In (Moves (linear_in nest)) text.entry at result }
 {
-    form(text, names, tokens, at, nest, true)
+    form(text, at, nest, true)
 }
 
 // Optional sign, then terms joined by `+` or `-`.
 #[cycle(linear)]
-fn form(text: &[u8], names: &[u64], tokens: &[u64], at: usize, nest: usize, sigmas: bool) -> Move
-    ensures { Moves (form_in sigmas nest) text.now names.now tokens.now at result }
+fn form(text: Text<'_>, at: usize, nest: usize, sigmas: bool) -> Result<usize, Refused>
+    ensures { In (Moves (form_in sigmas nest)) text.entry at result }
 {
-    let lead = tokens::sign(text, names, tokens, at);
-    let Move::At(a) = lead else {
-        return lead;
-    };
-    let first = term(text, names, tokens, a, nest, sigmas);
-    let Move::At(b) = first else {
-        return first;
-    };
-    terms(text, names, tokens, b, nest, sigmas)
+    let lead = tokens::sign(text, at)?;
+    let first = term(text, lead, nest, sigmas)?;
+    terms(text, first, nest, sigmas)
 }
 
 // Primaries each followed by `*`, then a variable, or a sigma where `sigmas` are allowed.
 #[cycle(linear)]
-fn term(text: &[u8], names: &[u64], tokens: &[u64], at: usize, nest: usize, sigmas: bool) -> Move
-    ensures { Moves (term_in sigmas nest) text.now names.now tokens.now at result }
+fn term(text: Text<'_>, at: usize, nest: usize, sigmas: bool) -> Result<usize, Refused>
+    ensures { In (Moves (term_in sigmas nest)) text.entry at result }
 {
     let mut a = at;
-    let mut left = rules::TOKEN_LIMIT;
-    while 0 < left {
-        let token = tokens::token_at(tokens, a);
-        match token {
-            Seen::Token(k, p, x, next) => {
-                if sigmas & (k == marks::SIGMA as u64) {
-                    return sigma(text, names, tokens, next, nest, p);
-                }
-                let v = variable(text, names, k, p, x);
-                match v {
-                    Found::Name(i, sort, count) => {
-                        return formulas::subscripts(text, names, tokens, next, nest, count);
-                    }
-                    Found::Nothing => {
-                        let f = formulas::primary(text, names, tokens, a, nest);
-                        let Move::At(b) = f else {
-                            return f;
-                        };
-                        let star = tokens::expect(text, names, tokens, b, marks::TIMES);
-                        let Move::At(d) = star else {
-                            return star;
-                        };
-                        a = d;
-                    }
-                }
-            }
-            Seen::Refused(n, p) => {
-                return Move::Refused(n, p);
-            }
+    for _ in 0..rules::TOKEN_LIMIT {
+        let token = tokens::token_at(text.tokens, a)?;
+        if sigmas & (token.kind == marks::SIGMA as u64) {
+            return sigma(text, token.next, nest, token.place);
         }
-        left -= 1;
+        if let Some(name) = variable(
+            text.bytes,
+            text.names,
+            token.kind,
+            token.place,
+            token.payload,
+        ) {
+            return formulas::subscripts(text, token.next, nest, name.count);
+        }
+        let factor = formulas::primary(text, a, nest)?;
+        a = tokens::expect(text, factor, marks::TIMES)?;
     }
-    Move::Refused(rules::Refusal::Full, 0)
+    refused!(Full, 0)
 }
 
 // Terms joined by `+` or `-`, behind the first one.
 #[cycle(linear)]
-fn terms(text: &[u8], names: &[u64], tokens: &[u64], at: usize, nest: usize, sigmas: bool) -> Move
-    ensures { Moves (terms_in sigmas nest token_limit) text.now names.now tokens.now at result }
+fn terms(text: Text<'_>, at: usize, nest: usize, sigmas: bool) -> Result<usize, Refused>
+    ensures { In (Moves (terms_in sigmas nest token_limit)) text.entry at result }
 {
     let mut a = at;
-    let mut left = rules::TOKEN_LIMIT;
-    while 0 < left {
-        let token = tokens::token_at(tokens, a);
-        match token {
-            Seen::Token(k, p, x, next) => {
-                if (k == marks::PLUS as u64) | (k == marks::MINUS as u64) {
-                    let r = term(text, names, tokens, next, nest, sigmas);
-                    let Move::At(b) = r else {
-                        return r;
-                    };
-                    a = b;
-                } else {
-                    return Move::At(a);
-                }
-            }
-            Seen::Refused(n, p) => {
-                return Move::Refused(n, p);
-            }
+    for _ in 0..rules::TOKEN_LIMIT {
+        let token = tokens::token_at(text.tokens, a)?;
+        let joined = (token.kind == marks::PLUS as u64) | (token.kind == marks::MINUS as u64);
+        if !joined {
+            return Ok(a);
         }
-        left -= 1;
+        a = term(text, token.next, nest, sigmas)?;
     }
-    Move::At(a)
+    Ok(a)
 }
 
 // A sigma behind its word at p.
 #[cycle(linear)]
-fn sigma(text: &[u8], names: &[u64], tokens: &[u64], at: usize, nest: usize, p: u64) -> Move
-    ensures { Moves (sigma_in nest p) text.now names.now tokens.now at result }
+fn sigma(text: Text<'_>, at: usize, nest: usize, p: u64) -> Result<usize, Refused>
+    ensures { In (Moves (sigma_in nest p)) text.entry at result }
 {
-    let head = tokens::head(text, names, tokens, at, nest);
-    let Move::At(a) = head else {
-        return head;
-    };
+    let head = tokens::head(text, at, nest)?;
     if nest == 0 {
-        return Move::Refused(rules::Refusal::Full, 0);
+        return refused!(Full, 0);
     }
-    let lower = formulas::part(text, names, tokens, a, nest, marks::COMMA);
-    let Move::At(b) = lower else {
-        return lower;
-    };
-    let upper = formulas::part(text, names, tokens, b, nest, marks::COMMA);
-    let Move::At(d) = upper else {
-        return upper;
-    };
-    let inner = body(text, names, tokens, d, nest - 1);
-    let Move::At(e) = inner else {
-        return inner;
-    };
-    tokens::expect(text, names, tokens, e, marks::RIGHT_PAREN)
+    let lower = formulas::part(text, head, nest, marks::COMMA)?;
+    let upper = formulas::part(text, lower, nest, marks::COMMA)?;
+    let inner = body(text, upper, nest - 1)?;
+    tokens::expect(text, inner, marks::RIGHT_PAREN)
 }
 
 // A sigma's body: another sigma, or a linear form without sigma.
 #[cycle(linear)]
-fn body(text: &[u8], names: &[u64], tokens: &[u64], at: usize, nest: usize) -> Move
-    ensures { Moves (body_in nest) text.now names.now tokens.now at result }
+fn body(text: Text<'_>, at: usize, nest: usize) -> Result<usize, Refused>
+    ensures { In (Moves (body_in nest)) text.entry at result }
 {
-    let token = tokens::token_at(tokens, at);
-    match token {
-        Seen::Token(k, p, x, next) => {
-            if k == marks::SIGMA as u64 {
-                sigma(text, names, tokens, next, nest, p)
-            } else {
-                form(text, names, tokens, at, nest, false)
-            }
-        }
-        Seen::Refused(n, p) => Move::Refused(n, p),
+    let token = tokens::token_at(text.tokens, at)?;
+    if token.kind == marks::SIGMA as u64 {
+        return sigma(text, token.next, nest, token.place);
     }
+    form(text, at, nest, false)
 }

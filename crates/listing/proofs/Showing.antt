@@ -12,7 +12,7 @@ use mir.Facts.{to_z_pos}
 use lib.Dec.{leb}
 use lib.ListN.{length, take, length-append, length-take}
 use lib.IntN.{ℤ, pos, nat_abs}
-use Rattle.rules.specs.Characters.{code, bytes}
+use Rattle.rules.specs.Characters.{code}
 use Rattle.rules.specs.Limits.{mantissa_limit, scale_limit, byte_limit}
 use Rattle.value.specs.declared.Value.{Value}
 use Rattle.value.specs.Decimal.{in_range, of_whole}
@@ -26,7 +26,7 @@ use Rattle.language.specs.Listing as Listing
 use Rattle.listing.specs.declared.Kind.{Kind}
 use Rattle.listing.specs.declared.Kind.TheVariants.{Less, Equal, Range}
 use Rattle.listing.specs.Kinds.{kind_in}
-use Rattle.listing.specs.Shown.{shown_whole, shown_natural, shown_upper}
+use Rattle.listing.specs.Shown.{shown_whole, shown_natural}
 
 -- ---- lengths
 
@@ -92,14 +92,6 @@ module _ (n : ℕ) where
   natural-none h = whole-none (pos n) h
 
 -- ---- an upper bound
-
-pub upper-none : (u : Option Value) → u ≡ None → shown_upper u ≡ bytes "inf"
-unfolding shown_upper
-upper-none u e = rw e
-
-pub upper-at : (u : Option Value) (v : Value) → u ≡ Some v → shown_upper u ≡ shown v
-unfolding shown_upper
-upper-at u v e = rw e
 
 -- ---- the letter of a kind
 

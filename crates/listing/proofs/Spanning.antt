@@ -8,22 +8,13 @@ use native.Mathlib.Omega.{arith}
 use lib.ListN.{length, length-append}
 use Rattle.rules.specs.Characters.{bytes}
 use Rattle.value.specs.declared.Value.{Value}
-use Rattle.value.specs.Printed.{shown, Written}
+use Rattle.value.specs.Printed.{Written}
 use Rattle.value.proofs.Writing.{written_then}
 use Rattle.language.specs.Listing.{fields}
-use Rattle.listing.specs.Shown.{shown_natural}
+use Rattle.listing.specs.Shown.{shown_natural, shown_or}
 use Rattle.listing.specs.Spans.{shown_end, idle_field, shown_span}
 use Rattle.listing.proofs.Showing.{shown-most}
 use Rattle.listing.proofs.Lengths.{field-length, end-length, natural-most}
-
-module _ (u : Option Value) where
-  pub end_none : u ≡ None → shown_end u ≡ bytes "-"
-  unfolding shown_end
-  end_none e = rw e
-
-  pub end-at : (v : Value) → u ≡ Some v → shown_end u ≡ shown v
-  unfolding shown_end
-  end-at v e = rw e
 
 module _ (b : Bool) where
   pub idle-yes : b ≡ true → idle_field b ≡ bytes "idle"
@@ -35,8 +26,8 @@ module _ (b : Bool) where
   idle-no e = rw e
 
 pub span-then : (n : ℕ) (a g : Option Value) (b : Bool) {l : List ℕ} {r : ℕ} {l' : List ℕ} {r' : ℕ} {l'' : List ℕ}
-    → Written l 0 (bytes "span") r l' → Written l' r (fields (shown_natural n ∷ shown_end a ∷ shown_end g ∷ idle_field b ∷ [])) r' l'' → Written l 0 (shown_span n a g b) r' l''
-unfolding shown_span
+    → Written l 0 (bytes "span") r l' → Written l' r (fields (shown_natural n ∷ shown_or (bytes "-") a ∷ shown_or (bytes "-") g ∷ idle_field b ∷ [])) r' l'' → Written l 0 (shown_span n a g b) r' l''
+unfolding shown_span shown_end
 span-then n a g b w v = written_then _ _ _ _ _ _ _ _ w v
 
 -- ---- how long it is

@@ -1,8 +1,8 @@
 -- Laws of writing: a text piece by piece, a line field by field, and the rest of an output.
 use Rattle.std.specs.Prelude.{Option}
-use mathlib.Core.Path.{◌≡◌, refl, sym, ◌∙◌}
+use mathlib.Core.Path.{◌≡◌, refl, sym, ◌∙◌, ap}
 use mathlib.Core.Bool.{Bool, true, false, cond}
-use mathlib.Core.List.{List, [], ◌∷◌, ◌++◌, map, append-nil}
+use mathlib.Core.List.{List, [], ◌∷◌, ◌++◌, map, append_assoc, append-nil}
 use Prim.Native.Nat.{ℕ, suc, ◌+◌, ◌-◌, ◌<◌, ◌≤◌, min}
 use native.Mathlib.Omega.{arith}
 use native.Mathlib.Numerals.{add-one}
@@ -17,10 +17,10 @@ use Rattle.rules.specs.Characters.{code, bytes, tab, line_feed}
 use Rattle.value.specs.declared.Value.{Value}
 use Rattle.value.specs.Printed.{shown, Written}
 use Rattle.value.proofs.Writing.{written_none, written_then, written-rest}
-use Rattle.language.specs.Listing.{Kind, Line, ending_line, kind_field, fields}
+use Rattle.language.specs.Listing.{Kind, Line, row_line, var_line, ending_line, kind_field, fields}
 use Rattle.language.proofs.Parts.{word_of}
-use Rattle.listing.specs.Shown.{shown_natural, shown_upper, shown_fields, shown_line, shown_refused}
-use Rattle.listing.specs.Bare.{bare_row, bare_variable}
+use Rattle.listing.specs.Shown.{shown_whole, shown_natural, shown_or, shown_upper, tabbed, shown_fields, shown_line, shown_refused}
+use Rattle.listing.specs.Bare.{bare_row, bare_variable, row_start, variable_start}
 
 -- ---- a text, piece by piece
 
@@ -71,15 +71,53 @@ pub refused-then : (n p : ℕ) {l : List ℕ} {r : ℕ} {l' : List ℕ} {r' : �
 unfolding shown_refused
 refused-then n p w v = written_then _ _ _ _ _ _ _ _ w v
 
-pub row-then : (n : ℕ) (q : Kind) (v : Value) {l : List ℕ} {r : ℕ} {l' : List ℕ} {r' : ℕ} {l'' : List ℕ}
-    → Written l 0 (bytes "row") r l' → Written l' r (fields (shown_natural n ∷ kind_field q ∷ shown v ∷ [])) r' l'' → Written l 0 (bare_row n q v) r' l''
-unfolding bare_row
-row-then n q v w x = written_then _ _ _ _ _ _ _ _ w x
+-- ---- what a line starts with, field by field, and the rest of it
 
-pub variable-then : (n : ℕ) (d : Bool) (v : Value) (u : Option Value) {l : List ℕ} {r : ℕ} {l' : List ℕ} {r' : ℕ} {l'' : List ℕ}
-    → Written l 0 (bytes "var") r l' → Written l' r (fields (shown_natural n ∷ (cond d (code "D") (code "C") ∷ []) ∷ shown v ∷ shown_upper u ∷ [])) r' l'' → Written l 0 (bare_variable n d v u) r' l''
-unfolding bare_variable
-variable-then n d v u w x = written_then _ _ _ _ _ _ _ _ w x
+pub tab-more : {l : List ℕ} {at : ℕ} {f : List ℕ} {r : ℕ} {l' : List ℕ} (fs : List (List ℕ)) {r' : ℕ} {l'' : List ℕ}
+    → Written l at (tab ∷ f) r l' → Written l' r (tabbed fs) r' l'' → Written l at (tabbed (f ∷ fs)) r' l''
+unfolding tabbed
+tab-more fs w v = written_then _ _ _ _ _ _ _ _ w v
+
+pub tab-last : {l : List ℕ} {at : ℕ} {f : List ℕ} {r : ℕ} {l' : List ℕ} → Written l at (tab ∷ f) r l' → Written l at (tabbed (f ∷ [])) r l'
+unfolding tabbed
+tab-last {l} {at} {f} w = rw (append-nil f) w
+
+fields-parted : (fs gs : List (List ℕ)) → fields (fs ++ gs) ≡ tabbed fs ++ fields gs
+unfolding fields tabbed
+fields-parted [] gs = refl
+fields-parted (f ∷ fs) gs = ap (λ (t : List ℕ). tab ∷ t) (rw (fields-parted fs gs) (sym (append_assoc f (tabbed fs) (fields gs))))
+
+start-then : (w : List ℕ) (fs gs : List (List ℕ)) {l : List ℕ} {r : ℕ} {l' : List ℕ} {r' : ℕ} {l'' : List ℕ} → Written l 0 (w ++ tabbed fs) r l' → Written l' r (fields gs) r' l''
+    → Written l 0 (w ++ fields (fs ++ gs)) r' l''
+start-then w fs gs x y = rw (fields-parted fs gs, ← append_assoc w (tabbed fs) (fields gs)) (written_then _ _ _ _ _ _ _ _ x y)
+
+module _ (n : ℕ) (q : Kind) (v : Value) {l : List ℕ} {r : ℕ} {l' : List ℕ} {r' : ℕ} {l'' : List ℕ} where
+  pub row-word : Written l 0 (bytes "row") r l' → Written l' r (tabbed (shown_natural n ∷ kind_field q ∷ shown v ∷ [])) r' l'' → Written l 0 (row_start n q v) r' l''
+  unfolding row_start
+  row-word w x = written_then _ _ _ _ _ _ _ _ w x
+
+  pub row-bare : Written l 0 (row_start n q v) r l' → Written l' r (fields []) r' l'' → Written l 0 (bare_row n q v) r' l''
+  unfolding row_start bare_row
+  row-bare w x = start-then (bytes "row") (shown_natural n ∷ kind_field q ∷ shown v ∷ []) [] w x
+
+  pub row-then : (s : List ℕ) (e : List ℤ) → Written l 0 (row_start n q v) r l' → Written l' r (fields (s ∷ map shown_whole e)) r' l'' → Written l 0 (shown_line (row_line n q v s e)) r' l''
+  unfolding row_start shown_line
+  row-then s e w x = start-then (bytes "row") (shown_natural n ∷ kind_field q ∷ shown v ∷ []) (s ∷ map shown_whole e) w x
+
+module _ (n : ℕ) (d : Bool) (v : Value) (u : Option Value) {l : List ℕ} {r : ℕ} {l' : List ℕ} {r' : ℕ} {l'' : List ℕ} where
+  pub variable-word : Written l 0 (bytes "var") r l' → Written l' r (tabbed (shown_natural n ∷ (cond d (code "D") (code "C") ∷ []) ∷ shown v ∷ shown_or (bytes "inf") u ∷ [])) r' l''
+      → Written l 0 (variable_start n d v u) r' l''
+  unfolding variable_start shown_upper
+  variable-word w x = written_then _ _ _ _ _ _ _ _ w x
+
+  pub variable-bare : Written l 0 (variable_start n d v u) r l' → Written l' r (fields []) r' l'' → Written l 0 (bare_variable n d v u) r' l''
+  unfolding variable_start bare_variable
+  variable-bare w x = start-then (bytes "var") (shown_natural n ∷ (cond d (code "D") (code "C") ∷ []) ∷ shown v ∷ shown_upper u ∷ []) [] w x
+
+  pub variable-then : (s : List ℕ) (e : List ℤ) → Written l 0 (variable_start n d v u) r l' → Written l' r (fields (s ∷ map shown_whole e)) r' l''
+      → Written l 0 (shown_line (var_line n d v u s e)) r' l''
+  unfolding variable_start shown_line
+  variable-then s e w x = start-then (bytes "var") (shown_natural n ∷ (cond d (code "D") (code "C") ∷ []) ∷ shown v ∷ shown_upper u ∷ []) (s ∷ map shown_whole e) w x
 
 -- index value i, and the last
 module _ (f : ℤ → List ℕ) (e : List ℤ) (i : ℕ) {l : List ℕ} {at : ℕ} {text l' : List ℕ} {at' r : ℕ} {l'' : List ℕ} where

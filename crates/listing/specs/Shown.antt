@@ -1,7 +1,7 @@
 -- What the writers write of any line: its bytes, with nothing for a number or a value that is out of range. Of a proper line
 -- these are the definition's bytes (`proofs/Lines.antt`).
 use Rattle.std.specs.Prelude.{cond, List, [], ◌∷◌, ◌++◌, map, ℕ, ℤ, pos, Option, Some, None}
-use Rattle.rules.specs.Characters.{code, bytes}
+use Rattle.rules.specs.Characters.{code, bytes, tab}
 use Rattle.value.specs.declared.Value.{Value}
 use Rattle.value.specs.Decimal.{of_whole}
 use Rattle.value.specs.Printed.{shown}
@@ -14,9 +14,18 @@ shown_whole k = shown (of_whole k)
 unfoldable pub shown_natural : ℕ → List ℕ
 shown_natural n = shown_whole (pos n)
 
+-- a value, or a word where there is none
+abbrev pub shown_or : List ℕ → Option Value → List ℕ
+shown_or w None = w
+shown_or w (Some v) = shown v
+
 unfoldable pub shown_upper : Option Value → List ℕ
-shown_upper None = bytes "inf"
-shown_upper (Some v) = shown v
+shown_upper u = shown_or (bytes "inf") u
+
+-- fields without the line's end
+unfoldable pub tabbed : List (List ℕ) → List ℕ
+tabbed [] = []
+tabbed (f ∷ fs) = tab ∷ (f ++ tabbed fs)
 
 abbrev pub shown_fields : Line → List (List ℕ)
 shown_fields (lp_line a b c d s t) = shown_natural a ∷ shown_natural b ∷ shown_natural c ∷ shown_natural d ∷ s ∷ t ∷ []

@@ -1,15 +1,13 @@
 -- What is written of the span of a row: `span`, its number, its least and its greatest value, `-` for one that is open, and `idle`
 -- or `-`; nothing for what is out of range.
-use Rattle.std.specs.Prelude.{Bool, cond, List, [], ◌∷◌, ◌++◌, ℕ, Option, Some, None}
+use Rattle.std.specs.Prelude.{Bool, cond, List, [], ◌∷◌, ◌++◌, ℕ, Option}
 use Rattle.rules.specs.Characters.{bytes}
 use Rattle.value.specs.declared.Value.{Value}
-use Rattle.value.specs.Printed.{shown}
 use Rattle.language.specs.Listing.{fields}
-use Rattle.listing.specs.Shown.{shown_natural}
+use Rattle.listing.specs.Shown.{shown_natural, shown_or}
 
 unfoldable pub shown_end : Option Value → List ℕ
-shown_end None = bytes "-"
-shown_end (Some v) = shown v
+shown_end u = shown_or (bytes "-") u
 
 unfoldable pub idle_field : Bool → List ℕ
 idle_field b = cond b (bytes "idle") (bytes "-")

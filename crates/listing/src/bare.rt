@@ -8,10 +8,7 @@ ghost use Rattle.listing.specs.Kinds.{kind_in};
 pub fn row(number: usize, kind: super::Kind, right: value::Value, out: &mut [u8]) -> usize
     ensures { Written out.old 0 (bare_row number (kind_in kind) right) result out.new }
 {
-    let at = super::put_text(out, 0, b"row");
-    let at = super::number_field(out, at, number);
-    let at = super::kind_field(out, at, kind);
-    let at = super::value_field(out, at, right);
+    let at = super::row_start(number, kind, right, out);
     super::put(out, at, b'\n')
 }
 
@@ -24,10 +21,6 @@ pub fn variable(
 ) -> usize
     ensures { Written out.old 0 (bare_variable number discrete lower upper) result out.new }
 {
-    let at = super::put_text(out, 0, b"var");
-    let at = super::number_field(out, at, number);
-    let at = super::letter_field(out, at, super::letter(discrete, b'D', b'C'));
-    let at = super::value_field(out, at, lower);
-    let at = super::upper_field(out, at, upper);
+    let at = super::variable_start(number, discrete, lower, upper, out);
     super::put(out, at, b'\n')
 }

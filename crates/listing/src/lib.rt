@@ -12,9 +12,10 @@ ghost use Rattle.rules.specs.Limits.{byte_limit};
 ghost use Rattle.value.specs.Printed.{shown, Written};
 ghost use Rattle.store.specs.Element.{list_of};
 ghost use Rattle.language.specs.Listing.{lp_line, row_line, low_line, var_line, col_line, ending_line, kind_field, fields};
-ghost use Rattle.listing.specs.Shown.{shown_whole, shown_natural, shown_upper, shown_line, shown_refused};
+ghost use Rattle.listing.specs.Shown.{shown_whole, shown_natural, shown_or, shown_line, shown_refused};
+ghost use Rattle.listing.specs.Bare.{row_start, variable_start};
 ghost use Rattle.listing.specs.Kinds.{kind_in};
-ghost use Rattle.listing.specs.Spans.{shown_end, idle_field, shown_span};
+ghost use Rattle.listing.specs.Spans.{idle_field, shown_span};
 
 // ---- bytes at a place, which may lie past the output's end. No place overflows: a text is shorter than 2^63 bytes, and what
 // stands before and after it in a line is short
@@ -36,10 +37,8 @@ fn put_text(out: &mut [u8], at: usize, t: &[u8]) -> usize
     ensures { Written out.old at t.now result out.new }
 {
     let mut next = at;
-    let mut i = 0;
-    while i < t.len() {
-        next = put(out, next, t[i]);
-        i += 1;
+    for b in t {
+        next = put(out, next, *b);
     }
     next
 }
@@ -144,23 +143,13 @@ fn number_field(out: &mut [u8], at: usize, n: usize) -> usize
     put(out, at, b'\t')
 }
 
-fn upper_field(out: &mut [u8], at: usize, upper: Option<value::Value>) -> usize
-    requires { at < 2 ^ 31 }
-    ensures { (Written out.old at (tab ∷ shown_upper upper) result out.new) × (result ≤ at + 32) }
+// A value, or a word where there is none.
+fn value_or(out: &mut [u8], at: usize, v: Option<value::Value>, word: &[u8]) -> usize
+    requires { (at < 2 ^ 31) × (length word.now ≤ 8) }
+    ensures { (Written out.old at (tab ∷ shown_or word.now v) result out.new) × (result ≤ at + 32) }
 {
-    match upper {
-        None => text_field(out, at, b"inf"),
-        Some(v) => value_field(out, at, v),
-    }
-}
-
-// The least or the greatest value of a row, `-` where it is open.
-fn end_field(out: &mut [u8], at: usize, end: Option<value::Value>) -> usize
-    requires { at < 2 ^ 31 }
-    ensures { (Written out.old at (tab ∷ shown_end end) result out.new) × (result ≤ at + 32) }
-{
-    match end {
-        None => text_field(out, at, b"-"),
+    match v {
+        None => text_field(out, at, word),
         Some(v) => value_field(out, at, v),
     }
 }
@@ -180,12 +169,9 @@ fn element_fields(out: &mut [u8], at: usize, e: store::Element) -> usize
     requires { at < 2 ^ 63 + 2 ^ 30 }
     ensures { Written out.old at (fields (map shown_whole (list_of e))) result out.new }
 {
-    let n = e.length();
     let mut next = at;
-    let mut i = 0;
-    while i < n {
+    for i in 0..e.length() {
         next = whole_field(out, next, e.at(i));
-        i += 1;
     }
     put(out, next, b'\n')
 }
@@ -213,6 +199,16 @@ pub fn lp(
     put(out, at, b'\n')
 }
 
+// What a row's line starts with.
+fn row_start(number: usize, kind: Kind, right: value::Value, out: &mut [u8]) -> usize
+    ensures { (Written out.old 0 (row_start number (kind_in kind) right) result out.new) × (result ≤ 128) }
+{
+    let at = put_text(out, 0, b"row");
+    let at = number_field(out, at, number);
+    let at = kind_field(out, at, kind);
+    value_field(out, at, right)
+}
+
 pub fn row(
     number: usize,
     kind: Kind,
@@ -223,10 +219,7 @@ pub fn row(
 ) -> usize
     ensures { Written out.old 0 (shown_line (row_line number (kind_in kind) right title.now (list_of e))) result out.new }
 {
-    let at = put_text(out, 0, b"row");
-    let at = number_field(out, at, number);
-    let at = kind_field(out, at, kind);
-    let at = value_field(out, at, right);
+    let at = row_start(number, kind, right, out);
     let at = text_field(out, at, title);
     element_fields(out, at, e)
 }
@@ -241,6 +234,23 @@ pub fn low(row: usize, v: value::Value, out: &mut [u8]) -> usize
     put(out, at, b'\n')
 }
 
+// What a variable's line starts with.
+fn variable_start(
+    number: usize,
+    discrete: bool,
+    lower: value::Value,
+    upper: Option<value::Value>,
+    out: &mut [u8],
+) -> usize
+    ensures { (Written out.old 0 (variable_start number discrete lower upper) result out.new) × (result ≤ 160) }
+{
+    let at = put_text(out, 0, b"var");
+    let at = number_field(out, at, number);
+    let at = letter_field(out, at, letter(discrete, b'D', b'C'));
+    let at = value_field(out, at, lower);
+    value_or(out, at, upper, b"inf")
+}
+
 pub fn variable(
     number: usize,
     discrete: bool,
@@ -252,11 +262,7 @@ pub fn variable(
 ) -> usize
     ensures { Written out.old 0 (shown_line (var_line number discrete lower upper name.now (list_of e))) result out.new }
 {
-    let at = put_text(out, 0, b"var");
-    let at = number_field(out, at, number);
-    let at = letter_field(out, at, letter(discrete, b'D', b'C'));
-    let at = value_field(out, at, lower);
-    let at = upper_field(out, at, upper);
+    let at = variable_start(number, discrete, lower, upper, out);
     let at = text_field(out, at, name);
     element_fields(out, at, e)
 }
@@ -289,8 +295,8 @@ pub fn span(
 {
     let at = put_text(out, 0, b"span");
     let at = number_field(out, at, number);
-    let at = end_field(out, at, least);
-    let at = end_field(out, at, greatest);
+    let at = value_or(out, at, least, b"-");
+    let at = value_or(out, at, greatest, b"-");
     let at = idle_field(out, at, idle);
     put(out, at, b'\n')
 }
@@ -311,9 +317,5 @@ pub fn refused(number: usize, place: usize, out: &mut [u8]) -> usize
 pub fn clear(out: &mut [u8])
     ensures { out.new ≡ replicate (length out.old) 0 }
 {
-    let mut i = 0;
-    while i < out.len() {
-        out[i] = 0;
-        i += 1;
-    }
+    out.fill(0);
 }

@@ -12,9 +12,11 @@ ghost use Rattle.listing.specs.Sheet.Columns.{cell_lines, column_from, columns_f
 ghost use Rattle.listing.specs.Sheet.Strings.{name_at, string_at, title_of, within};
 ghost use Rattle.listing.specs.Sheet.Told.{RowAlone, RowTold, VariableTold, Writes, WritesAll};
 ghost use Rattle.listing.specs.Sheet.Shown.{Lists};
+ghost use Rattle.tokens.specs.Text.{In};
 
 use constraints::layout;
 use evaluator::steps::names;
+use tokens::Text;
 
 // Whether a text of n bytes and a problem of these sizes are within the limits.
 fn is_within(n: usize, sizes: rows::Sizes) -> bool
@@ -174,10 +176,8 @@ fn row_lines(
     ensures { WritesAll (RowTold text.now tokens.now constraints.now rows.now less) n out.old at result out.new }
 {
     let mut next = at;
-    let mut i = 0;
-    while i < n {
+    for i in 0..n {
         next = row_line(text, tokens, constraints, rows, less, i, out, next);
-        i += 1;
     }
     next
 }
@@ -220,10 +220,8 @@ fn variable_lines(
     ensures { WritesAll (VariableTold text.now names.now variables.now bounds.now discrete) n out.old at result out.new }
 {
     let mut next = at;
-    let mut j = 0;
-    while j < n {
+    for j in 0..n {
         next = variable_line(text, names, variables, bounds, discrete, j, out, next);
-        j += 1;
     }
     next
 }
@@ -259,11 +257,9 @@ fn column(matrix: &[i64], less: usize, rows: usize, j: usize, out: &mut [u8], at
     ensures { (Written out.old at (shown_lines (column_from matrix.now less j rows 0)) result out.new) × (result ≤ at + 65664) }
 {
     let mut next = at;
-    let mut i = 0;
-    while i < rows {
+    for i in 0..rows {
         let k = rows::slot(less, i);
         next = cell(j + 1, i + 1, rows::count_at(matrix, k, j), out, next);
-        i += 1;
     }
     let v = rows::value_of(rows::count_at(matrix, rules::ROW_LIMIT, j));
     column_line(j + 1, rows + 1, v, out, next)
@@ -282,10 +278,8 @@ fn columns(
     ensures { (Written out.old at (shown_lines (columns_from matrix.now less rows variables 0)) result out.new) × (result ≤ at + 33619968) }
 {
     let mut next = at;
-    let mut j = 0;
-    while j < variables {
+    for j in 0..variables {
         next = column(matrix, less, rows, j, out, next);
-        j += 1;
     }
     next
 }
@@ -296,9 +290,7 @@ fn columns(
 // position of its token) and of its data (its place and number of bytes), the lines of rows, of variables and of coefficients, and
 // the last line. Nothing is written where a number is past its limit.
 pub fn write(
-    text: &[u8],
-    names: &[u64],
-    tokens: &[u64],
+    text: Text<'_>,
     constraints: &[u64],
     variables: &[u64],
     rows: &[u64],
@@ -310,19 +302,36 @@ pub fn write(
     data_bytes: u64,
     out: &mut [u8],
 ) -> usize
-    ensures { Lists text.now names.now tokens.now constraints.now variables.now rows.now bounds.now matrix.now sizes title data_place data_bytes out.old result out.new }
+    ensures { In Lists text.entry constraints.now variables.now rows.now bounds.now matrix.now sizes title data_place data_bytes out.old result out.new }
 {
-    if !is_within(text.len(), sizes) {
+    if !is_within(text.bytes.len(), sizes) {
         return 0;
     }
     let less = sizes.less;
     let all = less + sizes.equal;
     let count = sizes.variables;
-    let at = first_line(text, tokens, sizes, title, data_place, data_bytes, out);
-    let at = row_lines(text, tokens, constraints, rows, less, all, out, at);
+    let at = first_line(
+        text.bytes,
+        text.tokens,
+        sizes,
+        title,
+        data_place,
+        data_bytes,
+        out,
+    );
+    let at = row_lines(
+        text.bytes,
+        text.tokens,
+        constraints,
+        rows,
+        less,
+        all,
+        out,
+        at,
+    );
     let at = variable_lines(
-        text,
-        names,
+        text.bytes,
+        text.names,
         variables,
         bounds,
         sizes.discrete,

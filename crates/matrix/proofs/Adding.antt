@@ -1,5 +1,6 @@
 -- Laws of one element of a constraint: the entry that it adds, as a row in its slot or as a bound.
-use Rattle.std.specs.Prelude.{Option}
+use Rattle.std.specs.Prelude.{Err, Ok, Result, Option}
+use Rattle.rules.specs.declared.Refused.{Refused}
 use mathlib.Core.Path.{◌≡◌, refl, sym, ◌∙◌, ap, subst}
 use mathlib.Core.Bool.{Bool, true, false, not}
 use mathlib.Core.List.{List, [], ◌∷◌, ◌++◌, map}
@@ -30,8 +31,6 @@ use Rattle.store.specs.Element.{list_of}
 use Rattle.evaluator.specs.declared.steps.scope.Scope.{Scope}
 use Rattle.evaluator.specs.Steps.Scopes.{bindings_of, scope_of, Small}
 use Rattle.evaluator.proofs.steps.Scopes.{small-none}
-use Rattle.evaluator.specs.declared.Passed.{Passed}
-use Rattle.evaluator.specs.declared.Passed.TheVariants as passed
 use Rattle.evaluator.specs.Tables.{World}
 use Rattle.evaluator.specs.Cycle.{seen_by, nothing_bound, under}
 use Rattle.constraints.specs.Rows.{SideAt, FloorAt, is_bare}
@@ -44,11 +43,7 @@ use Rattle.rows.proofs.Slotting.{rows-counted, next-within, row-added, bound-pas
 use Rattle.rows.proofs.Bounding.{bound-added, row-passed}
 use Rattle.gatherer.specs.Cycle.{Model}
 use Rattle.matrix.specs.declared.sides.Bounded.{Bounded}
-use Rattle.matrix.specs.declared.sides.Bounded.TheVariants as bounded
-use Rattle.matrix.specs.declared.sides.Ends.{Ends}
-use Rattle.matrix.specs.declared.sides.Ends.TheVariants as ends
 use Rattle.matrix.specs.Sides.Answers.{EndsAt, fact_with, BoundFound, BoundIs, Holds, GathersTo, RowOn, Rowed, RightIs}
-use Rattle.matrix.specs.declared.Generated.TheVariants as generated
 use Rattle.matrix.specs.Answers.{Stays, Takes, RowAdds, BoundAdds, ObjectiveAdds, ObjectiveIs}
 
 -- ---- what the definition adds
@@ -123,7 +118,7 @@ module _ (ns ts ds : List ℕ) (given : ℕ) (xs : List ℕ) (total : ℕ) where
 
   -- a row in its slot
   module _ (n : ℕ) (p : Parts) (sc : Scope) (e : Element) (f : Filled) (t : List ℕ) (m : List ℤ) (few : total ≤ 512) (wide : 263168 ≤ length m)
-      (slot : ℕ) (hs : slot ≡ next_slot f.less f.equal p.equal) (q : List ℤ) (side : Ends)
+      (slot : ℕ) (hs : slot ≡ next_slot f.less f.equal p.equal) (q : List ℤ) (side : Result (Value × ℕ) Refused)
       (kept : length q ≡ length (take (slot * 512 + total - slot * 512) (drop (slot * 512) m)))
       (h : RightIs p.flips p.floor ns ts ds given xs total 64 sc p.left p.right (take (slot * 512 + total - slot * 512) (drop (slot * 512) m)) side q) where
     abbrev written : List ℤ
@@ -145,21 +140,21 @@ module _ (ns ts ds : List ℕ) (given : ℕ) (xs : List ℕ) (total : ℕ) where
         h.is w sm (mid_len (slot * 512) (slot * 512 + total) m within ∙ omega arith) c.left b (side-seen w n c p k) c.right c.relation k.tells.flips
         k.tells.floor (ends-seen w n c p k)
 
-    pub row-refused : (r : Refusal) (a : ℕ) → side ≡ ends.Refused r a → RowAdds ns ts ds given xs total n p sc (list_of e) f t m (generated.Refused r a) t written
-    row-refused r a i =
+    pub row-refused : (w : Refused) → side ≡ Err w → RowAdds ns ts ds given xs total n p sc (list_of e) f t m (Err w) t written
+    row-refused y i =
         record {
           stays = stays;
           adds = λ w c k b sm sub bs es st.
-              entry-refused w.variables n c (under w.world sc) (list_of e) es r a
+              entry-refused w.variables n c (under w.world sc) (list_of e) es y.refusal y.place
               (subst (λ z. Rowed w.variables (fact_with w.variables c.left c.relation c.right (under w.world sc)) z q) i (rowed w c k b sm));
         }
 
-    module _ (v : Value) (word : ℕ) (i : side ≡ ends.At v word) (room : Bool) (hr : room ≡ ltb (f.less + f.equal) row_limit) where
+    module _ (v : Value) (word : ℕ) (i : side ≡ Ok (v, word)) (room : Bool) (hr : room ≡ ltb (f.less + f.equal) row_limit) where
       on : (w : Model ns ts ds given xs total) (c : Constraint) → Takes ns ts ds given xs total w n c p → is_bare c.left ≡ false → Small sc
           → RowOn w.variables (fact_with w.variables c.left c.relation c.right (under w.world sc)) v word q
       on w c k b sm = subst (λ z. Rowed w.variables (fact_with w.variables c.left c.relation c.right (under w.world sc)) z q) i (rowed w c k b sm)
 
-      pub row-full : not room ≡ true → RowAdds ns ts ds given xs total n p sc (list_of e) f t m (generated.Refused Full p.place) t written
+      pub row-full : not room ≡ true → RowAdds ns ts ds given xs total n p sc (list_of e) f t m (Err (record { refusal = Full; place = p.place })) t written
       unfolding row_limit
       row-full z =
           record {
@@ -172,7 +167,7 @@ module _ (ns ts ds : List ℕ) (given : ℕ) (xs : List ℕ) (total : ℕ) where
           }
 
       pub row_written : not room ≡ false → 4104 ≤ length t → (g : Filled) (t' : List ℕ) → Wrote t f p.equal n (list_of e) v word g t'
-          → RowAdds ns ts ds given xs total n p sc (list_of e) f t m (generated.Of g) t' written
+          → RowAdds ns ts ds given xs total n p sc (list_of e) f t m (Ok g) t' written
       unfolding row_limit
       row_written z size g t' wr =
           record {
@@ -197,34 +192,34 @@ module _ (ns ts ds : List ℕ) (given : ℕ) (xs : List ℕ) (total : ℕ) where
           }
 
   -- a bound
-  module _ (p : Parts) (sc : Scope) (b : List ℕ) (few : total ≤ 512) (wide : 1024 ≤ length b) (stated : Bounded)
+  module _ (p : Parts) (sc : Scope) (b : List ℕ) (few : total ≤ 512) (wide : 1024 ≤ length b) (stated : Result Bounded Refused)
       (h : BoundIs p.floor ns ts ds given xs total 64 sc p.left p.right stated) where
-    bounds : (w : Model ns ts ds given xs total) (n : ℕ) (c : Constraint) → Takes ns ts ds given xs total w n c p → is_bare c.left ≡ true → Small sc → (y : Bounded) → stated ≡ y
+    bounds : (w : Model ns ts ds given xs total) (n : ℕ) (c : Constraint) → Takes ns ts ds given xs total w n c p → is_bare c.left ≡ true → Small sc → (y : Result Bounded Refused) → stated ≡ y
         → BoundFound total (fact_with w.variables c.left c.relation c.right (under w.world sc)) y
     bounds w n c k bare sm y i =
         subst (BoundFound total (fact_with w.variables c.left c.relation c.right (under w.world sc))) i
         (h.is w sm c.left bare (side-seen w n c p k) c.right c.relation k.tells.floor (ends-seen w n c p k))
 
-    pub bound-refused : (r : Refusal) (a : ℕ) → stated ≡ bounded.Refused r a → BoundAdds ns ts ds given xs total p sc b (passed.Refused r a) b
-    bound-refused r a i =
-        record { adds = λ w n c k bare sm e t m f es st. entry-refused w.variables n c (under w.world sc) e es r a (bounds w n c k bare sm _ i) }
+    pub bound-refused : (e : Refused) → stated ≡ Err e → BoundAdds ns ts ds given xs total p sc b (Err e) b
+    bound-refused z i =
+        record { adds = λ w n c k bare sm e t m f es st. entry-refused w.variables n c (under w.world sc) e es z.refusal z.place (bounds w n c k bare sm _ i) }
 
-    pub bound-stated : (j : ℕ) (v : Value) (word : ℕ) (half b' : List ℕ) → stated ≡ bounded.At j v word → half ≡ bound_stated b j p.lower p.upper v → b' ≡ floor_stated half j word
-        → BoundAdds ns ts ds given xs total p sc b passed.Inside b'
-    bound-stated j v word half b' i g l =
+    pub bound-stated : (w : Bounded) (half b' : List ℕ) → stated ≡ Ok w → half ≡ bound_stated b w.variable p.lower p.upper w.right → b' ≡ floor_stated half w.variable w.floor
+        → BoundAdds ns ts ds given xs total p sc b (Ok tt) b'
+    bound-stated y half b' i g l =
         record {
           adds = λ w n c k bare sm e t m f es st.
               let x = bounds w n c k bare sm _ i in
-              let entry = made n c e (bound j v) x.floor in
+              let entry = made n c e (bound y.variable y.right) x.floor in
               record {
                 entries = es ++ (entry ∷ []);
-                is = bound-entered w.variables n c (under w.world sc) e es j v x.floor x.is;
+                is = bound-entered w.variables n c (under w.world sc) e es y.variable y.right x.floor x.is;
                 state =
                     record {
                       rows = bound-passed w.variables t m f.less f.equal es entry st.rows refl;
-                      bounds = bound-added b b' (length w.variables) es entry st.bounds j v p.lower p.upper refl k.tells.lower k.tells.upper x.valid (under w.world sc)
-                          (floor-is w.variables n c (under w.world sc) e es (bound j v) x.floor x.is) x.valid_floor (omega (arith, w.held.count)) word x.word-is
-                          (l ∙ ap (λ z. floor_stated z j word) g);
+                      bounds = bound-added b b' (length w.variables) es entry st.bounds y.variable y.right p.lower p.upper refl k.tells.lower k.tells.upper x.valid (under w.world sc)
+                          (floor-is w.variables n c (under w.world sc) e es (bound y.variable y.right) x.floor x.is) x.valid_floor (omega (arith, w.held.count)) y.floor x.word-is
+                          (l ∙ ap (λ z. floor_stated z y.variable y.floor) g);
                     };
               };
         }
@@ -237,11 +232,11 @@ unfolding scope_of
 under_none w sc h = rw h
 
 module _ (b : Bool) (ns ts ds : List ℕ) (given : ℕ) (xs : List ℕ) (total at : ℕ) where
-  pub objective-many : (r : Passed) (m' : List ℤ) → 512 < total → ObjectiveIs b ns ts ds given xs total at r m'
+  pub objective-many : (r : Result Unit Refused) (m' : List ℤ) → 512 < total → ObjectiveIs b ns ts ds given xs total at r m'
   unfolding variable_limit
   objective-many r m' h = record { is = λ g. absurd (omega arith) }
 
-  module _ (m : List ℤ) (few : total ≤ 512) (slot : ℕ) (hs : slot ≡ 512) (wide : 263168 ≤ length m) (sc : Scope) (none : bindings_of sc ≡ []) (r : Passed) (q : List ℤ)
+  module _ (m : List ℤ) (few : total ≤ 512) (slot : ℕ) (hs : slot ≡ 512) (wide : 263168 ≤ length m) (sc : Scope) (none : bindings_of sc ≡ []) (r : Result Unit Refused) (q : List ℤ)
       (kept : length q ≡ length (take (slot * 512 + total - slot * 512) (drop (slot * 512) m)))
       (h : GathersTo (map (signed b)) ns ts ds given xs total 64 sc at (take (slot * 512 + total - slot * 512) (drop (slot * 512) m)) r q) where
     abbrev whole : List ℤ
@@ -260,12 +255,12 @@ module _ (b : Bool) (ns ts ds : List ℕ) (given : ℕ) (xs : List ℕ) (total a
         put : RowPut total m slot q whole
         put = row_put m q total slot (slot * 512) (slot * 512 + total) refl refl few (omega arith) kept
 
-        go : (w : Model ns ts ds given xs total) (f : Form) (r : Passed) → Holds w.variables (map (signed b)) (gathered w.variables f (nothing_bound w.world)) r q
+        go : (w : Model ns ts ds given xs total) (f : Form) (r : Result Unit Refused) → Holds w.variables (map (signed b)) (gathered w.variables f (nothing_bound w.world)) r q
             → ObjectiveAdds w.variables b (gathered w.variables f (nothing_bound w.world)) r whole
-        go w f passed.Inside y =
+        go w f (Ok tt) y =
             record {
               coefficients = y.coefficients;
               is = y.is;
               held = objective-put w.variables m whole q slot (map (signed b) y.coefficients) hs (subst (λ z. RowPut z m slot q whole) w.held.count put) y.counts;
             }
-        go w f (passed.Refused n p) y = y
+        go w f (Err e) y = y

@@ -1,4 +1,6 @@
 -- Laws of the list of constraints: each in its row, one after the other, and all of them.
+use Rattle.std.specs.Prelude.{Err, Ok, Result}
+use Rattle.rules.specs.declared.Refused.{Refused}
 use mathlib.Core.Path.{◌≡◌, refl, sym, ◌∙◌, subst}
 use mathlib.Core.Bool.{Bool, true, false}
 use mathlib.Core.List.{List, [], ◌∷◌}
@@ -17,8 +19,6 @@ use Rattle.language.specs.Evaluation.{over}
 use Rattle.language.specs.Numbering.{Variable, Entry, add_entry, add_entries}
 use Rattle.tokens.specs.Stored.{rows_of}
 use Rattle.store.specs.Key.{name_bound}
-use Rattle.evaluator.specs.declared.Passed.{Passed}
-use Rattle.evaluator.specs.declared.Passed.TheVariants as passed
 use Rattle.evaluator.specs.Cycle.{nothing_bound}
 use Rattle.constraints.specs.Layout.{row_at}
 use Rattle.constraints.specs.Rows.{is_bare, RowOf, Rows}
@@ -28,8 +28,6 @@ use Rattle.rows.specs.declared.Filled.{Filled}
 use Rattle.rows.proofs.Slotting.{rows_none}
 use Rattle.rows.proofs.Bounding.{bounds-none}
 use Rattle.gatherer.specs.Cycle.{Model}
-use Rattle.matrix.specs.declared.Generated.{Generated}
-use Rattle.matrix.specs.declared.Generated.TheVariants as generated
 use Rattle.matrix.specs.Answers.{State, Adds, AddsBounds, Stays, Takes, RowsAdd, BoundsAdd, OneAdds, AllAdd, Generates}
 
 -- ---- one constraint
@@ -42,11 +40,11 @@ module _ (ns ts ds : List ℕ) (given : ℕ) (xs : List ℕ) (total : ℕ) (cs :
   side-is : (v : Bool) → p.bare ≡ v → (w : Model ns ts ds given xs total) (c : Constraint) → RowOf w.world.text ts (row_at cs k) w.world.names c → is_bare c.left ≡ v
   side-is v i w c r = (h.is w.world.text w.world.names c r).bare ∙ i
 
-  pub one-rows : p.bare ≡ false → (r : Generated) (t' : List ℕ) (m' : List ℤ) → RowsAdd ns ts ds given xs total k p f t m r t' m' → OneAdds ns ts ds given xs total cs k f t b m r t' b m'
+  pub one-rows : p.bare ≡ false → (r : Result Filled Refused) (t' : List ℕ) (m' : List ℤ) → RowsAdd ns ts ds given xs total k p f t m r t' m' → OneAdds ns ts ds given xs total cs k f t b m r t' b m'
   one-rows i r t' m' a = record { stays = a.stays; adds = λ w n c row es st. a.adds w c (takes w n c row) (side-is false i w c row) b es st }
 
-  module _ (i : p.bare ≡ true) (q : Passed) (b' : List ℕ) (a : BoundsAdd ns ts ds given xs total p b q b') where
-    pub one-bounds : q ≡ passed.Inside → OneAdds ns ts ds given xs total cs k f t b m (generated.Of f) t b' m
+  module _ (i : p.bare ≡ true) (q : Result Unit Refused) (b' : List ℕ) (a : BoundsAdd ns ts ds given xs total p b q b') where
+    pub one-bounds : q ≡ Ok tt → OneAdds ns ts ds given xs total cs k f t b m (Ok f) t b' m
     one-bounds j =
         record {
           stays = refl;
@@ -55,8 +53,8 @@ module _ (ns ts ds : List ℕ) (given : ℕ) (xs : List ℕ) (total : ℕ) (cs :
               (a.adds w k c (takes w n c row) (side-is true i w c row) t m f es st);
         }
 
-    pub one-refused : (r : Refusal) (o : ℕ) → q ≡ passed.Refused r o → OneAdds ns ts ds given xs total cs k f t b m (generated.Refused r o) t b' m
-    one-refused r o j =
+    pub one-refused : (e : Refused) → q ≡ Err e → OneAdds ns ts ds given xs total cs k f t b m (Err e) t b' m
+    one-refused y j =
         record {
           stays = refl;
           adds = λ w n c row es st.
@@ -175,7 +173,7 @@ module _ (ns ts ds : List ℕ) (given : ℕ) (xs : List ℕ) (total : ℕ) (cs :
     unfolding constraint_limit
     size-rows h = length-take (count * 5) cs ∙ omega (arith, o.rowed)
 
-    pub all_done : count ≤ k → AllAdd ns ts ds given xs total cs count b₀ m₀ (generated.Of f) t b m
+    pub all_done : count ≤ k → AllAdd ns ts ds given xs total cs count b₀ m₀ (Ok f) t b m
     all_done g =
         record {
           stays = o.stays;
@@ -185,7 +183,7 @@ module _ (ns ts ds : List ℕ) (given : ℕ) (xs : List ℕ) (total : ℕ) (cs :
               record { entries = x.entries; is = x.due ∙ entries_none w.variables (nothing_bound w.world) k l x.entries (drop_of_length-le l n); state = x.state };
         }
 
-    module _ (g : k < count) (q : Generated) (t' b' : List ℕ) (m' : List ℤ) (a : OneAdds ns ts ds given xs total cs k f t b m q t' b' m') where
+    module _ (g : k < count) (q : Result Filled Refused) (t' b' : List ℕ) (m' : List ℤ) (a : OneAdds ns ts ds given xs total cs k f t b m q t' b' m') where
       -- the constraint in row k
       next_row : (w : Model ns ts ds given xs total) → count ≤ constraint_limit → (l : List Constraint) → Rows w.world.text ts (rows_of count cs) w.world.names l → RowHere w.world.text ts w.world.names (rows_of count cs) l k
       next_row w i l r = row_here w.world.text ts w.world.names (rows_of count cs) l r k (omega (arith, size-rows i))
@@ -197,19 +195,18 @@ module _ (ns ts ds : List ℕ) (given : ℕ) (xs : List ℕ) (total : ℕ) (cs :
           let c = next_row w i l r in
           a.adds w (omega arith) c.constraint (row-whole w.world.text ts w.world.names cs count k c.constraint g c.row) x.entries x.state
 
-      pub all-refused : (r : Refusal) (p : ℕ) → q ≡ generated.Refused r p → AllAdd ns ts ds given xs total cs count b₀ m₀ q t' b' m'
-      all-refused n p j =
+      pub all-refused : (e : Refused) → q ≡ Err e → AllAdd ns ts ds given xs total cs count b₀ m₀ (Err e) t' b' m'
+      all-refused u j =
           record {
             stays = a.stays ∙ o.stays;
             adds = λ w i l r z.
                 let x = o.on w i l r z in
                 let c = next_row w i l r in
                 let y = subst (λ z. Adds w.variables (over c.constraint.domain (nothing_bound w.world) (add_entry w.variables k c.constraint) x.entries) z t' m' b') j (adds-next w i l r x) in
-                subst (λ z. Adds w.variables (all-entries w l) z t' m' b') (sym j)
-                (x.due ∙ entries-refused w.variables (nothing_bound w.world) k l x.entries c.constraint c.here n p y);
+                x.due ∙ entries-refused w.variables (nothing_bound w.world) k l x.entries c.constraint c.here u.refusal u.place y;
           }
 
-      pub all_more : (h : Filled) → q ≡ generated.Of h → length t' ≡ length t → length b' ≡ length b → length m' ≡ length m → AllOn h t' b' m' (k + 1)
+      pub all_more : (h : Filled) → q ≡ Ok h → length t' ≡ length t → length b' ≡ length b → length m' ≡ length m → AllOn h t' b' m' (k + 1)
       all_more h j ht hb hm =
           record {
             few = o.few;
@@ -235,7 +232,7 @@ module _ (ns ts ds : List ℕ) (given : ℕ) (xs : List ℕ) (total : ℕ) (cs :
 
 -- ---- at most 512 variables
 
-module _ (ns ts ds : List ℕ) (given : ℕ) (xs : List ℕ) (total : ℕ) (cs : List ℕ) (count : ℕ) (b : List ℕ) (m : List ℤ) (r : Generated) (t' b' : List ℕ) (m' : List ℤ) where
+module _ (ns ts ds : List ℕ) (given : ℕ) (xs : List ℕ) (total : ℕ) (cs : List ℕ) (count : ℕ) (b : List ℕ) (m : List ℤ) (r : Result Filled Refused) (t' b' : List ℕ) (m' : List ℤ) where
   pub too_many : 512 < total → Generates ns ts ds given xs total cs count b m r t' b' m'
   unfolding variable_limit
   too_many h = record { all = λ g. absurd (omega arith) }

@@ -1,12 +1,13 @@
 -- Laws of the loops over the elements of a constraint: they start, add an entry, are refused or end.
-use mathlib.Core.Path.{◌≡◌, refl, sym, ◌∙◌, subst}
+use Rattle.std.specs.Prelude.{Err, None, Ok, Option, Result, Some}
+use Rattle.rules.specs.declared.Refused.{Refused}
+use mathlib.Core.Path.{◌≡◌, refl, sym, ◌∙◌, ap, subst}
 use mathlib.Core.Bool.{true, false}
 use mathlib.Core.List.{List, [], ◌∷◌, map}
-use Prim.Native.Nat.{ℕ, ◌≤◌}
+use Prim.Native.Nat.{ℕ, ◌<◌, ◌≤◌}
 use native.Mathlib.Omega.{arith}
 use lib.ListN.{length}
 use lib.IntN.{ℤ}
-use Rattle.rules.specs.declared.Refusal.{Refusal}
 use Rattle.language.specs.Outcome.{Outcome}
 use Rattle.language.specs.Syntax.{Constraint}
 use Rattle.language.specs.Evaluation.{over}
@@ -15,26 +16,24 @@ use Rattle.store.specs.declared.Element.{Element}
 use Rattle.store.specs.Element.{list_of}
 use Rattle.evaluator.specs.declared.steps.scope.Scope.{Scope}
 use Rattle.evaluator.specs.Steps.Scopes.{bindings_of}
-use Rattle.evaluator.specs.declared.Passed.{Passed}
-use Rattle.evaluator.specs.declared.Passed.TheVariants as passed
 use Rattle.evaluator.specs.Tables.{DomainAt}
 use Rattle.evaluator.specs.Cycle.{nothing_bound, under}
 use Rattle.constraints.specs.Rows.{is_bare}
 use Rattle.elements.specs.declared.here.Here.{Here}
-use Rattle.elements.specs.declared.Step.{Step}
-use Rattle.elements.specs.declared.Step.TheVariants.{At, Done, Refused}
 use Rattle.elements.specs.Held.{held, number_of, bound}
-use Rattle.elements.specs.Steps.{FirstIs, NextIs}
+use Rattle.elements.specs.Steps.{turns_left, FirstIs, NextIs}
 use Rattle.elements.specs.Loops.{Remains}
 use Rattle.elements.proofs.Held.{map-take}
-use Rattle.elements.proofs.Loops.{loop-start, loop-more, loop-refused, loop-done, loop-stopped, loop-small, loop-subscripts}
+use Rattle.elements.proofs.Loops.{next-less, loop-start, loop-more, loop-refused, loop-done, loop-stopped, loop-small, loop-subscripts}
 use Rattle.matrix.specs.declared.parts.Parts.{Parts}
 use Rattle.rows.specs.declared.Filled.{Filled}
 use Rattle.gatherer.specs.Cycle.{Model}
-use Rattle.matrix.specs.declared.Generated.{Generated}
-use Rattle.matrix.specs.declared.Generated.TheVariants as generated
 use Rattle.matrix.specs.Answers.{State, Adds, AddsBounds, Stays, Takes, RowAdds, RowsAdd, BoundAdds, BoundsAdd}
 use Rattle.matrix.proofs.Adding.{seen_all}
+
+-- the measure of both loops
+pub step-falls : (ns ts ds : List ℕ) (given level : ℕ) (h : Here) (q q' : Option Here) (r : Result (Option Here) Refused) → q ≡ Some h → NextIs ns ts ds given level h r → r ≡ Ok q' → turns_left (Ok q') < turns_left (Ok q)
+step-falls ns ts ds given level h q q' r e x f = subst (λ y. turns_left y < turns_left (Ok q)) f (next-less ns ts ds given level h (Ok q) r (ap Ok e) x)
 
 -- the numbers of an element, where the step doesn't ask for them
 abbrev numbers : Here → Element
@@ -46,13 +45,13 @@ numbers-same h = sym (map-take number_of h.count (h.first ∷ h.second ∷ h.thi
 
 module _ (ns ts ds : List ℕ) (given : ℕ) (xs : List ℕ) (total : ℕ) where
   -- what is left to do at the elements that a step has
-  abbrev Left : (w : Model ns ts ds given xs total) (n : ℕ) (c : Constraint) → Parts → Step → List Entry → Outcome (List Entry) → Type 0
+  abbrev Left : (w : Model ns ts ds given xs total) (n : ℕ) (c : Constraint) → Parts → Result (Option Here) Refused → List Entry → Outcome (List Entry) → Type 0
   Left w n c p = Remains w.world 64 p.count p.at (add_entry w.variables n c)
 
   abbrev whole : (w : Model ns ts ds given xs total) (n : ℕ) (c : Constraint) → List Entry → Outcome (List Entry)
   whole w n c es = over c.domain (nothing_bound w.world) (add_entry w.variables n c) es
 
-  left-start : (w : Model ns ts ds given xs total) (n : ℕ) (c : Constraint) (p : Parts) → Takes ns ts ds given xs total w n c p → (r : Step) → FirstIs ns ts ds given 64 p.count p.at r
+  left-start : (w : Model ns ts ds given xs total) (n : ℕ) (c : Constraint) (p : Parts) → Takes ns ts ds given xs total w n c p → (r : Result (Option Here) Refused) → FirstIs ns ts ds given 64 p.count p.at r
       → (es : List Entry) → Left w n c p r es (whole w n c es)
   left-start w n c p k r f es =
       loop-start w.world 64 p.count p.at (add_entry w.variables n c) c.domain
@@ -61,12 +60,12 @@ module _ (ns ts ds : List ℕ) (given : ℕ) (xs : List ℕ) (total : ℕ) where
   -- ---- rows
 
   module _ (n : ℕ) (p : Parts) (f₀ : Filled) (t₀ : List ℕ) (m₀ : List ℤ) where
-    record RowsAt (w : Model ns ts ds given xs total) (c : Constraint) (b : List ℕ) (es : List Entry) (f : Filled) (t : List ℕ) (m : List ℤ) (r : Step) : Type 0 where
+    record RowsAt (w : Model ns ts ds given xs total) (c : Constraint) (b : List ℕ) (es : List Entry) (f : Filled) (t : List ℕ) (m : List ℤ) (r : Result (Option Here) Refused) : Type 0 where
       entries : List Entry
       state : State w.variables t m b f entries
       remains : Left w n c p r entries (whole w n c es)
 
-    pub record RowsOn (f : Filled) (t : List ℕ) (m : List ℤ) (r : Step) : Type 0 where
+    pub record RowsOn (f : Filled) (t : List ℕ) (m : List ℤ) (r : Result (Option Here) Refused) : Type 0 where
       pub few : total ≤ 512
       pub room : 4104 ≤ length t
       pub wide : 263168 ≤ length m
@@ -76,11 +75,19 @@ module _ (ns ts ds : List ℕ) (given : ℕ) (xs : List ℕ) (total : ℕ) where
       on : (w : Model ns ts ds given xs total) (c : Constraint) → Takes ns ts ds given xs total w n c p → is_bare c.left ≡ false
           → (b : List ℕ) (es : List Entry) → State w.variables t₀ m₀ b f₀ es → RowsAt w c b es f t m r
 
-    pub rows_start : (r : Step) → FirstIs ns ts ds given 64 p.count p.at r → total ≤ 512 → 4104 ≤ length t₀ → 263168 ≤ length m₀ → RowsOn f₀ t₀ m₀ r
-    rows_start r i x y z = record { few = x; room = y; wide = z; slots = refl; counts = refl; stays = refl; on = λ w c k b bs es st. record { entries = es; state = st; remains = left-start w n c p k r i es } }
+    pub rows_start : (r : Result (Option Here) Refused) → FirstIs ns ts ds given 64 p.count p.at r → (q : Option Here) → r ≡ Ok q → total ≤ 512 → 4104 ≤ length t₀ → 263168 ≤ length m₀ → RowsOn f₀ t₀ m₀ (Ok q)
+    rows_start r i q e x y z = subst (RowsOn f₀ t₀ m₀) e (record { few = x; room = y; wide = z; slots = refl; counts = refl; stays = refl; on = λ w c k b bs es st. record { entries = es; state = st; remains = left-start w n c p k r i es } })
 
-    module _ (f : Filled) (t : List ℕ) (m : List ℤ) (r : Step) (s : RowsOn f t m r) where
-      pub rows-done : r ≡ Done → RowsAdd ns ts ds given xs total n p f₀ t₀ m₀ (generated.Of f) t m
+    pub rows-unstarted : (r : Result (Option Here) Refused) → FirstIs ns ts ds given 64 p.count p.at r → (e : Refused) → r ≡ Err e → RowsAdd ns ts ds given xs total n p f₀ t₀ m₀ (Err e) t₀ m₀
+    rows-unstarted r i y e =
+        record {
+          stays = refl;
+          adds = λ w c k b bs es st.
+              loop-stopped w.world 64 p.count p.at (add_entry w.variables n c) y es (whole w n c es) (subst (λ z. Left w n c p z es (whole w n c es)) e (left-start w n c p k r i es));
+        }
+
+    module _ (f : Filled) (t : List ℕ) (m : List ℤ) (q : Option Here) (s : RowsOn f t m (Ok q)) where
+      pub rows-done : q ≡ None → RowsAdd ns ts ds given xs total n p f₀ t₀ m₀ (Ok f) t m
       rows-done e =
           record {
             stays = s.stays;
@@ -88,129 +95,146 @@ module _ (ns ts ds : List ℕ) (given : ℕ) (xs : List ℕ) (total : ℕ) where
                 let x = s.on w c k b bs es st in
                 record {
                   entries = x.entries;
-                  is = loop-done w.world 64 p.count p.at (add_entry w.variables n c) x.entries (whole w n c es) (subst (λ z. Left w n c p z x.entries (whole w n c es)) e x.remains);
+                  is = loop-done w.world 64 p.count p.at (add_entry w.variables n c) x.entries (whole w n c es) (subst (λ z. Left w n c p (Ok z) x.entries (whole w n c es)) e x.remains);
                   state = x.state;
                 };
           }
 
-      pub rows-stopped : (c : Refusal) (q : ℕ) → r ≡ Refused c q → RowsAdd ns ts ds given xs total n p f₀ t₀ m₀ (generated.Refused c q) t m
-      rows-stopped i q e =
-          record {
-            stays = s.stays;
-            adds = λ w c k b bs es st.
-                let x = s.on w c k b bs es st in
-                loop-stopped w.world 64 p.count p.at (add_entry w.variables n c) i q x.entries (whole w n c es) (subst (λ z. Left w n c p z x.entries (whole w n c es)) e x.remains);
-          }
-
-      module _ (h : Here) (e : r ≡ At h) (sc : Scope) (hs : bindings_of sc ≡ bound (held h) []) (l : Element) (hl : list_of l ≡ map number_of (held h)) (z : Generated) (t' : List ℕ) (m' : List ℤ)
+      module _ (h : Here) (e : q ≡ Some h) (sc : Scope) (hs : bindings_of sc ≡ bound (held h) []) (l : Element) (hl : list_of l ≡ map number_of (held h)) (z : Result Filled Refused) (t' : List ℕ) (m' : List ℤ)
           (add : RowAdds ns ts ds given xs total n p sc (list_of l) f t m z t' m') where
         -- the step at the element
         stepped : (w : Model ns ts ds given xs total) (c : Constraint) → Takes ns ts ds given xs total w n c p → is_bare c.left ≡ false → (b : List ℕ) (es : List Entry) → State w.variables t₀ m₀ b f₀ es
-            → (x : RowsAt w c b es f t m (At h)) → Adds w.variables (add_entry w.variables n c (under w.world sc) (list_of l) x.entries) z t' m' b
+            → (x : RowsAt w c b es f t m (Ok (Some h))) → Adds w.variables (add_entry w.variables n c (under w.world sc) (list_of l) x.entries) z t' m' b
         stepped w c k b bs es st x =
             add.adds w c k b
             (loop-small w.world 64 p.count p.at (add_entry w.variables n c) h x.entries (whole w n c es) x.remains sc hs l hl)
             (loop-subscripts w.world 64 p.count p.at (add_entry w.variables n c) h x.entries (whole w n c es) x.remains sc hs l hl)
             bs x.entries x.state
 
-        pub rows-refused : (i : Refusal) (q : ℕ) → z ≡ generated.Refused i q → RowsAdd ns ts ds given xs total n p f₀ t₀ m₀ z t' m'
-        rows-refused i q j =
+        pub rows-refused : (e : Refused) → z ≡ Err e → RowsAdd ns ts ds given xs total n p f₀ t₀ m₀ (Err e) t' m'
+        rows-refused o j =
             record {
               stays = add.stays ∙ s.stays;
               adds = λ w c k b bs es st.
-                  let x = subst (RowsAt w c bs es f t m) e (s.on w c k b bs es st) in
+                  let x = subst (λ z. RowsAt w c bs es f t m (Ok z)) e (s.on w c k b bs es st) in
                   let y = subst (λ z. Adds w.variables (add_entry w.variables n c (under w.world sc) (list_of l) x.entries) z t' m' bs) j (stepped w c k b bs es st x) in
-                  subst (λ z. Adds w.variables (whole w n c es) z t' m' bs) (sym j)
-                  (loop-refused w.world 64 p.count p.at (add_entry w.variables n c) h x.entries (whole w n c es) x.remains sc hs l hl i q y);
+                  loop-refused w.world 64 p.count p.at (add_entry w.variables n c) h x.entries (whole w n c es) x.remains sc hs l hl o.refusal o.place y;
             }
 
-        pub rows_more : (g : Filled) → z ≡ generated.Of g → length t' ≡ length t → length m' ≡ length m → (r' : Step) → NextIs ns ts ds given 64 h r' → RowsOn g t' m' r'
-        rows_more g j ht hm r' i =
-            record {
-              few = s.few;
-              room = omega (arith, s.room);
-              wide = omega (arith, s.wide);
-              slots = ht ∙ s.slots;
-              counts = hm ∙ s.counts;
-              stays = add.stays ∙ s.stays;
-              on = λ w c k b bs es st.
-                  let x = subst (RowsAt w c bs es f t m) e (s.on w c k b bs es st) in
-                  let y = subst (λ z. Adds w.variables (add_entry w.variables n c (under w.world sc) (list_of l) x.entries) z t' m' bs) j (stepped w c k b bs es st x) in
-                  record {
-                    entries = y.entries;
-                    state = y.state;
-                    remains = loop-more w.world 64 p.count p.at (add_entry w.variables n c) h x.entries (whole w n c es) x.remains sc hs l hl y.entries r' y.is i;
-                  };
-            }
+        module _ (g : Filled) (j : z ≡ Ok g) (r : Result (Option Here) Refused) (i : NextIs ns ts ds given 64 h r) where
+          -- the entry is added, and the next step is r
+          next-at : (w : Model ns ts ds given xs total) (c : Constraint) → Takes ns ts ds given xs total w n c p → is_bare c.left ≡ false → (b : List ℕ) (es : List Entry) → State w.variables t₀ m₀ b f₀ es → RowsAt w c b es g t' m' r
+          next-at w c k b bs es st =
+              let x = subst (λ z. RowsAt w c bs es f t m (Ok z)) e (s.on w c k b bs es st) in
+              let y = subst (λ z. Adds w.variables (add_entry w.variables n c (under w.world sc) (list_of l) x.entries) z t' m' bs) j (stepped w c k b bs es st x) in
+              record {
+                entries = y.entries;
+                state = y.state;
+                remains = loop-more w.world 64 p.count p.at (add_entry w.variables n c) h x.entries (whole w n c es) x.remains sc hs l hl y.entries r y.is i;
+              }
+
+          pub rows-stopped : (e : Refused) → r ≡ Err e → RowsAdd ns ts ds given xs total n p f₀ t₀ m₀ (Err e) t' m'
+          rows-stopped y e =
+              record {
+                stays = add.stays ∙ s.stays;
+                adds = λ w c k b bs es st.
+                    let x = next-at w c k b bs es st in
+                    loop-stopped w.world 64 p.count p.at (add_entry w.variables n c) y x.entries (whole w n c es) (subst (λ z. Left w n c p z x.entries (whole w n c es)) e x.remains);
+              }
+
+          pub rows_more : (q' : Option Here) → r ≡ Ok q' → length t' ≡ length t → length m' ≡ length m → RowsOn g t' m' (Ok q')
+          rows_more q' e ht hm =
+              record {
+                few = s.few;
+                room = omega (arith, s.room);
+                wide = omega (arith, s.wide);
+                slots = ht ∙ s.slots;
+                counts = hm ∙ s.counts;
+                stays = add.stays ∙ s.stays;
+                on = λ w c k b bs es st. subst (RowsAt w c bs es g t' m') e (next-at w c k b bs es st);
+              }
 
   -- ---- bounds
 
   module _ (p : Parts) (b₀ : List ℕ) where
-    record BoundsAt (w : Model ns ts ds given xs total) (n : ℕ) (c : Constraint) (t : List ℕ) (m : List ℤ) (f : Filled) (es : List Entry) (b : List ℕ) (r : Step) : Type 0 where
+    record BoundsAt (w : Model ns ts ds given xs total) (n : ℕ) (c : Constraint) (t : List ℕ) (m : List ℤ) (f : Filled) (es : List Entry) (b : List ℕ) (r : Result (Option Here) Refused) : Type 0 where
       entries : List Entry
       state : State w.variables t m b f entries
       remains : Left w n c p r entries (whole w n c es)
 
-    pub record BoundsOn (b : List ℕ) (r : Step) : Type 0 where
+    pub record BoundsOn (b : List ℕ) (r : Result (Option Here) Refused) : Type 0 where
       pub few : total ≤ 512
       pub room : 1024 ≤ length b
       pub words : length b ≡ length b₀
       on : (w : Model ns ts ds given xs total) (n : ℕ) (c : Constraint) → Takes ns ts ds given xs total w n c p → is_bare c.left ≡ true
           → (t : List ℕ) (m : List ℤ) (f : Filled) (es : List Entry) → State w.variables t m b₀ f es → BoundsAt w n c t m f es b r
 
-    pub bounds-start : (r : Step) → FirstIs ns ts ds given 64 p.count p.at r → total ≤ 512 → 1024 ≤ length b₀ → BoundsOn b₀ r
-    bounds-start r i x y = record { few = x; room = y; words = refl; on = λ w n c k a t m f es st. record { entries = es; state = st; remains = left-start w n c p k r i es } }
+    pub bounds-start : (r : Result (Option Here) Refused) → FirstIs ns ts ds given 64 p.count p.at r → (q : Option Here) → r ≡ Ok q → total ≤ 512 → 1024 ≤ length b₀ → BoundsOn b₀ (Ok q)
+    bounds-start r i q e x y = subst (BoundsOn b₀) e (record { few = x; room = y; words = refl; on = λ w n c k a t m f es st. record { entries = es; state = st; remains = left-start w n c p k r i es } })
 
-    module _ (b : List ℕ) (r : Step) (s : BoundsOn b r) where
-      pub bounds-done : r ≡ Done → BoundsAdd ns ts ds given xs total p b₀ passed.Inside b
+    pub bounds-unstarted : (r : Result (Option Here) Refused) → FirstIs ns ts ds given 64 p.count p.at r → (e : Refused) → r ≡ Err e → BoundsAdd ns ts ds given xs total p b₀ (Err e) b₀
+    bounds-unstarted r i y e =
+        record {
+          adds = λ w n c k a t m f es st.
+              loop-stopped w.world 64 p.count p.at (add_entry w.variables n c) y es (whole w n c es) (subst (λ z. Left w n c p z es (whole w n c es)) e (left-start w n c p k r i es));
+        }
+
+    module _ (b : List ℕ) (q : Option Here) (s : BoundsOn b (Ok q)) where
+      pub bounds-done : q ≡ None → BoundsAdd ns ts ds given xs total p b₀ (Ok tt) b
       bounds-done e =
           record {
             adds = λ w n c k a t m f es st.
                 let x = s.on w n c k a t m f es st in
                 record {
                   entries = x.entries;
-                  is = loop-done w.world 64 p.count p.at (add_entry w.variables n c) x.entries (whole w n c es) (subst (λ z. Left w n c p z x.entries (whole w n c es)) e x.remains);
+                  is = loop-done w.world 64 p.count p.at (add_entry w.variables n c) x.entries (whole w n c es) (subst (λ z. Left w n c p (Ok z) x.entries (whole w n c es)) e x.remains);
                   state = x.state;
                 };
           }
 
-      pub bounds-stopped : (c : Refusal) (q : ℕ) → r ≡ Refused c q → BoundsAdd ns ts ds given xs total p b₀ (passed.Refused c q) b
-      bounds-stopped i q e =
-          record {
-            adds = λ w n c k a t m f es st.
-                let x = s.on w n c k a t m f es st in
-                loop-stopped w.world 64 p.count p.at (add_entry w.variables n c) i q x.entries (whole w n c es) (subst (λ z. Left w n c p z x.entries (whole w n c es)) e x.remains);
-          }
-
-      module _ (h : Here) (e : r ≡ At h) (sc : Scope) (hs : bindings_of sc ≡ bound (held h) []) (z : Passed) (b' : List ℕ) (add : BoundAdds ns ts ds given xs total p sc b z b') where
+      module _ (h : Here) (e : q ≡ Some h) (sc : Scope) (hs : bindings_of sc ≡ bound (held h) []) (z : Result Unit Refused) (b' : List ℕ) (add : BoundAdds ns ts ds given xs total p sc b z b') where
         stated : (w : Model ns ts ds given xs total) (n : ℕ) (c : Constraint) → Takes ns ts ds given xs total w n c p → is_bare c.left ≡ true → (t : List ℕ) (m : List ℤ) (f : Filled) (es : List Entry)
-            → (x : BoundsAt w n c t m f es b (At h)) → AddsBounds w.variables (add_entry w.variables n c (under w.world sc) (list_of (numbers h)) x.entries) z t m b' f
+            → (x : BoundsAt w n c t m f es b (Ok (Some h))) → AddsBounds w.variables (add_entry w.variables n c (under w.world sc) (list_of (numbers h)) x.entries) z t m b' f
         stated w n c k a t m f es x =
             add.adds w n c k a
             (loop-small w.world 64 p.count p.at (add_entry w.variables n c) h x.entries (whole w n c es) x.remains sc hs (numbers h) (numbers-same h))
             (list_of (numbers h)) t m f x.entries x.state
 
-        pub bounds-refused : (i : Refusal) (q : ℕ) → z ≡ passed.Refused i q → BoundsAdd ns ts ds given xs total p b₀ (passed.Refused i q) b'
-        bounds-refused i q j =
+        pub bounds-refused : (e : Refused) → z ≡ Err e → BoundsAdd ns ts ds given xs total p b₀ (Err e) b'
+        bounds-refused o j =
             record {
               adds = λ w n c k a t m f es st.
-                  let x = subst (BoundsAt w n c t m f es b) e (s.on w n c k a t m f es st) in
+                  let x = subst (λ z. BoundsAt w n c t m f es b (Ok z)) e (s.on w n c k a t m f es st) in
                   let y = subst (λ z. AddsBounds w.variables (add_entry w.variables n c (under w.world sc) (list_of (numbers h)) x.entries) z t m b' f) j (stated w n c k a t m f es x) in
-                  loop-refused w.world 64 p.count p.at (add_entry w.variables n c) h x.entries (whole w n c es) x.remains sc hs (numbers h) (numbers-same h) i q y;
+                  loop-refused w.world 64 p.count p.at (add_entry w.variables n c) h x.entries (whole w n c es) x.remains sc hs (numbers h) (numbers-same h) o.refusal o.place y;
             }
 
-        pub bounds-more : z ≡ passed.Inside → length b' ≡ length b → (r' : Step) → NextIs ns ts ds given 64 h r' → BoundsOn b' r'
-        bounds-more j hb r' i =
-            record {
-              few = s.few;
-              room = omega (arith, s.room);
-              words = hb ∙ s.words;
-              on = λ w n c k a t m f es st.
-                  let x = subst (BoundsAt w n c t m f es b) e (s.on w n c k a t m f es st) in
-                  let y = subst (λ z. AddsBounds w.variables (add_entry w.variables n c (under w.world sc) (list_of (numbers h)) x.entries) z t m b' f) j (stated w n c k a t m f es x) in
-                  record {
-                    entries = y.entries;
-                    state = y.state;
-                    remains = loop-more w.world 64 p.count p.at (add_entry w.variables n c) h x.entries (whole w n c es) x.remains sc hs (numbers h) (numbers-same h) y.entries r' y.is i;
-                  };
-            }
+        module _ (j : z ≡ Ok tt) (r : Result (Option Here) Refused) (i : NextIs ns ts ds given 64 h r) where
+          -- the entry is added, and the next step is r
+          bound-next : (w : Model ns ts ds given xs total) (n : ℕ) (c : Constraint) → Takes ns ts ds given xs total w n c p → is_bare c.left ≡ true → (t : List ℕ) (m : List ℤ) (f : Filled) (es : List Entry) → State w.variables t m b₀ f es
+              → BoundsAt w n c t m f es b' r
+          bound-next w n c k a t m f es st =
+              let x = subst (λ z. BoundsAt w n c t m f es b (Ok z)) e (s.on w n c k a t m f es st) in
+              let y = subst (λ z. AddsBounds w.variables (add_entry w.variables n c (under w.world sc) (list_of (numbers h)) x.entries) z t m b' f) j (stated w n c k a t m f es x) in
+              record {
+                entries = y.entries;
+                state = y.state;
+                remains = loop-more w.world 64 p.count p.at (add_entry w.variables n c) h x.entries (whole w n c es) x.remains sc hs (numbers h) (numbers-same h) y.entries r y.is i;
+              }
+
+          pub bounds-stopped : (e : Refused) → r ≡ Err e → BoundsAdd ns ts ds given xs total p b₀ (Err e) b'
+          bounds-stopped y e =
+              record {
+                adds = λ w n c k a t m f es st.
+                    let x = bound-next w n c k a t m f es st in
+                    loop-stopped w.world 64 p.count p.at (add_entry w.variables n c) y x.entries (whole w n c es) (subst (λ z. Left w n c p z x.entries (whole w n c es)) e x.remains);
+              }
+
+          pub bounds-more : (q' : Option Here) → r ≡ Ok q' → length b' ≡ length b → BoundsOn b' (Ok q')
+          bounds-more q' e hb =
+              record {
+                few = s.few;
+                room = omega (arith, s.room);
+                words = hb ∙ s.words;
+                on = λ w n c k a t m f es st. subst (BoundsAt w n c t m f es b') e (bound-next w n c k a t m f es st);
+              }

@@ -1,6 +1,7 @@
 -- What each function answers: for every text, names, data and variables that the tables hold, and every constraint that stands in its
 -- row, the entries that the definition adds, as the tables of rows, counts and bounds hold them.
-use Rattle.std.specs.Prelude.{◌≡◌, Bool, true, false, List, [], map, ℕ, ◌<◌, ◌≤◌, length, get_or, ℤ}
+use Rattle.std.specs.Prelude.{Err, Ok, Result, ◌≡◌, Bool, true, false, List, [], map, ℕ, ◌<◌, ◌≤◌, length, get_or, ℤ}
+use Rattle.rules.specs.declared.Refused.{Refused}
 use Rattle.rules.specs.Limits.{nesting_limit, variable_limit, constraint_limit}
 use Rattle.language.specs.Outcome.{Outcome, done, refused}
 use Rattle.language.specs.Syntax.{Constraint}
@@ -12,8 +13,6 @@ use Rattle.store.specs.Element.{Subscripts}
 use Rattle.store.specs.Key.{name_bound}
 use Rattle.evaluator.specs.declared.steps.scope.Scope.{Scope}
 use Rattle.evaluator.specs.Steps.Scopes.{Small}
-use Rattle.evaluator.specs.declared.Passed.{Passed}
-use Rattle.evaluator.specs.declared.Passed.TheVariants as passed
 use Rattle.evaluator.specs.Cycle.{nothing_bound, under}
 use Rattle.constraints.specs.Layout.{row_at}
 use Rattle.constraints.specs.Rows.{is_bare, RowOf, Rows}
@@ -23,8 +22,6 @@ use Rattle.rows.specs.declared.Filled.{Filled}
 use Rattle.rows.specs.Slots.{counts_at, objective_row, ObjectiveHeld, RowsHeld}
 use Rattle.rows.specs.Bounds.{BoundsHeld}
 use Rattle.gatherer.specs.Cycle.{Model}
-use Rattle.matrix.specs.declared.Generated.{Generated}
-use Rattle.matrix.specs.declared.Generated.TheVariants as generated
 
 -- ---- what the tables hold of the entries so far
 
@@ -37,13 +34,13 @@ pub record Added (vs : List Variable) (o : Outcome (List Entry)) (t : List ℕ) 
   pub is : o ≡ done entries
   pub state : State vs t m b f entries
 
-abbrev pub Adds : List Variable → Outcome (List Entry) → Generated → List ℕ → List ℤ → List ℕ → Type 0
-Adds vs o (generated.Of f) t m b = Added vs o t m b f
-Adds vs o (generated.Refused r p) t m b = o ≡ refused r p
+abbrev pub Adds : List Variable → Outcome (List Entry) → Result Filled Refused → List ℕ → List ℤ → List ℕ → Type 0
+Adds vs o (Ok f) t m b = Added vs o t m b f
+Adds vs o (Err e) t m b = o ≡ refused e.refusal e.place
 
-abbrev pub AddsBounds : List Variable → Outcome (List Entry) → Passed → List ℕ → List ℤ → List ℕ → Filled → Type 0
-AddsBounds vs o passed.Inside t m b f = Added vs o t m b f
-AddsBounds vs o (passed.Refused r p) t m b f = o ≡ refused r p
+abbrev pub AddsBounds : List Variable → Outcome (List Entry) → Result Unit Refused → List ℕ → List ℤ → List ℕ → Filled → Type 0
+AddsBounds vs o (Ok tt) t m b f = Added vs o t m b f
+AddsBounds vs o (Err e) t m b f = o ≡ refused e.refusal e.place
 
 -- the objective's counts are as they were
 abbrev pub Stays : ℕ → List ℤ → List ℤ → Type 0
@@ -58,25 +55,25 @@ module _ (ns ts ds : List ℕ) (given : ℕ) (xs : List ℕ) (total : ℕ) where
     pub numbered : n < name_bound
 
   -- its row at one element, and at all
-  pub record RowAdds (n : ℕ) (p : Parts) (sc : Scope) (e : List ℤ) (f : Filled) (t : List ℕ) (m : List ℤ) (r : Generated) (t' : List ℕ) (m' : List ℤ) : Type 0 where
+  pub record RowAdds (n : ℕ) (p : Parts) (sc : Scope) (e : List ℤ) (f : Filled) (t : List ℕ) (m : List ℤ) (r : Result Filled Refused) (t' : List ℕ) (m' : List ℤ) : Type 0 where
     pub stays : Stays total m m'
     pub adds : (w : Model ns ts ds given xs total) (c : Constraint) → Takes w n c p → is_bare c.left ≡ false → Small sc → Subscripts e
         → (b : List ℕ) (es : List Entry) → State w.variables t m b f es
         → Adds w.variables (add_entry w.variables n c (under w.world sc) e es) r t' m' b
 
-  pub record RowsAdd (n : ℕ) (p : Parts) (f : Filled) (t : List ℕ) (m : List ℤ) (r : Generated) (t' : List ℕ) (m' : List ℤ) : Type 0 where
+  pub record RowsAdd (n : ℕ) (p : Parts) (f : Filled) (t : List ℕ) (m : List ℤ) (r : Result Filled Refused) (t' : List ℕ) (m' : List ℤ) : Type 0 where
     pub stays : Stays total m m'
     pub adds : (w : Model ns ts ds given xs total) (c : Constraint) → Takes w n c p → is_bare c.left ≡ false
         → (b : List ℕ) (es : List Entry) → State w.variables t m b f es
         → Adds w.variables (over c.domain (nothing_bound w.world) (add_entry w.variables n c) es) r t' m' b
 
   -- its bound at one element, and at all
-  pub record BoundAdds (p : Parts) (sc : Scope) (b : List ℕ) (r : Passed) (b' : List ℕ) : Type 0 where
+  pub record BoundAdds (p : Parts) (sc : Scope) (b : List ℕ) (r : Result Unit Refused) (b' : List ℕ) : Type 0 where
     pub adds : (w : Model ns ts ds given xs total) (n : ℕ) (c : Constraint) → Takes w n c p → is_bare c.left ≡ true → Small sc
         → (e : List ℤ) (t : List ℕ) (m : List ℤ) (f : Filled) (es : List Entry) → State w.variables t m b f es
         → AddsBounds w.variables (add_entry w.variables n c (under w.world sc) e es) r t m b' f
 
-  pub record BoundsAdd (p : Parts) (b : List ℕ) (r : Passed) (b' : List ℕ) : Type 0 where
+  pub record BoundsAdd (p : Parts) (b : List ℕ) (r : Result Unit Refused) (b' : List ℕ) : Type 0 where
     pub adds : (w : Model ns ts ds given xs total) (n : ℕ) (c : Constraint) → Takes w n c p → is_bare c.left ≡ true
         → (t : List ℕ) (m : List ℤ) (f : Filled) (es : List Entry) → State w.variables t m b f es
         → AddsBounds w.variables (over c.domain (nothing_bound w.world) (add_entry w.variables n c) es) r t m b' f
@@ -84,20 +81,20 @@ module _ (ns ts ds : List ℕ) (given : ℕ) (xs : List ℕ) (total : ℕ) where
 -- ---- all constraints
 
 -- constraint number k, in its row of the table cs
-pub record OneAdds (ns ts ds : List ℕ) (given : ℕ) (xs : List ℕ) (total : ℕ) (cs : List ℕ) (k : ℕ) (f : Filled) (t b : List ℕ) (m : List ℤ) (r : Generated) (t' b' : List ℕ) (m' : List ℤ) : Type 0 where
+pub record OneAdds (ns ts ds : List ℕ) (given : ℕ) (xs : List ℕ) (total : ℕ) (cs : List ℕ) (k : ℕ) (f : Filled) (t b : List ℕ) (m : List ℤ) (r : Result Filled Refused) (t' b' : List ℕ) (m' : List ℤ) : Type 0 where
   pub stays : Stays total m m'
   pub adds : (w : Model ns ts ds given xs total) → k < name_bound → (c : Constraint) → RowOf w.world.text ts (row_at cs k) w.world.names c
       → (es : List Entry) → State w.variables t m b f es
       → Adds w.variables (over c.domain (nothing_bound w.world) (add_entry w.variables k c) es) r t' m' b'
 
 -- the constraints of the first `count` rows, from tables in which no bound is stated
-pub record AllAdd (ns ts ds : List ℕ) (given : ℕ) (xs : List ℕ) (total : ℕ) (cs : List ℕ) (count : ℕ) (b : List ℕ) (m : List ℤ) (r : Generated) (t' b' : List ℕ) (m' : List ℤ) : Type 0 where
+pub record AllAdd (ns ts ds : List ℕ) (given : ℕ) (xs : List ℕ) (total : ℕ) (cs : List ℕ) (count : ℕ) (b : List ℕ) (m : List ℤ) (r : Result Filled Refused) (t' b' : List ℕ) (m' : List ℤ) : Type 0 where
   pub stays : Stays total m m'
   pub adds : (w : Model ns ts ds given xs total) → count ≤ constraint_limit → (l : List Constraint) → Rows w.world.text ts (rows_of count cs) w.world.names l
       → ((k : ℕ) → get_or b k 0 ≡ 0) → Adds w.variables (add_entries w.variables (nothing_bound w.world) 0 l []) r t' m' b'
 
 -- the same for at most 512 variables
-pub record Generates (ns ts ds : List ℕ) (given : ℕ) (xs : List ℕ) (total : ℕ) (cs : List ℕ) (count : ℕ) (b : List ℕ) (m : List ℤ) (r : Generated) (t' b' : List ℕ) (m' : List ℤ) : Type 0 where
+pub record Generates (ns ts ds : List ℕ) (given : ℕ) (xs : List ℕ) (total : ℕ) (cs : List ℕ) (count : ℕ) (b : List ℕ) (m : List ℤ) (r : Result Filled Refused) (t' b' : List ℕ) (m' : List ℤ) : Type 0 where
   pub all : total ≤ variable_limit → AllAdd ns ts ds given xs total cs count b m r t' b' m'
 
 -- ---- the objective
@@ -108,11 +105,11 @@ pub record Objective (vs : List Variable) (b : Bool) (o : Outcome Row) (m : List
   pub is : o ≡ done coefficients
   pub held : ObjectiveHeld vs m (map (signed b) coefficients)
 
-abbrev pub ObjectiveAdds : List Variable → Bool → Outcome Row → Passed → List ℤ → Type 0
-ObjectiveAdds vs b o passed.Inside m = Objective vs b o m
-ObjectiveAdds vs b o (passed.Refused r p) m = o ≡ refused r p
+abbrev pub ObjectiveAdds : List Variable → Bool → Outcome Row → Result Unit Refused → List ℤ → Type 0
+ObjectiveAdds vs b o (Ok tt) m = Objective vs b o m
+ObjectiveAdds vs b o (Err e) m = o ≡ refused e.refusal e.place
 
 -- the form at a position, negated for a minimum
-pub record ObjectiveIs (b : Bool) (ns ts ds : List ℕ) (given : ℕ) (xs : List ℕ) (total : ℕ) (at : ℕ) (r : Passed) (m' : List ℤ) : Type 0 where
+pub record ObjectiveIs (b : Bool) (ns ts ds : List ℕ) (given : ℕ) (xs : List ℕ) (total : ℕ) (at : ℕ) (r : Result Unit Refused) (m' : List ℤ) : Type 0 where
   pub is : total ≤ variable_limit → (w : Model ns ts ds given xs total) (x : Linear) → Stands (linear_at w.world.names nesting_limit) w.world.text ts at x
       → ObjectiveAdds w.variables b (gathered w.variables x.form (nothing_bound w.world)) r m'

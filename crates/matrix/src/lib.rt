@@ -9,30 +9,20 @@ mod sides;
 ghost use Rattle.std.specs.Prelude.{◌≡◌, ◌≤◌, length};
 ghost use Rattle.store.specs.Element.{list_of};
 ghost use Rattle.matrix.specs.Answers.{RowAdds, RowsAdd, BoundAdds, BoundsAdd, OneAdds, AllAdd, Generates, ObjectiveIs};
+ghost use Rattle.evaluator.specs.Context.{Over};
 
-use elements::Step;
 use evaluator::steps::scope::Scope;
-use evaluator::{Context, Passed};
+use evaluator::{Context, Stored};
 use parts::Parts;
 use rows::Filled;
-use sides::{Bounded, Ends};
+use rules::{Refused, refused};
 use store::Element;
-
-// How many rows there are, or a refusal and its place.
-#[derive(Clone, Copy)]
-pub enum Generated {
-    Of(Filled),
-    Refused(rules::Refusal, u64),
-}
 
 // ---- rows
 
 // The row of constraint number k at the element e, where `scope` is bound.
 fn row(
-    names: &[u64],
-    tokens: &[u64],
-    table: &[u64],
-    given: usize,
+    stored: Stored<'_>,
     variables: &[u64],
     total: usize,
     k: usize,
@@ -42,50 +32,39 @@ fn row(
     filled: Filled,
     slots: &mut [u64],
     counts: &mut [i64],
-) -> Generated
+) -> Result<Filled, Refused>
     requires { (total ≤ 512) × (4104 ≤ length slots.old) × (263168 ≤ length counts.old) }
-    ensures { RowAdds names.now tokens.now table.now given variables.now total k parts scope (list_of e) filled slots.old counts.old result slots.new counts.new }
+    ensures { Over RowAdds stored.entry variables.now total k parts scope (list_of e) filled slots.old counts.old result slots.new counts.new }
 {
     let equal = parts.equal;
     let slot = rows::next_slot(filled, equal);
     let a = slot * rules::VARIABLE_LIMIT;
     let b = a + total;
     let cx = Context {
-        given,
+        stored,
         level: rules::NAME_LIMIT,
         nest: rules::NESTING_LIMIT,
         scope,
     };
-    let side = sides::row_at(
-        names,
-        tokens,
-        table,
+    let (v, w) = sides::row_at(
         variables,
         total,
-        cx,
+        &cx,
         parts.left,
         parts.right,
         parts.floor,
         parts.flips,
         &mut counts[a..b],
-    );
-    match side {
-        Ends::At(v, w) => {
-            if !rows::has_room(filled) {
-                return Generated::Refused(rules::Refusal::Full, parts.place);
-            }
-            Generated::Of(rows::write(slots, filled, equal, k, e, v, w))
-        }
-        Ends::Refused(n, p) => Generated::Refused(n, p),
+    )?;
+    if !rows::has_room(filled) {
+        return refused!(Full, parts.place);
     }
+    Ok(rows::write(slots, filled, equal, k, e, v, w))
 }
 
 // The rows of constraint number k.
 fn rows_of(
-    names: &[u64],
-    tokens: &[u64],
-    table: &[u64],
-    given: usize,
+    stored: Stored<'_>,
     variables: &[u64],
     total: usize,
     k: usize,
@@ -93,152 +72,98 @@ fn rows_of(
     filled: Filled,
     slots: &mut [u64],
     counts: &mut [i64],
-) -> Generated
+) -> Result<Filled, Refused>
     requires { (total ≤ 512) × (4104 ≤ length slots.old) × (263168 ≤ length counts.old) }
-    ensures { RowsAdd names.now tokens.now table.now given variables.now total k parts filled slots.old counts.old result slots.new counts.new }
+    ensures { Over RowsAdd stored.entry variables.now total k parts filled slots.old counts.old result slots.new counts.new }
 {
-    let scope = Scope::none();
     let cx = Context {
-        given,
+        stored,
         level: rules::NAME_LIMIT,
         nest: rules::NESTING_LIMIT,
-        scope,
+        scope: Scope::none(),
     };
-    let mut step = elements::first(names, tokens, table, cx, parts.count, parts.at);
+    let mut step = elements::first(&cx, parts.count, parts.at)?;
     let mut f = filled;
-    loop {
-        match step {
-            Step::At(h) => {
-                let r = row(
-                    names,
-                    tokens,
-                    table,
-                    given,
-                    variables,
-                    total,
-                    k,
-                    parts,
-                    h.scope(),
-                    h.element(),
-                    f,
-                    slots,
-                    counts,
-                );
-                let Generated::Of(g) = r else {
-                    return r;
-                };
-                f = g;
-                step = elements::next(names, tokens, table, cx, h);
-            }
-            Step::Done => return Generated::Of(f),
-            Step::Refused(n, p) => return Generated::Refused(n, p),
-        }
+    while let Some(h) = step {
+        f = row(
+            stored,
+            variables,
+            total,
+            k,
+            parts,
+            h.scope(),
+            h.element(),
+            f,
+            slots,
+            counts,
+        )?;
+        step = elements::next(&cx, h)?;
     }
+    Ok(f)
 }
 
 // ---- bounds
 
 // The bound of a constraint where `scope` is bound.
 fn bound(
-    names: &[u64],
-    tokens: &[u64],
-    table: &[u64],
-    given: usize,
+    stored: Stored<'_>,
     variables: &[u64],
     total: usize,
     parts: Parts,
     scope: Scope,
     bounds: &mut [u64],
-) -> Passed
+) -> Result<(), Refused>
     requires { (total ≤ 512) × (1024 ≤ length bounds.old) }
-    ensures { BoundAdds names.now tokens.now table.now given variables.now total parts scope bounds.old result bounds.new }
+    ensures { Over BoundAdds stored.entry variables.now total parts scope bounds.old result bounds.new }
 {
     let cx = Context {
-        given,
+        stored,
         level: rules::NAME_LIMIT,
         nest: rules::NESTING_LIMIT,
         scope,
     };
-    let stated = sides::bound_at(
-        names,
-        tokens,
-        table,
-        variables,
-        total,
-        cx,
-        parts.left,
-        parts.right,
-        parts.floor,
+    let stated = sides::bound_at(variables, total, &cx, parts.left, parts.right, parts.floor)?;
+    rows::state(
+        bounds,
+        stated.variable,
+        parts.lower,
+        parts.upper,
+        stated.right,
     );
-    match stated {
-        Bounded::At(j, v, w) => {
-            rows::state(bounds, j, parts.lower, parts.upper, v);
-            rows::state_floor(bounds, j, w);
-            Passed::Inside
-        }
-        Bounded::Refused(n, p) => Passed::Refused(n, p),
-    }
+    rows::state_floor(bounds, stated.variable, stated.floor);
+    Ok(())
 }
 
 // The bounds of a constraint.
 fn bounds_of(
-    names: &[u64],
-    tokens: &[u64],
-    table: &[u64],
-    given: usize,
+    stored: Stored<'_>,
     variables: &[u64],
     total: usize,
     parts: Parts,
     bounds: &mut [u64],
-) -> Passed
+) -> Result<(), Refused>
     requires { (total ≤ 512) × (1024 ≤ length bounds.old) }
-    ensures { BoundsAdd names.now tokens.now table.now given variables.now total parts bounds.old result bounds.new }
+    ensures { Over BoundsAdd stored.entry variables.now total parts bounds.old result bounds.new }
 {
-    let scope = Scope::none();
     let cx = Context {
-        given,
+        stored,
         level: rules::NAME_LIMIT,
         nest: rules::NESTING_LIMIT,
-        scope,
+        scope: Scope::none(),
     };
-    let mut step = elements::first(names, tokens, table, cx, parts.count, parts.at);
-    loop {
-        match step {
-            Step::At(h) => {
-                let r = bound(
-                    names,
-                    tokens,
-                    table,
-                    given,
-                    variables,
-                    total,
-                    parts,
-                    h.scope(),
-                    bounds,
-                );
-                match r {
-                    Passed::Inside => {
-                        step = elements::next(names, tokens, table, cx, h);
-                    }
-                    Passed::Refused(n, p) => {
-                        return Passed::Refused(n, p);
-                    }
-                }
-            }
-            Step::Done => return Passed::Inside,
-            Step::Refused(n, p) => return Passed::Refused(n, p),
-        }
+    let mut step = elements::first(&cx, parts.count, parts.at)?;
+    while let Some(h) = step {
+        bound(stored, variables, total, parts, h.scope(), bounds)?;
+        step = elements::next(&cx, h)?;
     }
+    Ok(())
 }
 
 // ---- constraints
 
 // Constraint number k: bounds where its left side is one variable, else rows.
 fn one(
-    names: &[u64],
-    tokens: &[u64],
-    table: &[u64],
-    given: usize,
+    stored: Stored<'_>,
     variables: &[u64],
     total: usize,
     constraints: &[u64],
@@ -247,29 +172,21 @@ fn one(
     slots: &mut [u64],
     bounds: &mut [u64],
     counts: &mut [i64],
-) -> Generated
+) -> Result<Filled, Refused>
     requires { (total ≤ 512) × (4104 ≤ length slots.old) × (1024 ≤ length bounds.old) × (263168 ≤ length counts.old) }
-    ensures { OneAdds names.now tokens.now table.now given variables.now total constraints.now k filled slots.old bounds.old counts.old result slots.new bounds.new counts.new }
+    ensures { Over OneAdds stored.entry variables.now total constraints.now k filled slots.old bounds.old counts.old result slots.new bounds.new counts.new }
 {
-    let parts = parts::read(tokens, constraints, k);
+    let parts = parts::read(stored.tokens, constraints, k);
     if parts.bare {
-        let r = bounds_of(names, tokens, table, given, variables, total, parts, bounds);
-        return match r {
-            Passed::Inside => Generated::Of(filled),
-            Passed::Refused(n, p) => Generated::Refused(n, p),
-        };
+        bounds_of(stored, variables, total, parts, bounds)?;
+        return Ok(filled);
     }
-    rows_of(
-        names, tokens, table, given, variables, total, k, parts, filled, slots, counts,
-    )
+    rows_of(stored, variables, total, k, parts, filled, slots, counts)
 }
 
 // The constraints of the first `count` rows.
 fn all(
-    names: &[u64],
-    tokens: &[u64],
-    table: &[u64],
-    given: usize,
+    stored: Stored<'_>,
     variables: &[u64],
     total: usize,
     constraints: &[u64],
@@ -277,18 +194,14 @@ fn all(
     slots: &mut [u64],
     bounds: &mut [u64],
     counts: &mut [i64],
-) -> Generated
+) -> Result<Filled, Refused>
     requires { (total ≤ 512) × (4104 ≤ length slots.old) × (1024 ≤ length bounds.old) × (263168 ≤ length counts.old) × (320 ≤ length constraints.now) }
-    ensures { AllAdd names.now tokens.now table.now given variables.now total constraints.now count bounds.old counts.old result slots.new bounds.new counts.new }
+    ensures { Over AllAdd stored.entry variables.now total constraints.now count bounds.old counts.old result slots.new bounds.new counts.new }
 {
     let mut f = Filled { less: 0, equal: 0 };
-    let mut k = 0;
-    while k < count {
-        let r = one(
-            names,
-            tokens,
-            table,
-            given,
+    for k in 0..count {
+        f = one(
+            stored,
             variables,
             total,
             constraints,
@@ -297,22 +210,14 @@ fn all(
             slots,
             bounds,
             counts,
-        );
-        let Generated::Of(g) = r else {
-            return r;
-        };
-        f = g;
-        k += 1;
+        )?;
     }
-    Generated::Of(f)
+    Ok(f)
 }
 
 // All constraints, in the first `count` rows of their table: the slots of their rows, their bounds, and the rows of counts.
 pub fn constraints(
-    names: &[u64],
-    tokens: &[u64],
-    table: &[u64],
-    given: usize,
+    stored: Stored<'_>,
     variables: &[u64],
     total: usize,
     constraints: &[u64; 320],
@@ -320,17 +225,14 @@ pub fn constraints(
     slots: &mut [u64; 4104],
     bounds: &mut [u64; 1024],
     counts: &mut [i64; 263168],
-) -> Generated
-    ensures { Generates names.now tokens.now table.now given variables.now total constraints.now count bounds.old counts.old result slots.new bounds.new counts.new }
+) -> Result<Filled, Refused>
+    ensures { Over Generates stored.entry variables.now total constraints.now count bounds.old counts.old result slots.new bounds.new counts.new }
 {
     if rules::VARIABLE_LIMIT < total {
-        return Generated::Refused(rules::Refusal::Full, 0);
+        return refused!(Full, 0);
     }
     all(
-        names,
-        tokens,
-        table,
-        given,
+        stored,
         variables,
         total,
         constraints,
@@ -345,64 +247,44 @@ pub fn constraints(
 
 // The objective's row of counts, behind the slots.
 fn objective_row(
-    names: &[u64],
-    tokens: &[u64],
-    table: &[u64],
-    given: usize,
+    stored: Stored<'_>,
     variables: &[u64],
     total: usize,
     at: usize,
     minimize: bool,
     slot: usize,
     counts: &mut [i64],
-) -> Passed
+) -> Result<(), Refused>
     requires { (total ≤ 512) × (slot ≡ 512) × (263168 ≤ length counts.old) }
-    ensures { ObjectiveIs minimize names.now tokens.now table.now given variables.now total at result counts.new }
+    ensures { Over (ObjectiveIs minimize) stored.entry variables.now total at result counts.new }
 {
-    let scope = Scope::none();
     let cx = Context {
-        given,
+        stored,
         level: rules::NAME_LIMIT,
         nest: rules::NESTING_LIMIT,
-        scope,
+        scope: Scope::none(),
     };
     let a = slot * rules::VARIABLE_LIMIT;
     let b = a + total;
-    sides::objective_at(
-        names,
-        tokens,
-        table,
-        variables,
-        total,
-        cx,
-        at,
-        minimize,
-        &mut counts[a..b],
-    )
+    sides::objective_at(variables, total, &cx, at, minimize, &mut counts[a..b])
 }
 
 // The objective, whose form stands at a position, in its row of counts; negated for a minimum.
 pub fn objective(
-    names: &[u64],
-    tokens: &[u64],
-    table: &[u64],
-    given: usize,
+    stored: Stored<'_>,
     variables: &[u64],
     total: usize,
     at: usize,
     minimize: bool,
     counts: &mut [i64; 263168],
-) -> Passed
-    ensures { ObjectiveIs minimize names.now tokens.now table.now given variables.now total at result counts.new }
+) -> Result<(), Refused>
+    ensures { Over (ObjectiveIs minimize) stored.entry variables.now total at result counts.new }
 {
     if rules::VARIABLE_LIMIT < total {
-        return Passed::Refused(rules::Refusal::Full, 0);
+        return refused!(Full, 0);
     }
     objective_row(
-        names,
-        tokens,
-        table,
-        given,
+        stored,
         variables,
         total,
         at,

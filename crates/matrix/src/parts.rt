@@ -4,7 +4,6 @@ ghost use Rattle.matrix.specs.Parts.Parts.{PlaceIs, FirstIs, PartsAre};
 
 use constraints::layout;
 use lexer::marks;
-use tokens::Seen;
 
 // A constraint's place, the positions of its sides and of the first entry of its domain, and how many entries there are. `bare`:
 // its left side is one variable; `floor`: a floor follows its right side; `flips`: both sides of its row are negated; `equal`: it
@@ -28,10 +27,9 @@ pub struct Parts {
 fn place_at(tokens: &[u64], at: usize) -> u64
     ensures { PlaceIs tokens.now at result }
 {
-    let token = tokens::token_at(tokens, at);
-    match token {
-        Seen::Token(k, p, x, next) => p,
-        Seen::Refused(n, p) => p,
+    match tokens::token_at(tokens, at) {
+        Ok(token) => token.place,
+        Err(e) => e.place,
     }
 }
 
@@ -39,16 +37,13 @@ fn place_at(tokens: &[u64], at: usize) -> u64
 fn first_entry(tokens: &[u64], at: usize) -> usize
     ensures { FirstIs tokens.now at result }
 {
-    let token = tokens::token_at(tokens, at);
-    match token {
-        Seen::Token(k, p, x, next) => {
-            if k == marks::LEFT_PAREN as u64 {
-                return next;
-            }
-            at
-        }
-        Seen::Refused(n, p) => at,
+    let Ok(token) = tokens::token_at(tokens, at) else {
+        return at;
+    };
+    if token.kind == marks::LEFT_PAREN as u64 {
+        return token.next;
     }
+    at
 }
 
 // The parts of the constraint in row k.

@@ -1,11 +1,12 @@
 -- Laws over plain variables that answer the code's needs.
+use Rattle.std.specs.Prelude.{Err, Ok, Result, IfOk}
+use Rattle.rules.specs.declared.Refused.{Refused}
 use mathlib.Core.Path.{◌≡◌, refl, sym, ◌∙◌, ap, subst}
 use mathlib.Core.List.{List, ◌++◌, map}
 use Prim.Native.Nat.{ℕ, ◌*◌, ◌≤◌}
 use native.Mathlib.Omega.{arith}
 use lib.ListN.{length, take, drop}
 use lib.Seq.{length-take-le, take_at}
-use Rattle.rules.specs.declared.Refusal.{Refusal}
 use Rattle.lexer.specs.Text.{Token, tokens}
 use Rattle.language.specs.Outcome.{Outcome, done, refused}
 use Rattle.language.specs.Syntax.{Structure}
@@ -14,7 +15,6 @@ use Rattle.language.specs.Grammar.{structure}
 use Rattle.language.specs.Data as language
 use Rattle.language.specs.Data.{read_data}
 use Rattle.language.specs.Model.{model, what_of, read_model}
-use Rattle.tokens.specs.declared.Move.TheVariants.{At, Refused}
 use Rattle.tokens.specs.Stored.{from, rows_of}
 use Rattle.tokens.specs.Scanner.Table.{Scanned}
 use Rattle.tokens.proofs.scanner.Calls.{table-holds, holds-from}
@@ -24,11 +24,9 @@ use Rattle.parser.specs.declared.Parsed.{Parsed}
 use Rattle.parser.specs.Parsed.{StructureAt, Parsing, ParsedAs}
 use Rattle.evaluator.specs.Ground.{Ground}
 use Rattle.data.specs.declared.Given.{Given}
-use Rattle.data.specs.declared.Given.TheVariants as goal
 use Rattle.data.specs.Sections.{GivenIs, ReadsData}
-use Rattle.model.specs.declared.End.TheVariants as ends
 use Rattle.model.specs.declared.Model.{Model}
-use Rattle.model.specs.ReadAs.{Scans, no_model, model_of, Finishes, Reading, ReadAs}
+use Rattle.model.specs.ReadAs.{Scans, model_of, made, Finishes, Reading, ReadAs}
 use Rattle.model.proofs.Grounds.{resolved-structure, placed_of, ground-of, ground-names}
 
 -- ---- parts of tables
@@ -49,109 +47,95 @@ scan-holds s t t' r e w = record { few = omega (arith, e, w.within); holds = tab
 
 -- ---- what is answered
 
-module _ (n : ℕ) (x : Parsed) (g : Given) where
-  pub model-given : (p b count : ℕ) → g ≡ goal.Of p b count
-      → record {
-        tokens = n;
-        title = x.title;
-        names = x.names;
-        minimize = x.minimize;
-        objective = x.objective;
-        constraints = x.constraints;
-        section = p;
-        bytes = b;
-        given = count;
-        end = ends.Read;
-      } ≡ model_of n x g
-  model-given p b count e = rw e refl
+module _ (s t ns t' ds : List ℕ) (n : ℕ) (x : Parsed) (a : ℕ) (g : Result Given Refused) (z : Resolves s (rows_of x.names ns) (take n t) (take n t')) (d : ReadsData s (rows_of x.names ns) (take n t') a g ds) where
+  pub finish-refused : (e : Refused) → g ≡ Err e → Finishes s t ns n x a (Err e) t' ds
+  finish-refused e i = record { section = g; resolves = z; reads = d; model = rw i refl }
 
-  pub model-refused : (r : Refusal) (p : ℕ) (q : Model) → g ≡ goal.Refused r p → q ≡ no_model r p → q ≡ model_of n x g
-  model-refused r p q e h = rw e h
-
-pub finishes : (s t ns t' ds : List ℕ) (n : ℕ) (x : Parsed) (a : ℕ) (g : Given) (r : Model) → Resolves s (rows_of x.names ns) (take n t) (take n t')
-    → ReadsData s (rows_of x.names ns) (take n t') a g ds → r ≡ model_of n x g → Finishes s t ns n x a r t' ds
-finishes s t ns t' ds n x a g r z d e = record { section = g; resolves = z; reads = d; model = e }
+  pub finish-made : (w : Given) → g ≡ Ok w → Finishes s t ns n x a (Ok (model_of n x w)) t' ds
+  finish-made w i = record { section = g; resolves = z; reads = d; model = rw i refl }
 
 -- ---- the whole text
 
-module _ (s t ns cs ds : List ℕ) (n : ℕ) (x : Parsed) (c : Scans s n t) (h : ParsedAs s (take n t) x ns cs) where
-  parsing : Parsing (structure (tokens s)) s (take n t) x x.end ns cs
-  parsing = subst (λ l. Parsing (structure l) s (take n t) x x.end ns cs) (holds-from s (take n t) c.holds) h.outcome
+module _ (s t ns cs ds : List ℕ) (n : ℕ) (r : Result (Parsed × ℕ) Refused) (c : Scans s n t) (h : ParsedAs s (take n t) r ns cs) where
+  parsing : Parsing (structure (tokens s)) s (take n t) r ns cs
+  parsing = subst (λ l. Parsing (structure l) s (take n t) r ns cs) (holds-from s (take n t) c.holds) h.outcome
 
-  pub read-refused : (r : Refusal) (p : ℕ) (q : Model) → x.end ≡ Refused r p → q ≡ no_model r p → ReadAs s q t ns cs ds
+  pub read-refused : (e : Refused) → r ≡ Err e → ReadAs s (Err e) t ns cs ds
   unfolding read_model model
-  read-refused r p q e f =
-      subst (λ q. ReadAs s q t ns cs ds) (sym f) (record {
-        scanned = omega arith;
-        named = omega arith;
-        constrained = omega arith;
-        outcome = go (structure (tokens s)) (subst (λ m. Parsing (structure (tokens s)) s (take n t) x m ns cs) e parsing);
-      })
+  read-refused z e =
+      record {
+        scanned = tt;
+        named = tt;
+        constrained = tt;
+        outcome = go (structure (tokens s)) (subst (λ r. Parsing (structure (tokens s)) s (take n t) r ns cs) e parsing);
+      }
     where
-      go : (o : Outcome (Read Structure)) → Parsing o s (take n t) x (Refused r p) ns cs
-          → Reading (what_of (follow o (λ y l. follow (read_data y.names l) (λ g. give (record { structure = y; given = g }))))) s (take 0 t) ns cs ds (no_model r p) (ends.Refused r p)
+      go : (o : Outcome (Read Structure)) → Parsing o s (take n t) (Err z) ns cs
+          → Reading (what_of (follow o (λ y l. follow (read_data y.names l) (λ g. give (record { structure = y; given = g }))))) s t ns cs ds (Err z)
       go (done y) k = absurd k
       go (refused m u) k = k
 
-  module _ (t' : List ℕ) (z : Resolves s (rows_of x.names ns) (take n t) (take n t')) where
-    module _ (y : Structure) (rest : List Token) (i : structure (tokens s) ≡ done (record { what = y; rest = rest })) (k : StructureAt s (take n t) x ns cs y) where
-      ground : Ground s (rows_of x.names ns) (take n t')
-      ground = ground-of s (take n t) (take n t') ns cs x y h.named c.holds k z rest i
+  module _ (x : Parsed) (a : ℕ) (e : r ≡ Ok (x, a)) where
+    pub named : x.names ≤ 64
+    named = subst (λ r. IfOk r (λ w. w.0.names ≤ 64)) e h.named
 
-      known : ground.names ≡ y.names
-      unfolding ground
-      known = ground-names s (take n t) (take n t') ns cs x y h.named c.holds k z rest i
+    constrained : x.constraints ≤ 64
+    constrained = subst (λ r. IfOk r (λ w. w.0.constraints ≤ 64)) e h.constrained
 
-      resolved : StructureAt s (take n t') x ns cs y
-      resolved = resolved-structure s (take n t) (take n t') ns cs x y h.named c.holds k z
+    module _ (t' : List ℕ) (z : Resolves s (rows_of x.names ns) (take n t) (take n t')) where
+      module _ (y : Structure) (rest : List Token) (i : structure (tokens s) ≡ done (record { what = y; rest = rest })) (k : StructureAt s (take n t) x ns cs y) where
+        ground : Ground s (rows_of x.names ns) (take n t')
+        ground = ground-of s (take n t) (take n t') ns cs x y named c.holds k z rest i
 
-      -- with the data section that was read
-      section : (v : Given) (o : Outcome (Read language.Given)) → GivenIs o s ds v → read_model s ≡ what_of (follow o (λ w. give (record { structure = y; given = w })))
-          → ReadAs s (model_of n x v) t' ns cs ds
-      section (goal.Of p b count) (done w) j m =
-          record {
-            scanned = c.few;
-            named = h.named;
-            constrained = h.constrained;
-            outcome = subst (λ u. Reading u s (take n t') ns cs ds (model_of n x (goal.Of p b count)) ends.Read) (sym m) (record {
-              ground = ground;
-              names = known;
-              placed = placed_of s (take n t) (take n t') ns cs x y h.named c.holds k z;
-              structure = record {
-                place = resolved.place;
-                title = resolved.title;
-                names = resolved.names;
-                minimize = resolved.minimize;
-                objective = resolved.objective;
-                constraints = resolved.constraints;
-              };
-              title = j.0;
-              store = j.1;
-            });
-          }
-      section (goal.Of p b count) (refused r u) j m = absurd j
-      section (goal.Refused r p) (done w) j m = absurd j
-      section (goal.Refused r p) (refused r' u) j m =
-          record {
-            scanned = omega arith;
-            named = omega arith;
-            constrained = omega arith;
-            outcome = subst (λ u. Reading u s (take 0 t') ns cs ds (no_model r p) (ends.Refused r p)) (sym m) j;
-          }
+        known : ground.names ≡ y.names
+        unfolding ground
+        known = ground-names s (take n t) (take n t') ns cs x y named c.holds k z rest i
 
-    with-section : (a : ℕ) (g : Given) (q : Model) → x.end ≡ At a → ReadsData s (rows_of x.names ns) (take n t') a g ds → q ≡ model_of n x g → ReadAs s q t' ns cs ds
-    unfolding read_model model
-    with-section a g q e d f =
-        subst (λ q. ReadAs s q t' ns cs ds) (sym f)
-        (go (structure (tokens s)) refl (subst (λ m. Parsing (structure (tokens s)) s (take n t) x m ns cs) e parsing))
-      where
-        go : (o : Outcome (Read Structure)) → structure (tokens s) ≡ o → Parsing o s (take n t) x (At a) ns cs → ReadAs s (model_of n x g) t' ns cs ds
-        go (refused m u) i k = absurd k
-        go (done y) i k =
-            section y.what y.rest i k.1 g (read_data y.what.names (from s (take n t') a))
-            (subst (λ names. GivenIs (read_data names (from s (take n t') a)) s ds g) (known y.what y.rest i k.1) (d.is (ground y.what y.rest i k.1)))
-            (ap (λ o. what_of (follow o (λ y l. follow (read_data y.names l) (λ w. give (record { structure = y; given = w }))))) i
-            ∙ ap (λ l. what_of (follow (read_data y.what.names l) (λ w. give (record { structure = y.what; given = w })))) (k.0 ∙ sym (z.same s a)))
+        resolved : StructureAt s (take n t') x ns cs y
+        resolved = resolved-structure s (take n t) (take n t') ns cs x y named c.holds k z
 
-  pub read-model : (a : ℕ) (q : Model) (t' : List ℕ) → x.end ≡ At a → Finishes s t ns n x a q t' ds → ReadAs s q t' ns cs ds
-  read-model a q t' e f = with-section t' f.resolves a f.section q e f.reads f.model
+        -- with the data section that was read
+        section : (v : Result Given Refused) (o : Outcome (Read language.Given)) → GivenIs o s ds v → read_model s ≡ what_of (follow o (λ w. give (record { structure = y; given = w })))
+            → ReadAs s (made n x v) t' ns cs ds
+        section (Ok v) (done w) j m =
+            record {
+              scanned = c.few;
+              named = named;
+              constrained = constrained;
+              outcome = subst (λ u. Reading u s t' ns cs ds (Ok (model_of n x v))) (sym m) (record {
+                ground = ground;
+                names = known;
+                placed = placed_of s (take n t) (take n t') ns cs x y named c.holds k z;
+                structure = record {
+                  place = resolved.place;
+                  title = resolved.title;
+                  names = resolved.names;
+                  minimize = resolved.minimize;
+                  objective = resolved.objective;
+                  constraints = resolved.constraints;
+                };
+                title = j.0;
+                store = j.1;
+              });
+            }
+        section (Ok v) (refused q u) j m = absurd j
+        section (Err v) (done w) j m = absurd j
+        section (Err v) (refused q u) j m =
+            record { scanned = tt; named = tt; constrained = tt; outcome = subst (λ u. Reading u s t' ns cs ds (Err v)) (sym m) j }
+
+      with-section : (g : Result Given Refused) (q : Result Model Refused) → ReadsData s (rows_of x.names ns) (take n t') a g ds → q ≡ made n x g → ReadAs s q t' ns cs ds
+      unfolding read_model model
+      with-section g q d f =
+          subst (λ q. ReadAs s q t' ns cs ds) (sym f)
+          (go (structure (tokens s)) refl (subst (λ r. Parsing (structure (tokens s)) s (take n t) r ns cs) e parsing))
+        where
+          go : (o : Outcome (Read Structure)) → structure (tokens s) ≡ o → Parsing o s (take n t) (Ok (x, a)) ns cs → ReadAs s (made n x g) t' ns cs ds
+          go (refused m u) i k = absurd k
+          go (done y) i k =
+              section y.what y.rest i k.1 g (read_data y.what.names (from s (take n t') a))
+              (subst (λ names. GivenIs (read_data names (from s (take n t') a)) s ds g) (known y.what y.rest i k.1) (d.is (ground y.what y.rest i k.1)))
+              (ap (λ o. what_of (follow o (λ y l. follow (read_data y.names l) (λ w. give (record { structure = y; given = w }))))) i
+              ∙ ap (λ l. what_of (follow (read_data y.what.names l) (λ w. give (record { structure = y.what; given = w })))) (k.0 ∙ sym (z.same s a)))
+
+    pub read-model : (q : Result Model Refused) (t' : List ℕ) → Finishes s t ns n x a q t' ds → ReadAs s q t' ns cs ds
+    read-model q t' f = with-section t' f.resolves f.section q f.reads f.model

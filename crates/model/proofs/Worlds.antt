@@ -1,9 +1,10 @@
 -- For callers: the refusal of a text, or its model and the world of it, which is its text, its names and its data.
+use Rattle.std.specs.Prelude.{Err, Ok, Result}
+use Rattle.rules.specs.declared.Refused.{Refused}
 use mathlib.Core.Path.{◌≡◌, refl, sym, ◌∙◌, ap, subst}
 use mathlib.Core.List.{List}
 use Prim.Native.Nat.{ℕ}
 use lib.ListN.{take}
-use Rattle.rules.specs.declared.Refusal.{Refusal}
 use Rattle.language.specs.Outcome.{Outcome, done, refused}
 use Rattle.language.specs.Store.{stored, scope_of}
 use Rattle.language.specs.Model.{read_model, start}
@@ -15,29 +16,28 @@ use Rattle.evaluator.specs.Cycle.{nothing_bound}
 use Rattle.elements.specs.Placed.{Placed}
 use Rattle.data.proofs.Rows.{stores-given}
 use Rattle.model.specs.declared.Model.{Model}
-use Rattle.model.specs.declared.End.TheVariants.{Read, Refused}
 use Rattle.model.specs.ReadAs.{ModelAt, Reading, ReadAs}
 
 -- ---- the answer
 
-module _ (s : List ℕ) (r : Model) (ts ns cs ds : List ℕ) (h : ReadAs s r ts ns cs ds) where
-  pub text-refused : (n : Refusal) (p : ℕ) → r.end ≡ Refused n p → read_model s ≡ refused n p
-  text-refused n p e = go (read_model s) (subst (Reading (read_model s) s (take r.tokens ts) ns cs ds r) e h.outcome)
+module _ (s : List ℕ) (r : Result Model Refused) (ts ns cs ds : List ℕ) (h : ReadAs s r ts ns cs ds) where
+  pub text-refused : (e : Refused) → r ≡ Err e → read_model s ≡ refused e.refusal e.place
+  text-refused z e = go (read_model s) (subst (Reading (read_model s) s ts ns cs ds) e h.outcome)
     where
-      go : (o : Outcome language.Model) → Reading o s (take r.tokens ts) ns cs ds r (Refused n p) → o ≡ refused n p
+      go : (o : Outcome language.Model) → Reading o s ts ns cs ds (Err z) → o ≡ refused z.refusal z.place
       go (done m) k = absurd k
-      go (refused i q) k = ap (λ i. refused i q) k.0 ∙ ap (refused n) k.1
+      go (refused i q) k = ap (λ i. refused i q) k.0 ∙ ap (refused z.refusal) k.1
 
   -- the model, and what the tables tell of it
-  pub record Accepted : Type 0 where
+  pub record Accepted (x : Model) : Type 0 where
     pub model : language.Model
     pub reads : read_model s ≡ done model
-    pub tells : ModelAt s (take r.tokens ts) ns cs ds r model
+    pub tells : ModelAt s (take x.tokens ts) ns cs ds x model
 
-  pub text-read : r.end ≡ Read → Accepted
-  text-read e = go (read_model s) refl (subst (Reading (read_model s) s (take r.tokens ts) ns cs ds r) e h.outcome)
+  pub text-read : (x : Model) → r ≡ Ok x → Accepted x
+  text-read x e = go (read_model s) refl (subst (Reading (read_model s) s ts ns cs ds) e h.outcome)
     where
-      go : (o : Outcome language.Model) → read_model s ≡ o → Reading o s (take r.tokens ts) ns cs ds r Read → Accepted
+      go : (o : Outcome language.Model) → read_model s ≡ o → Reading o s ts ns cs ds (Ok x) → Accepted x
       go (done m) i k = record { model = m; reads = i; tells = k }
       go (refused n q) i k = absurd k
 

@@ -1,10 +1,9 @@
 -- What code tells of a model text that it read: tables for evaluation, and where the parts of the model stand.
-use Rattle.std.specs.Prelude.{◌≡◌, false, List, ℕ, ◌+◌, ◌≤◌, take}
-use Rattle.rules.specs.declared.Refusal.{Refusal}
+use Rattle.std.specs.Prelude.{Err, Ok, Result, IfOk, ◌≡◌, List, ℕ, ◌+◌, ◌≤◌, take}
+use Rattle.rules.specs.declared.Refused.{Refused}
 use Rattle.language.specs.Outcome.{Outcome, done, refused}
 use Rattle.language.specs.Model.{read_model}
 use Rattle.language.specs.Model as language
-use Rattle.tokens.specs.declared.Move.TheVariants.{At}
 use Rattle.tokens.specs.Stored.{spelling, rows_of}
 use Rattle.tokens.specs.Scanner.Table.{Holds}
 use Rattle.evaluator.specs.Steps.Names.{Resolves}
@@ -13,11 +12,8 @@ use Rattle.parser.specs.Parsed.{StructureAt}
 use Rattle.evaluator.specs.Ground.{Ground}
 use Rattle.elements.specs.Placed.{Placed}
 use Rattle.data.specs.declared.Given.{Given}
-use Rattle.data.specs.declared.Given.TheVariants as given
 use Rattle.data.specs.Stores.{Stores}
 use Rattle.data.specs.Sections.{ReadsData}
-use Rattle.model.specs.declared.End.{End}
-use Rattle.model.specs.declared.End.TheVariants.{Read, Refused}
 use Rattle.model.specs.declared.Model.{Model}
 
 -- the first n words of the table are the text's tokens
@@ -27,35 +23,34 @@ pub record Scans (s : List ℕ) (n : ℕ) (ts : List ℕ) : Type 0 where
 
 -- ---- what is answered
 
-abbrev pub no_model : Refusal → ℕ → Model
-no_model r p = record { tokens = 0; title = 0; names = 0; minimize = false; objective = 0; constraints = 0; section = 0; bytes = 0; given = 0; end = Refused r p }
-
 -- of n tokens, a structure and its data section
 abbrev pub model_of : ℕ → Parsed → Given → Model
-model_of n x (given.Of p b count) = record {
+model_of n x w = record {
   tokens = n;
   title = x.title;
   names = x.names;
   minimize = x.minimize;
   objective = x.objective;
   constraints = x.constraints;
-  section = p;
-  bytes = b;
-  given = count;
-  end = Read;
+  section = w.place;
+  bytes = w.length;
+  given = w.count;
 }
-model_of n x (given.Refused r p) = no_model r p
+
+abbrev pub made : ℕ → Parsed → Result Given Refused → Result Model Refused
+made n x (Ok w) = Ok (model_of n x w)
+made n x (Err e) = Err e
 
 -- the names of the structure x are resolved, and the data section is read from the position a on
-pub record Finishes (s t ns : List ℕ) (n : ℕ) (x : Parsed) (a : ℕ) (r : Model) (t' ds : List ℕ) : Type 0 where
-  pub section : Given
+pub record Finishes (s t ns : List ℕ) (n : ℕ) (x : Parsed) (a : ℕ) (r : Result Model Refused) (t' ds : List ℕ) : Type 0 where
+  pub section : Result Given Refused
   pub resolves : Resolves s (rows_of x.names ns) (take n t) (take n t')
   pub reads : ReadsData s (rows_of x.names ns) (take n t') a section ds
-  pub model : r ≡ model_of n x section
+  pub model : r ≡ made n x section
 
 -- what it tells of the structure
 abbrev pub parsed_of : Model → Parsed
-parsed_of r = record { title = r.title; names = r.names; minimize = r.minimize; objective = r.objective; constraints = r.constraints; end = At 0 }
+parsed_of r = record { title = r.title; names = r.names; minimize = r.minimize; objective = r.objective; constraints = r.constraints }
 
 -- ---- the tables
 
@@ -70,14 +65,14 @@ pub record ModelAt (s ts ns cs ds : List ℕ) (r : Model) (m : language.Model) :
   pub store : Stores ds r.given m.given.store
 
 -- the same refusal, or the tables tell of the model
-abbrev pub Reading : Outcome language.Model → List ℕ → List ℕ → List ℕ → List ℕ → List ℕ → Model → End → Type 0
-Reading (done m) s ts ns cs ds r Read = ModelAt s ts ns cs ds r m
-Reading (done m) s ts ns cs ds r (Refused n p) = ⊥
-Reading (refused k q) s ts ns cs ds r Read = ⊥
-Reading (refused k q) s ts ns cs ds r (Refused n p) = (k ≡ n) × (q ≡ p)
+abbrev pub Reading : Outcome language.Model → List ℕ → List ℕ → List ℕ → List ℕ → List ℕ → Result Model Refused → Type 0
+Reading (done m) s ts ns cs ds (Ok r) = ModelAt s (take r.tokens ts) ns cs ds r m
+Reading (done m) s ts ns cs ds (Err e) = ⊥
+Reading (refused k q) s ts ns cs ds (Ok r) = ⊥
+Reading (refused k q) s ts ns cs ds (Err e) = (k ≡ e.refusal) × (q ≡ e.place)
 
-pub record ReadAs (s : List ℕ) (r : Model) (ts ns cs ds : List ℕ) : Type 0 where
-  pub scanned : r.tokens ≤ 16385
-  pub named : r.names ≤ 64
-  pub constrained : r.constraints ≤ 64
-  pub outcome : Reading (read_model s) s (take r.tokens ts) ns cs ds r r.end
+pub record ReadAs (s : List ℕ) (r : Result Model Refused) (ts ns cs ds : List ℕ) : Type 0 where
+  pub scanned : IfOk r (λ x. x.tokens ≤ 16385)
+  pub named : IfOk r (λ x. x.names ≤ 64)
+  pub constrained : IfOk r (λ x. x.constraints ≤ 64)
+  pub outcome : Reading (read_model s) s ts ns cs ds r

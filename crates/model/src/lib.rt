@@ -6,17 +6,11 @@ ghost use Rattle.tokens.specs.Stored.{rows_of};
 ghost use Rattle.evaluator.specs.Steps.Names.{Resolves};
 ghost use Rattle.parser.specs.Parsed.{ParsedAs};
 ghost use Rattle.data.specs.Sections.{ReadsData};
-ghost use Rattle.model.specs.ReadAs.{Scans, no_model, model_of, Finishes, ReadAs};
+ghost use Rattle.model.specs.ReadAs.{Scans, Finishes, ReadAs};
 
 use data::Given;
-use tokens::Move;
-
-// A text is a model, or it is refused.
-#[derive(Clone, Copy)]
-pub enum End {
-    Read,
-    Refused(rules::Refusal, u64),
-}
+use rules::Refused;
+use tokens::Text;
 
 // The number of a text's tokens; the position of its string, the number of its names, whether its objective is a minimum and at
 // which position it stands, the number of its constraints; the place of the data section's string and the number of its bytes,
@@ -32,7 +26,6 @@ pub struct Model {
     pub section: u64,
     pub bytes: u64,
     pub given: usize,
-    pub end: End,
 }
 
 // The tokens, in a table with room for them.
@@ -50,7 +43,7 @@ fn parsed(
     n: usize,
     names: &mut [u64; 320],
     constraints: &mut [u64; 320],
-) -> parser::Parsed
+) -> Result<(parser::Parsed, usize), Refused>
     requires { n ≤ length tokens.now }
     ensures { ParsedAs text.now (take n tokens.now) result names.new constraints.new }
 {
@@ -75,51 +68,17 @@ fn read_section(
     n: usize,
     store: &mut [u64; 8192],
     at: usize,
-) -> Given
+) -> Result<Given, Refused>
     requires { (n ≤ length tokens.now) × (320 ≤ length names.now) × (count ≤ 64) }
     ensures { ReadsData text.now (rows_of count names.now) (take n tokens.now) at result store.new }
 {
     let k = count * 5;
-    data::read(text, &names[..k], &tokens[..n], store, at)
-}
-
-// No model.
-fn no_model(refusal: rules::Refusal, place: u64) -> Model
-    ensures { result ≡ no_model refusal place }
-{
-    Model {
-        tokens: 0,
-        title: 0,
-        names: 0,
-        minimize: false,
-        objective: 0,
-        constraints: 0,
-        section: 0,
-        bytes: 0,
-        given: 0,
-        end: End::Refused(refusal, place),
-    }
-}
-
-// The model of n tokens, a structure and its data section.
-fn model_of(n: usize, structure: parser::Parsed, section: Given) -> Model
-    ensures { result ≡ model_of n structure section }
-{
-    match section {
-        Given::Of(place, bytes, count) => Model {
-            tokens: n,
-            title: structure.title,
-            names: structure.names,
-            minimize: structure.minimize,
-            objective: structure.objective,
-            constraints: structure.constraints,
-            section: place,
-            bytes: bytes,
-            given: count,
-            end: End::Read,
-        },
-        Given::Refused(refusal, place) => no_model(refusal, place),
-    }
+    let known = Text {
+        bytes: text,
+        names: &names[..k],
+        tokens: &tokens[..n],
+    };
+    data::read(known, store, at)
 }
 
 // The names of a structure resolved, and what stands behind it, from the token at a position among the first n on.
@@ -131,14 +90,24 @@ fn finish(
     n: usize,
     structure: parser::Parsed,
     at: usize,
-) -> Model
+) -> Result<Model, Refused>
     requires { (n ≤ 16385) × (320 ≤ length names.now) × (structure.names ≤ 64) }
     ensures { Finishes text.now tokens.old names.now n structure at result tokens.new store.new }
 {
     let count = structure.names;
     resolve(text, names, count, tokens, n);
-    let section = read_section(text, names, count, tokens, n, store, at);
-    model_of(n, structure, section)
+    let section = read_section(text, names, count, tokens, n, store, at)?;
+    Ok(Model {
+        tokens: n,
+        title: structure.title,
+        names: count,
+        minimize: structure.minimize,
+        objective: structure.objective,
+        constraints: structure.constraints,
+        section: section.place,
+        bytes: section.length,
+        given: section.count,
+    })
 }
 
 // Reads a text into tables.
@@ -148,14 +117,10 @@ pub fn read(
     names: &mut [u64; 320],
     constraints: &mut [u64; 320],
     store: &mut [u64; 8192],
-) -> Model
+) -> Result<Model, Refused>
     ensures { ReadAs text.now result tokens.new names.new constraints.new store.new }
 {
     let n = scan(text, tokens);
-    let structure = parsed(text, tokens, n, names, constraints);
-    let end = structure.end;
-    match end {
-        Move::At(a) => finish(text, tokens, names, store, n, structure, a),
-        Move::Refused(refusal, place) => no_model(refusal, place),
-    }
+    let (structure, at) = parsed(text, tokens, n, names, constraints)?;
+    finish(text, tokens, names, store, n, structure, at)
 }

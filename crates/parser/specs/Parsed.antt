@@ -1,14 +1,13 @@
 -- What code tells of a model that it read.
-use Rattle.std.specs.Prelude.{◌≡◌, Bool, List, ℕ, ◌≤◌}
+use Rattle.std.specs.Prelude.{Err, Ok, Result, IfOk, MatchResult, ◌≡◌, Bool, List, ℕ, ◌≤◌}
+use Rattle.rules.specs.declared.Refused.{Refused}
 use Rattle.rules.specs.Limits.{nesting_limit}
 use Rattle.language.specs.Outcome.{Outcome, done, refused}
 use Rattle.language.specs.Syntax.{Name, Form, Structure}
 use Rattle.language.specs.Reader.{Read, Titled, read_string}
 use Rattle.language.specs.Linear.{Linear, linear_at}
 use Rattle.language.specs.Grammar.{structure}
-use Rattle.tokens.specs.declared.Move.{Move}
-use Rattle.tokens.specs.declared.Move.TheVariants.{At, Refused}
-use Rattle.tokens.specs.Stored.{from, Stands, Gives, rows_of}
+use Rattle.tokens.specs.Stored.{from, Stands, Moves, Gives, rows_of}
 use Rattle.declarations.specs.Tables.{NamesAre}
 use Rattle.constraints.specs.Rows.{Rows}
 use Rattle.parser.specs.declared.Body.{Body}
@@ -35,9 +34,9 @@ pub record ContentAt (s ts : List ℕ) (b : Bool) (a : ℕ) (rows : List ℕ) (n
   pub objective : ObjectiveAt s ts b a names x.objective
   pub constraints : Rows s ts rows names x.constraints
 
-pub record Bodied (s ns ts : List ℕ) (at : ℕ) (r : Body) (t : List ℕ) : Type 0 where
-  pub within : r.constraints ≤ 64
-  pub gives : Gives content_in (ContentAt s ts r.minimize r.objective (rows_of r.constraints t)) s ns ts at r.end
+pub record Bodied (s ns ts : List ℕ) (at : ℕ) (r : Result (Body × ℕ) Refused) (t : List ℕ) : Type 0 where
+  pub within : IfOk r (λ w. w.0.constraints ≤ 64)
+  pub gives : MatchResult r (λ w. Gives content_in (ContentAt s ts w.0.minimize w.0.objective (rows_of w.0.constraints t)) s ns ts at (Ok w.1)) (λ e. Moves content_in s ns ts at (Err e))
 
 -- a model whose names and constraints are the first rows of two tables
 pub record StructureAt (s ts : List ℕ) (r : Parsed) (ns t : List ℕ) (x : Structure) : Type 0 where
@@ -49,13 +48,13 @@ pub record StructureAt (s ts : List ℕ) (r : Parsed) (ns t : List ℕ) (x : Str
   pub constraints : Rows s ts (rows_of r.constraints t) x.names x.constraints
 
 -- the same refusal, or the tables tell of the model
-abbrev pub Parsing : Outcome (Read Structure) → List ℕ → List ℕ → Parsed → Move → List ℕ → List ℕ → Type 0
-Parsing (done x) s ts r (At a) ns t = (x.rest ≡ from s ts a) × StructureAt s ts r ns t x.what
-Parsing (done x) s ts r (Refused n p) ns t = ⊥
-Parsing (refused m q) s ts r (At a) ns t = ⊥
-Parsing (refused m q) s ts r (Refused n p) ns t = (m ≡ n) × (q ≡ p)
+abbrev pub Parsing : Outcome (Read Structure) → List ℕ → List ℕ → Result (Parsed × ℕ) Refused → List ℕ → List ℕ → Type 0
+Parsing (done x) s ts (Ok w) ns t = (x.rest ≡ from s ts w.1) × StructureAt s ts w.0 ns t x.what
+Parsing (done x) s ts (Err e) ns t = ⊥
+Parsing (refused m q) s ts (Ok w) ns t = ⊥
+Parsing (refused m q) s ts (Err e) ns t = (m ≡ e.refusal) × (q ≡ e.place)
 
-pub record ParsedAs (s ts : List ℕ) (r : Parsed) (ns t : List ℕ) : Type 0 where
-  pub named : r.names ≤ 64
-  pub constrained : r.constraints ≤ 64
-  pub outcome : Parsing (structure (from s ts 0)) s ts r r.end ns t
+pub record ParsedAs (s ts : List ℕ) (r : Result (Parsed × ℕ) Refused) (ns t : List ℕ) : Type 0 where
+  pub named : IfOk r (λ w. w.0.names ≤ 64)
+  pub constrained : IfOk r (λ w. w.0.constraints ≤ 64)
+  pub outcome : Parsing (structure (from s ts 0)) s ts r ns t

@@ -1,40 +1,33 @@
 // A model up to its data section, read over the stored tokens into a table of names and a table of constraints.
 #![tactic(auto)]
 
-ghost use Rattle.std.specs.Prelude.{◌≡◌, false, ◌≤◌, length};
-ghost use Rattle.tokens.specs.Stored.{Gives, rows_of};
+ghost use Rattle.std.specs.Prelude.{Ok, Err, MatchResult, ◌≤◌, length};
+ghost use Rattle.tokens.specs.Stored.{Moves, Gives, rows_of};
+ghost use Rattle.tokens.specs.Text.{In};
 ghost use Rattle.parser.specs.Readers.{opening_in, objective_in};
 ghost use Rattle.parser.specs.Parsed.{TitleAt, ObjectiveAt, Bodied, ParsedAs};
 
 use lexer::marks;
-use tokens::Move;
+use rules::Refused;
+use tokens::Text;
 
-// The position of a model's string, and where the reading of its opening ended.
-#[derive(Clone, Copy)]
-struct Opening {
-    title: u64,
-    end: Move,
-}
-
-// Whether an objective is a minimum, the position of its linear form, and where its reading ended.
+// Whether an objective is a minimum, and the position of its linear form.
 #[derive(Clone, Copy)]
 struct Aim {
     minimize: bool,
     position: u64,
-    end: Move,
 }
 
-// What stands behind the declarations: the objective, the number of constraints, and where the reading ended.
+// What stands behind the declarations: the objective, and the number of constraints.
 #[derive(Clone, Copy)]
 struct Body {
     minimize: bool,
     objective: u64,
     constraints: usize,
-    end: Move,
 }
 
-// The position of a model's string, the number of its names, whether its objective is a minimum and at which position it stands,
-// the number of its constraints; and where the reading ended.
+// The position of a model's string, the number of its names, whether its objective is a minimum and at which position it stands, and
+// the number of its constraints.
 #[derive(Clone, Copy)]
 pub struct Parsed {
     pub title: u64,
@@ -42,131 +35,87 @@ pub struct Parsed {
     pub minimize: bool,
     pub objective: u64,
     pub constraints: usize,
-    pub end: Move,
 }
 
-// `OPEN` and a string.
-fn read_opening(text: &[u8], names: &[u64], tokens: &[u64], at: usize) -> Opening
-    ensures { Gives opening_in (TitleAt text.now tokens.now result.title) text.now names.now tokens.now at result.end }
+// `OPEN` and a string: the string's position, and the position after it.
+fn read_opening(text: Text<'_>, at: usize) -> Result<(usize, usize), Refused>
+    ensures { MatchResult result
+        (λ w. In (Gives opening_in (TitleAt text.entry.bytes.now text.entry.tokens.now w.0)) text.entry at (Ok w.1))
+        (λ e. In (Moves opening_in) text.entry at (Err e)) }
 {
-    let word = tokens::expect(text, names, tokens, at, marks::OPEN);
-    let Move::At(a) = word else {
-        return Opening {
-            title: 0,
-            end: word,
-        };
-    };
-    let end = constraints::title(text, names, tokens, a);
-    Opening {
-        title: a as u64,
-        end: end,
-    }
+    let title = tokens::expect(text, at, marks::OPEN)?;
+    let end = constraints::title(text, title)?;
+    Ok((title, end))
 }
 
-// `MAXIMIZE` or `MINIMIZE`, a colon and a linear form.
-fn objective(text: &[u8], names: &[u64], tokens: &[u64], at: usize) -> Aim
-    ensures { Gives objective_in (ObjectiveAt text.now tokens.now result.minimize result.position) text.now names.now tokens.now at result.end }
+// `MAXIMIZE` or `MINIMIZE`, a colon and a linear form, and the position after them.
+fn objective(text: Text<'_>, at: usize) -> Result<(Aim, usize), Refused>
+    ensures { MatchResult result
+        (λ w. In (Gives objective_in (ObjectiveAt text.entry.bytes.now text.entry.tokens.now w.0.minimize w.0.position)) text.entry at (Ok w.1))
+        (λ e. In (Moves objective_in) text.entry at (Err e)) }
 {
-    let goal = constraints::goal(text, names, tokens, at);
-    let word = goal.end;
-    let Move::At(a) = word else {
-        return Aim {
-            minimize: false,
-            position: 0,
-            end: word,
-        };
+    let (minimize, next) = constraints::goal(text, at)?;
+    let form = tokens::expect(text, next, marks::COLON)?;
+    let end = linear::linear(text, form, rules::NESTING_LIMIT)?;
+    let aim = Aim {
+        minimize,
+        position: form as u64,
     };
-    let colon = tokens::expect(text, names, tokens, a, marks::COLON);
-    let Move::At(b) = colon else {
-        return Aim {
-            minimize: false,
-            position: 0,
-            end: colon,
-        };
-    };
-    let end = linear::linear(text, names, tokens, b, rules::NESTING_LIMIT);
-    Aim {
-        minimize: goal.minimize,
-        position: b as u64,
-        end: end,
-    }
+    Ok((aim, end))
 }
 
-// The objective and the constraints, with the first `count` names of the table.
+// The objective and the constraints, with the first `count` names of the table, and the position after them.
 fn read_body(
-    text: &[u8],
-    names: &[u64],
-    tokens: &[u64],
+    text: Text<'_>,
     rows: &mut [u64; 320],
     at: usize,
     count: usize,
-) -> Body
-    requires { (320 ≤ length names.now) × (count ≤ 64) }
-    ensures { Bodied text.now (rows_of count names.now) tokens.now at result rows.new }
+) -> Result<(Body, usize), Refused>
+    requires { (320 ≤ length text.names.now) × (count ≤ 64) }
+    ensures { Bodied text.entry.bytes.now (rows_of count text.entry.names.now) text.entry.tokens.now at result rows.new }
 {
-    let k = count * 5;
-    let aim = objective(text, &names[..k], tokens, at);
-    let read = aim.end;
-    let Move::At(a) = read else {
-        return Body {
-            minimize: false,
-            objective: 0,
-            constraints: 0,
-            end: read,
-        };
+    let declared = Text {
+        names: &text.names[..count * 5],
+        ..text
     };
-    let listed = constraints::constraints(text, &names[..k], tokens, rows, a);
-    let end = listed.end;
-    Body {
+    let (aim, next) = objective(declared, at)?;
+    let (constraints, next) = constraints::constraints(declared, rows, next)?;
+    let body = Body {
         minimize: aim.minimize,
         objective: aim.position,
-        constraints: listed.count,
-        end: end,
-    }
+        constraints,
+    };
+    Ok((body, next))
 }
 
-// No model.
-fn no_model(end: Move) -> Parsed
-    ensures { result ≡ record { title = 0; names = 0; minimize = false; objective = 0; constraints = 0; end = end } }
-{
-    Parsed {
-        title: 0,
-        names: 0,
-        minimize: false,
-        objective: 0,
-        constraints: 0,
-        end: end,
-    }
-}
-
-// A model from its first token on.
+// A model from its first token on, and the position after it.
 pub fn parse(
     text: &[u8],
     tokens: &[u64],
     names: &mut [u64; 320],
     constraints: &mut [u64; 320],
-) -> Parsed
+) -> Result<(Parsed, usize), Refused>
     ensures { ParsedAs text.now tokens.now result names.new constraints.new }
 {
-    let open = read_opening(text, &tokens[..0], tokens, 0);
-    let word = open.end;
-    let Move::At(a) = word else {
-        return no_model(word);
+    let unnamed = Text {
+        bytes: text,
+        names: &[],
+        tokens,
     };
-    let declared = declarations::declarations(text, tokens, names, a);
-    let list = declared.end;
-    let Move::At(b) = list else {
-        return no_model(list);
+    let (title, next) = read_opening(unnamed, 0)?;
+    let (count, next) = declarations::declarations(text, tokens, names, next)?;
+    let named = Text {
+        bytes: text,
+        names,
+        tokens,
     };
-    let count = declared.count;
-    let body = read_body(text, names, tokens, constraints, b, count);
-    let end = body.end;
-    Parsed {
-        title: open.title,
+    let (body, next) = read_body(named, constraints, next, count)?;
+    let parsed = Parsed {
+        title: title as u64,
         names: count,
         minimize: body.minimize,
         objective: body.objective,
         constraints: body.constraints,
-        end: end,
-    }
+    };
+    Ok((parsed, next))
 }

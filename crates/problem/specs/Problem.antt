@@ -1,5 +1,6 @@
 -- What the tables tell of a model and of its problem.
-use Rattle.std.specs.Prelude.{◌≡◌, Bool, List, [], ℕ, ◌≤◌, length, get_or, ℤ}
+use Rattle.std.specs.Prelude.{Err, Ok, Result, ◌≡◌, Bool, List, [], ℕ, ◌≤◌, length, get_or, ℤ}
+use Rattle.rules.specs.declared.Refused.{Refused}
 use Rattle.rules.specs.Limits.{variable_limit, constraint_limit}
 use Rattle.language.specs.Outcome.{Outcome, done, refused}
 use Rattle.language.specs.All.{All}
@@ -20,7 +21,6 @@ use Rattle.rows.specs.Bounds.{BoundsHeld}
 use Rattle.rows.specs.Problems.{KeyedVariable, FromConstraint}
 use Rattle.problem.specs.Variables.Order.{InOrder}
 use Rattle.problem.specs.declared.Problem.{Problem}
-use Rattle.problem.specs.declared.Problem.TheVariants as problem
 
 -- ---- the model
 
@@ -50,11 +50,11 @@ pub record Holds (xs t bs : List ℕ) (m : List ℤ) (discrete total : ℕ) (f :
   pub bounds : BoundsHeld bs total p.entries
 
 -- the same refusal, or the problem
-abbrev pub Generating : Outcome Lp → List Constraint → Problem → List ℕ → List ℕ → List ℕ → List ℤ → Type 0
-Generating (done p) cs (problem.Of a n f) xs t bs m = Holds xs t bs m a n f cs p
-Generating (done p) cs (problem.Refused r q) xs t bs m = ⊥
-Generating (refused k q) cs (problem.Of a n f) xs t bs m = ⊥
-Generating (refused k q) cs (problem.Refused r p) xs t bs m = (k ≡ r) × (q ≡ p)
+abbrev pub Generating : Outcome Lp → List Constraint → Result Problem Refused → List ℕ → List ℕ → List ℕ → List ℤ → Type 0
+Generating (done p) cs (Ok x) xs t bs m = Holds xs t bs m x.discrete x.total x.filled cs p
+Generating (done p) cs (Err e) xs t bs m = ⊥
+Generating (refused k q) cs (Ok x) xs t bs m = ⊥
+Generating (refused k q) cs (Err e) xs t bs m = (k ≡ e.refusal) × (q ≡ e.place)
 
 -- the variables are numbered: n of them, the first a of which are discrete
 pub record Numbers (xs : List ℕ) (a n : ℕ) (m : Model) : Type 0 where
@@ -68,9 +68,9 @@ pub record Numbers (xs : List ℕ) (a n : ℕ) (m : Model) : Type 0 where
   pub numbered : Numbered xs n variables
   pub keyed : All KeyedVariable variables
 
-pub record ShapesAs (ns ts ds : List ℕ) (given : ℕ) (xs : List ℕ) (discrete total aim : ℕ) (b : Bool) (cs : List ℕ) (count : ℕ) (bs : List ℕ) (r : Problem) (t bs' : List ℕ) (c : List ℤ) : Type 0 where
+pub record ShapesAs (ns ts ds : List ℕ) (given : ℕ) (xs : List ℕ) (discrete total aim : ℕ) (b : Bool) (cs : List ℕ) (count : ℕ) (bs : List ℕ) (r : Result Problem Refused) (t bs' : List ℕ) (c : List ℤ) : Type 0 where
   pub is : (w : World ns ts ds given) (m : Model) → Poses ns ts ds given aim b cs count bs w m → Numbers xs discrete total m
       → Generating (generate m) m.structure.constraints r xs t bs' c
 
-pub record GeneratesAs (ns ts ds : List ℕ) (given aim : ℕ) (b : Bool) (cs : List ℕ) (count : ℕ) (bs : List ℕ) (r : Problem) (xs t bs' : List ℕ) (c : List ℤ) : Type 0 where
+pub record GeneratesAs (ns ts ds : List ℕ) (given aim : ℕ) (b : Bool) (cs : List ℕ) (count : ℕ) (bs : List ℕ) (r : Result Problem Refused) (xs t bs' : List ℕ) (c : List ℤ) : Type 0 where
   pub is : (w : World ns ts ds given) (m : Model) → Poses ns ts ds given aim b cs count bs w m → Generating (generate m) m.structure.constraints r xs t bs' c

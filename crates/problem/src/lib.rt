@@ -6,25 +6,23 @@ mod missing;
 pub mod variables;
 
 ghost use Rattle.problem.specs.Problem.{ShapesAs, GeneratesAs};
+ghost use Rattle.evaluator.specs.Context.{Over};
 
-use evaluator::Passed;
-use matrix::Generated;
+use evaluator::Stored;
 use rows::Filled;
-use variables::Counted;
+use rules::Refused;
 
 // How many variables are discrete, how many there are, and how many rows.
 #[derive(Clone, Copy)]
-pub enum Problem {
-    Of(usize, usize, Filled),
-    Refused(rules::Refusal, u64),
+pub struct Problem {
+    pub discrete: usize,
+    pub total: usize,
+    pub filled: Filled,
 }
 
 // The objective and the constraints of `total` variables, the first of which are discrete.
 fn shape(
-    names: &[u64],
-    tokens: &[u64],
-    table: &[u64],
-    given: usize,
+    stored: Stored<'_>,
     variables: &[u64],
     discrete: usize,
     total: usize,
@@ -35,23 +33,12 @@ fn shape(
     slots: &mut [u64; 4104],
     bounds: &mut [u64; 1024],
     counts: &mut [i64; 263168],
-) -> Problem
-    ensures { ShapesAs names.now tokens.now table.now given variables.now discrete total aim minimize constraints.now count bounds.old result slots.new bounds.new counts.new }
+) -> Result<Problem, Refused>
+    ensures { Over ShapesAs stored.entry variables.now discrete total aim minimize constraints.now count bounds.old result slots.new bounds.new counts.new }
 {
-    let objective = matrix::objective(
-        names, tokens, table, given, variables, total, aim, minimize, counts,
-    );
-    match objective {
-        Passed::Inside => {}
-        Passed::Refused(n, p) => {
-            return Problem::Refused(n, p);
-        }
-    }
-    let rows = matrix::constraints(
-        names,
-        tokens,
-        table,
-        given,
+    matrix::objective(stored, variables, total, aim, minimize, counts)?;
+    let filled = matrix::constraints(
+        stored,
         variables,
         total,
         constraints,
@@ -59,20 +46,18 @@ fn shape(
         slots,
         bounds,
         counts,
-    );
-    match rows {
-        Generated::Of(f) => Problem::Of(discrete, total, f),
-        Generated::Refused(n, p) => Problem::Refused(n, p),
-    }
+    )?;
+    Ok(Problem {
+        discrete,
+        total,
+        filled,
+    })
 }
 
 // Missing data, variables, the objective, constraints. The form of the objective stands at `aim`, and the first `count` rows of the
 // table tell of the constraints.
 pub fn generate(
-    names: &[u64],
-    tokens: &[u64],
-    table: &[u64],
-    given: usize,
+    stored: Stored<'_>,
     aim: usize,
     minimize: bool,
     constraints: &[u64; 320],
@@ -81,34 +66,22 @@ pub fn generate(
     slots: &mut [u64; 4104],
     bounds: &mut [u64; 1024],
     counts: &mut [i64; 263168],
-) -> Problem
-    ensures { GeneratesAs names.now tokens.now table.now given aim minimize constraints.now count bounds.old result variables.new slots.new bounds.new counts.new }
+) -> Result<Problem, Refused>
+    ensures { Over GeneratesAs stored.entry aim minimize constraints.now count bounds.old result variables.new slots.new bounds.new counts.new }
 {
-    let test = missing::all_given(names, tokens, table, given);
-    match test {
-        Passed::Inside => {}
-        Passed::Refused(n, p) => {
-            return Problem::Refused(n, p);
-        }
-    }
-    let numbers = variables::number(names, tokens, table, given, variables);
-    match numbers {
-        Counted::Of(discrete, total) => shape(
-            names,
-            tokens,
-            table,
-            given,
-            variables,
-            discrete,
-            total,
-            aim,
-            minimize,
-            constraints,
-            count,
-            slots,
-            bounds,
-            counts,
-        ),
-        Counted::Refused(n, p) => Problem::Refused(n, p),
-    }
+    missing::all_given(stored)?;
+    let (discrete, total) = variables::number(stored, variables)?;
+    shape(
+        stored,
+        variables,
+        discrete,
+        total,
+        aim,
+        minimize,
+        constraints,
+        count,
+        slots,
+        bounds,
+        counts,
+    )
 }

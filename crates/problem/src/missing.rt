@@ -1,11 +1,12 @@
 // Missing data by declaration: every integer and every real has a value at each element of its declared domain.
 ghost use Rattle.store.specs.Element.{list_of};
 ghost use Rattle.problem.specs.Missing.Given.{IsGiven, DomainGiven, NameGiven, AllGiven};
+ghost use Rattle.evaluator.specs.Context.{Over};
 
-use elements::Step;
 use evaluator::steps::names;
 use evaluator::steps::scope::Scope;
-use evaluator::{Context, Passed};
+use evaluator::{Context, Stored};
+use rules::{Refused, refused};
 use store::Element;
 use tokens::sorts;
 
@@ -13,71 +14,49 @@ use tokens::sorts;
 fn is_given(table: &[u64], given: usize, i: usize, e: Element) -> bool
     ensures { IsGiven table.now given i (list_of e) result }
 {
-    let key = store::key_of(i, e);
-    match store::find(table, given, key) {
-        Some(_) => true,
-        None => false,
-    }
+    store::find(table, given, store::key_of(i, e)).is_some()
 }
 
 // A value at each element of the domain that was declared for name i, an integer or a real.
-fn domain_given(names: &[u64], tokens: &[u64], table: &[u64], given: usize, i: usize) -> Passed
-    ensures { DomainGiven names.now tokens.now table.now given i result }
+fn domain_given(stored: Stored<'_>, i: usize) -> Result<(), Refused>
+    ensures { Over DomainGiven stored.entry i result }
 {
-    let place = names::word_of(names, i, 0);
-    let count = names::word_of(names, i, 3) as usize;
-    let at = names::word_of(names, i, 4) as usize;
-    let scope = Scope::none();
+    let place = names::word_of(stored.names, i, 0);
+    let count = names::word_of(stored.names, i, 3) as usize;
+    let at = names::word_of(stored.names, i, 4) as usize;
     let cx = Context {
-        given,
+        stored,
         level: i,
         nest: 0,
-        scope,
+        scope: Scope::none(),
     };
-    let mut step = elements::first(names, tokens, table, cx, count, at);
-    loop {
-        match step {
-            Step::At(h) => {
-                if !is_given(table, given, i, h.element()) {
-                    return Passed::Refused(rules::Refusal::Missing, place);
-                }
-                step = elements::next(names, tokens, table, cx, h);
-            }
-            Step::Done => {
-                return Passed::Inside;
-            }
-            Step::Refused(n, p) => {
-                return Passed::Refused(n, p);
-            }
+    let mut step = elements::first(&cx, count, at)?;
+    while let Some(h) = step {
+        if !is_given(stored.table, stored.given, i, h.element()) {
+            return refused!(Missing, place);
         }
+        step = elements::next(&cx, h)?;
     }
+    Ok(())
 }
 
 // The data of name i; other sorts have none.
-fn name_given(names: &[u64], tokens: &[u64], table: &[u64], given: usize, i: usize) -> Passed
-    ensures { NameGiven names.now tokens.now table.now given i result }
+fn name_given(stored: Stored<'_>, i: usize) -> Result<(), Refused>
+    ensures { Over NameGiven stored.entry i result }
 {
-    let sort = names::word_of(names, i, 2);
+    let sort = names::word_of(stored.names, i, 2);
     if (sort == sorts::INTEGER) | (sort == sorts::REAL) {
-        return domain_given(names, tokens, table, given, i);
+        return domain_given(stored, i);
     }
-    Passed::Inside
+    Ok(())
 }
 
-// The data of all names, by declaration. `table` has `given` rows of data.
-pub fn all_given(names: &[u64], tokens: &[u64], table: &[u64], given: usize) -> Passed
-    ensures { AllGiven names.now tokens.now table.now given result }
+// The data of all names, by declaration.
+pub fn all_given(stored: Stored<'_>) -> Result<(), Refused>
+    ensures { Over AllGiven stored.entry result }
 {
-    let mut i = 0;
-    while i < names.len() / 5 {
-        let r = name_given(names, tokens, table, given, i);
-        match r {
-            Passed::Inside => {}
-            Passed::Refused(n, p) => {
-                return Passed::Refused(n, p);
-            }
-        }
-        i += 1;
+    for i in 0..stored.names.len() / 5 {
+        name_given(stored, i)?;
     }
-    Passed::Inside
+    Ok(())
 }

@@ -2,126 +2,72 @@
 // table has the key of variable number j.
 ghost use Rattle.std.specs.Prelude.{◌≤◌, length};
 ghost use Rattle.problem.specs.Variables.Numbers.{AddsName, AddsSort, NumbersAs};
+ghost use Rattle.evaluator.specs.Context.{Over};
 
-use elements::Step;
-use evaluator::Context;
 use evaluator::steps::names;
 use evaluator::steps::scope::Scope;
+use evaluator::{Context, Stored};
+use rules::{Refused, refused};
 use tokens::sorts;
-
-// How many variables are discrete, and how many there are.
-#[derive(Clone, Copy)]
-pub enum Counted {
-    Of(usize, usize),
-    Refused(rules::Refusal, u64),
-}
-
-// How many rows are filled.
-#[derive(Clone, Copy)]
-enum Added {
-    Rows(usize),
-    Refused(rules::Refusal, u64),
-}
 
 // The elements of name i, behind the first `from` rows. The 513th variable is refused at the declared name.
 fn add_name(
-    names: &[u64],
-    tokens: &[u64],
-    table: &[u64],
-    given: usize,
+    stored: Stored<'_>,
     i: usize,
     from: usize,
     variables: &mut [u64],
-) -> Added
+) -> Result<usize, Refused>
     requires { 2048 ≤ length variables.old }
-    ensures { AddsName names.now tokens.now table.now given i from variables.old result variables.new }
+    ensures { Over AddsName stored.entry i from variables.old result variables.new }
 {
-    let scope = Scope::none();
     let cx = Context {
-        given,
+        stored,
         level: i,
         nest: rules::NESTING_LIMIT,
-        scope,
+        scope: Scope::none(),
     };
-    let count = names::word_of(names, i, 3) as usize;
-    let at = names::word_of(names, i, 4) as usize;
-    let mut step = elements::first(names, tokens, table, cx, count, at);
+    let count = names::word_of(stored.names, i, 3) as usize;
+    let at = names::word_of(stored.names, i, 4) as usize;
+    let mut step = elements::first(&cx, count, at)?;
     let mut n = from;
-    loop {
-        match step {
-            Step::At(h) => {
-                let e = h.element();
-                if rules::VARIABLE_LIMIT <= n {
-                    return Added::Refused(rules::Refusal::Full, names::word_of(names, i, 0));
-                }
-                let key = store::key_of(i, e);
-                store::append(variables, n, key, 0);
-                n += 1;
-                step = elements::next(names, tokens, table, cx, h);
-            }
-            Step::Done => {
-                return Added::Rows(n);
-            }
-            Step::Refused(r, p) => {
-                return Added::Refused(r, p);
-            }
+    while let Some(h) = step {
+        let e = h.element();
+        if rules::VARIABLE_LIMIT <= n {
+            return refused!(Full, names::word_of(stored.names, i, 0));
         }
+        let key = store::key_of(i, e);
+        store::append(variables, n, key, 0);
+        n += 1;
+        step = elements::next(&cx, h)?;
     }
+    Ok(n)
 }
 
 // The names of a sort, behind the first `from` rows.
 fn add_sort(
-    names: &[u64],
-    tokens: &[u64],
-    table: &[u64],
-    given: usize,
+    stored: Stored<'_>,
     sort: u64,
     from: usize,
     variables: &mut [u64],
-) -> Added
+) -> Result<usize, Refused>
     requires { 2048 ≤ length variables.old }
-    ensures { AddsSort names.now tokens.now table.now given sort from variables.old result variables.new }
+    ensures { Over AddsSort stored.entry sort from variables.old result variables.new }
 {
-    let mut i = 0;
     let mut n = from;
-    while i < names.len() / 5 {
-        if names::word_of(names, i, 2) != sort {
-            i += 1;
+    for i in 0..stored.names.len() / 5 {
+        if names::word_of(stored.names, i, 2) != sort {
             continue;
         }
-        let added = add_name(names, tokens, table, given, i, n, variables);
-        match added {
-            Added::Rows(m) => {
-                n = m;
-                i += 1;
-            }
-            Added::Refused(r, p) => {
-                return Added::Refused(r, p);
-            }
-        }
+        n = add_name(stored, i, n, variables)?;
     }
-    Added::Rows(n)
+    Ok(n)
 }
 
 // Numbers all variables.
-pub fn number(
-    names: &[u64],
-    tokens: &[u64],
-    table: &[u64],
-    given: usize,
-    variables: &mut [u64; 2048],
-) -> Counted
-    ensures { NumbersAs names.now tokens.now table.now given result variables.new }
+pub fn number(stored: Stored<'_>, variables: &mut [u64; 2048]) -> Result<(usize, usize), Refused>
+    ensures { Over NumbersAs stored.entry result variables.new }
 {
-    let discrete = add_sort(names, tokens, table, given, sorts::DISCRETE, 0, variables);
-    match discrete {
-        Added::Rows(a) => {
-            let all = add_sort(names, tokens, table, given, sorts::CONTINUOUS, a, variables);
-            match all {
-                Added::Rows(n) => Counted::Of(a, n),
-                Added::Refused(r, p) => Counted::Refused(r, p),
-            }
-        }
-        Added::Refused(r, p) => Counted::Refused(r, p),
-    }
+    let discrete = add_sort(stored, sorts::DISCRETE, 0, variables)?;
+    let total = add_sort(stored, sorts::CONTINUOUS, discrete, variables)?;
+    Ok((discrete, total))
 }

@@ -53,15 +53,9 @@ module _ (t c : Value) (o : Option Value) where
   unfolding added_in sum_in
   added-unfit b f e h k = rw (e, ← h, k)
 
-  pub added-sum-unfit : (b p : Value) (f g : Option Value) → o ≡ Some b → f ≡ if_in_range c b (product_of c b) → f ≡ Some p → g ≡ if_in_range t p (sum_of t p) → g ≡ None
-      → None ≡ added_in t c o
+  pub added-both : (b p : Value) (f g : Option Value) → o ≡ Some b → f ≡ if_in_range c b (product_of c b) → f ≡ Some p → g ≡ if_in_range t p (sum_of t p) → g ≡ added_in t c o
   unfolding added_in sum_in
-  added-sum-unfit b p f g e h k i j = rw (e, ← h, k, ← i, j)
-
-  pub added-sum : (b p s : Value) (f g : Option Value) → o ≡ Some b → f ≡ if_in_range c b (product_of c b) → f ≡ Some p → g ≡ if_in_range t p (sum_of t p) → g ≡ Some s
-      → (Some s) ≡ added_in t c o
-  unfolding added_in sum_in
-  added-sum b p s f g e h k i j = rw (e, ← h, k, ← i, j)
+  added-both b p f g e h k i = rw (e, ← h, k) i
 
 module _ (bounds : List ℕ) (greatest : Bool) (j : ℕ) (t c v : Value) (z : Bool) where
   pub column-zero : v ≡ c → z ≡ is_zero v → z ≡ true → (Some t) ≡ column_in bounds greatest j t c

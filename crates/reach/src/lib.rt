@@ -24,16 +24,8 @@ fn taken(bounds: &[u64], j: usize, c: Value, greatest: bool) -> Option<Value>
 fn added(t: Value, c: Value, bound: Option<Value>) -> Option<Value>
     ensures { result ≡ added_in t c bound }
 {
-    let Some(b) = bound else {
-        return None;
-    };
-    let Some(p) = value::mul(c, b) else {
-        return None;
-    };
-    match value::add(t, p) {
-        Some(s) => Some(s),
-        None => None,
-    }
+    let product = value::mul(c, bound?)?;
+    value::add(t, product)
 }
 
 // The sum t with the column of variable j, whose coefficient has the count z.
@@ -52,14 +44,8 @@ pub fn end_of(counts: &[i64], bounds: &[u64], k: usize, n: usize, greatest: bool
     ensures { Reaches counts.now bounds.now k n greatest result }
 {
     let mut t = value::of_whole(0);
-    let mut j = 0;
-    while j < n {
-        let next = column(t, rows::count_at(counts, k, j), bounds, j, greatest);
-        let Some(s) = next else {
-            return None;
-        };
-        t = s;
-        j += 1;
+    for j in 0..n {
+        t = column(t, rows::count_at(counts, k, j), bounds, j, greatest)?;
     }
     Some(t)
 }

@@ -1,4 +1,5 @@
 -- What the program is asked, by its word.
+use Rattle.std.specs.Prelude.{None, Some}
 use mathlib.Core.Path.{◌≡◌}
 use mathlib.Core.Bool.{Bool, true, false}
 use mathlib.Core.List.{List}
@@ -6,19 +7,18 @@ use Prim.Native.Nat.{ℕ}
 use Rattle.rules.specs.Characters.{bytes}
 use Rattle.lexer.specs.Text.{same_bytes}
 use Rattle.generator.specs.declared.Entry.TheVariants as entry
-use Rattle.recipe.specs.declared.Job.TheVariants.{Of, Unknown}
 use Rattle.recipe.specs.Asked.{job_of}
 
 module _ (word : List ℕ) (a : Bool) (i : a ≡ same_bytes word (bytes "--mps")) where
-  pub asked-export : a ≡ true → Of entry.Export ≡ job_of word
+  pub asked-export : a ≡ true → Some entry.Export ≡ job_of word
   unfolding job_of
   asked-export e = rw (← i, e)
 
   module _ (b : Bool) (j : b ≡ same_bytes word (bytes "--read-mps")) where
-    pub asked-read : a ≡ false → b ≡ true → Of entry.Read ≡ job_of word
+    pub asked-read : a ≡ false → b ≡ true → Some entry.Read ≡ job_of word
     unfolding job_of
     asked-read e f = rw (← i, e, ← j, f)
 
-    pub asked-unknown : a ≡ false → b ≡ false → Unknown ≡ job_of word
+    pub asked-unknown : a ≡ false → b ≡ false → None ≡ job_of word
     unfolding job_of
     asked-unknown e f = rw (← i, e, ← j, f)

@@ -11,25 +11,18 @@ use std::env::{Env, FillError};
 use std::io;
 use std::io::{Eprint, Print};
 
-// What is asked of the program: an entry point, or what it does not know.
-#[derive(Clone, Copy)]
-enum Job {
-    Of(Entry),
-    Unknown,
-}
-
 // ---- the program's word
 
-fn named(word: &[u8]) -> Job
+fn named(word: &[u8]) -> Option<Entry>
     ensures { result ≡ job_of word.now }
 {
     if lexer::same_bytes(word, b"--mps") {
-        return Job::Of(Entry::Export);
+        return Some(Entry::Export);
     }
     if lexer::same_bytes(word, b"--read-mps") {
-        return Job::Of(Entry::Read);
+        return Some(Entry::Read);
     }
-    Job::Unknown
+    None
 }
 
 // Whether the program was given a word at this place; its own name stands at 0.
@@ -39,15 +32,15 @@ fn has_word(rt: &impl Env, place: usize) -> bool {
 }
 
 // No contract can say what word is there: `named` says what it means. No word that means something is longer than 16 bytes.
-fn asked(rt: &impl Env) -> Job {
+fn asked(rt: &impl Env) -> Option<Entry> {
     if has_word(rt, 2) {
-        return Job::Unknown;
+        return None;
     }
     let mut word = [0u8; 16];
     match rt.arg(1, &mut word) {
         Ok(k) => named(&word[..k]),
-        Err(FillError::NotPresent) => Job::Of(Entry::List),
-        Err(FillError::TooLong) => Job::Unknown,
+        Err(FillError::NotPresent) => Some(Entry::List),
+        Err(FillError::TooLong) => None,
     }
 }
 
@@ -111,12 +104,9 @@ fn run<R: Input + Print + Eprint>(rt: &R, entry: Entry) -> io::Result<()> {
 }
 
 fn main(rt: HostRuntime) -> io::Result<()> {
-    let job = asked(&rt);
-    match job {
-        Job::Of(entry) => run(&rt, entry),
-        Job::Unknown => {
-            eprintln!(rt; "usage: recipe [--mps | --read-mps] < FILE")?;
-            Ok(())
-        }
-    }
+    let Some(entry) = asked(&rt) else {
+        eprintln!(rt; "usage: recipe [--mps | --read-mps] < FILE")?;
+        return Ok(());
+    };
+    run(&rt, entry)
 }

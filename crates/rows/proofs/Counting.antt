@@ -3,12 +3,11 @@ use Rattle.std.specs.Prelude.{Some}
 use mathlib.Core.Path.{◌≡◌, refl, sym, ◌∙◌, ap}
 use mathlib.Core.Bool.{true, false}
 use mathlib.Core.List.{List, [], ◌∷◌, map}
-use Prim.Native.Nat.{ℕ, zero, suc, ◌+◌, ◌^◌, ◌<◌, ◌≤◌}
+use Prim.Native.Nat.{ℕ, zero, suc, ◌^◌, ◌<◌, ◌≤◌}
 use native.Mathlib.Omega.{arith}
-use native.Mathlib.Decide.{ℕ_discrete}
 use borrow.Author.Tests.{ltb-false, le-ltb}
-use lib.ListN.{length, get_or, set, replicate, length-set, length-map, length-replicate, get_or-replicate, get_or-map}
-use lib.Seq.{get_or-set_same, get_or-set_other, ext_get_or}
+use lib.ListN.{length, get_or, replicate, length-map, length-replicate, get_or-replicate, get_or-map}
+use lib.Seq.{ext_get_or}
 use lib.IntN.{ℤ, pos, negsuc, neg_ℤ, nat_abs, ◌-ℤ◌, +ℤ_idl}
 use lib.Signed.{mag, lt_z}
 use mir.Syntax.{w64}
@@ -35,21 +34,6 @@ pub record Turned (f : ℤ → ℤ) (l : List ℤ) (i : ℕ) (l' : List ℤ) : T
   pub rest : (j : ℕ) → i ≤ j → get_or l' j (pos 0) ≡ get_or l j (pos 0)
 
 module _ (f : ℤ → ℤ) (l : List ℤ) where
-  pub turned_none : Turned f l 0 l
-  turned_none = record { size = refl; turned = λ j h. absurd (omega arith); rest = λ j h. refl }
-
-  pub turned_more : (i : ℕ) (u : List ℤ) (z : ℤ) → Turned f l i u → i < length u → z ≡ f (get_or u i (pos 0)) → Turned f l (i + 1) (set u i z)
-  turned_more i u z r h e =
-      record {
-        size = length-set u i z ∙ r.size;
-        turned = λ j g. go j g (ℕ_discrete j i);
-        rest = λ j g. get_or-set_other u i j z (pos 0) (λ k. omega arith) ∙ r.rest j (omega arith);
-      }
-    where
-      go : (j : ℕ) → j < i + 1 → Dec (j ≡ i) → get_or (set u i z) j (pos 0) ≡ f (get_or l j (pos 0))
-      go j g (yes k) = rw (k, get_or-set_same u i z (pos 0) h) (e ∙ ap f (r.rest i (omega arith)))
-      go j g (no k) = get_or-set_other u i j z (pos 0) k ∙ r.turned j (omega arith)
-
   pub turned-end : (i : ℕ) (u : List ℤ) → Turned f l i u → length u ≤ i → u ≡ map f l
   turned-end i u r h = ext_get_or (pos 0) u (map f l) (r.size ∙ sym (length-map l f)) (λ j g. r.turned j (omega arith) ∙ sym (at_map l j (omega (arith, r.size))))
     where
@@ -57,10 +41,6 @@ module _ (f : ℤ → ℤ) (l : List ℤ) where
       at_map [] j g = absurd (omega arith)
       at_map (z ∷ l) zero g = refl
       at_map (z ∷ l) (suc j) g = at_map l j (omega arith)
-
-pub map-zeros : (l : List ℤ) → map (λ _. pos 0) l ≡ replicate (length l) (pos 0)
-map-zeros [] = refl
-map-zeros (z ∷ l) = ap (λ (m : List ℤ). pos 0 ∷ m) (map-zeros l)
 
 -- ---- zeros
 

@@ -1,5 +1,5 @@
 -- Laws of what is read of the tables: sizes, slots, counts, values and bounds.
-use Rattle.std.specs.Prelude.{Option, Some, None}
+use Rattle.std.specs.Prelude.{Option, Some, None, unwrap_or}
 use mathlib.Core.Path.{◌≡◌, refl, sym, ◌∙◌, ap}
 use mathlib.Core.Bool.{Bool, true, false, ◌&&◌}
 use mathlib.Core.List.{List}
@@ -82,9 +82,10 @@ pub value-fits : (z : ℤ) (f : Option Value) (v : Value) → f ≡ of_millionth
 unfolding value_of fitted
 value-fits z f v e g = rw (← e, g)
 
-pub value_none : (z : ℤ) (f : Option Value) (v : Value) → f ≡ of_millionths z → f ≡ None → v ≡ of_whole (pos 0) → v ≡ value_of z
+pub value-or : (z : ℤ) (f : Option Value) → f ≡ of_millionths z → unwrap_or f (of_whole (pos 0)) ≡ value_of z
 unfolding value_of fitted of_whole
-value_none z f v e g h = h ∙ rw (← e, g)
+value-or z (Some v) e = rw (← e)
+value-or z None e = rw (← e)
 
 -- the count 0 is the value 0
 pub zero-count : value_of (pos 0) ≡ zero_value

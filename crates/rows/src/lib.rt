@@ -16,32 +16,26 @@ ghost use Rattle.rows.specs.Read.{within, slot_at, count_at, value_of, lower_in,
 pub fn clear(counts: &mut [i64])
     ensures { counts.new ≡ replicate (length counts.old) (pos 0) }
 {
-    let mut i = 0;
-    while i < counts.len() {
-        counts[i] = 0;
-        i += 1;
-    }
+    counts.fill(0);
 }
 
 // The opposite of a count; what is below any count stays.
 fn opposite_of(z: i64) -> i64
     ensures { result ≡ opposed z }
 {
-    let lowest = 0 - value::count_limit() as i64;
+    let lowest = -(value::count_limit() as i64);
     if z < lowest {
         return z;
     }
-    0 - z
+    -z
 }
 
 // Every count's opposite.
 pub fn negate(counts: &mut [i64])
     ensures { counts.new ≡ map opposed counts.old }
 {
-    let mut i = 0;
-    while i < counts.len() {
-        counts[i] = opposite_of(counts[i]);
-        i += 1;
+    for z in counts.iter_mut() {
+        *z = opposite_of(*z);
     }
 }
 
@@ -223,10 +217,7 @@ pub fn is_within(sizes: Sizes) -> bool
 pub fn word(table: &[u64], k: usize) -> u64
     ensures { result ≡ get_or table.now k 0 }
 {
-    if k < table.len() {
-        return table[k];
-    }
-    0
+    table.get(k).copied().unwrap_or(0)
 }
 
 // The slot of row i, from 0, of which the first `less` are those of `<=` and `>=`.
@@ -265,10 +256,7 @@ pub fn count_at(counts: &[i64], k: usize, j: usize) -> i64
 pub fn value_of(z: i64) -> value::Value
     ensures { result ≡ value_of z }
 {
-    match value::of_millionths(z) {
-        Some(v) => v,
-        None => value::of_whole(0),
-    }
+    value::of_millionths(z).unwrap_or(value::of_whole(0))
 }
 
 // The floor of a slot, if it has one.

@@ -6,7 +6,7 @@ ghost use Rattle.std.specs.Prelude.{◌≡◌};
 ghost use Rattle.rules.specs.Refusals.{refusal_number};
 
 // Why a model comes back, in the order of document 01's table.
-#[derive(Clone, Copy)]
+#[derive(Clone, Copy, Debug, PartialEq, Eq)]
 pub enum Refusal {
     LongText, // 1: text above 16,384 bytes
     StrangeByte, // 2: a byte that starts no token or may not stand in a string
@@ -19,6 +19,24 @@ pub enum Refusal {
     Outside, // 9: a subscript or fixed entry outside the domain
     Missing, // 10: a value missing, given twice, or one number too many
     LongListing, // 11: listing longer than the buffer
+}
+
+// A refusal, and its place in the text.
+#[derive(Clone, Copy, Debug, PartialEq, Eq)]
+pub struct Refused {
+    pub refusal: Refusal,
+    pub place: u64,
+}
+
+// The refusal of this name at a place, as the `Err` of a result.
+#[macro_export]
+macro_rules! refused {
+    ($refusal:ident, $place:expr) => {
+        Err($crate::Refused {
+            refusal: $crate::Refusal::$refusal,
+            place: $place,
+        })
+    };
 }
 
 // A text's bytes, and its tokens before `INIT` or `CLOSE`.

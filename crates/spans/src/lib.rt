@@ -94,10 +94,8 @@ fn row_lines(
     ensures { RowsWritten slots.now bounds.now counts.now less n size out.old at result out.new }
 {
     let mut next = at;
-    let mut i = 0;
-    while i < size {
+    for i in 0..size {
         next = row_line(slots, bounds, counts, less, n, i, out, next);
-        i += 1;
     }
     next
 }

@@ -1,6 +1,7 @@
 -- Laws of the search by halving: keys are compared word by word; a key bracketed in a sorted table; the row that a search from
 -- the front finds; where halving ends, in any table.
-use Rattle.std.specs.Prelude.{Option, Some, None}
+use Rattle.std.specs.Prelude.{Option, Some, None, Result, Ok, Err}
+use Rattle.std.specs.Result.{result_ok}
 use mathlib.Core.Path.{◌≡◌, refl, sym, ◌∙◌, ap}
 use mathlib.Core.Bool.{Bool, true, false, cond}
 use mathlib.Core.List.{List}
@@ -14,10 +15,8 @@ use lib.ListN.{get_or}
 use mir.Syntax.{w64}
 use mir.Val.{Fits}
 use Rattle.store.specs.declared.Key.{Key}
-use Rattle.store.specs.declared.Place.{Place}
-use Rattle.store.specs.declared.Place.TheVariants.{Taken, Free}
 use Rattle.store.specs.Key.{three_words, key_number}
-use Rattle.store.specs.Table.{part_at, key_at, word_at, Sorted, row_from, row_of, word_in, lookup, halfway, rank_in, rank_of, place_at, place_of, taken_row, found_row, Finds, Between, PlaceIs}
+use Rattle.store.specs.Table.{part_at, key_at, word_at, Sorted, row_from, row_of, word_in, lookup, halfway, rank_in, rank_of, place_at, place_of, found_row, Finds, Between, PlaceIs}
 use Rattle.store.proofs.Keys.{higher, nearer, three}
 
 -- ---- three words as one number
@@ -290,15 +289,15 @@ module _ (t : List ℕ) (n k : ℕ) where
 
   -- the answers of `locate`
   module _ (at : ℕ) (h : at ≡ rank_of t n k) where
-    pub place-last : n ≤ at → Free at ≡ place_of t n k
+    pub place-last : n ≤ at → Err at ≡ place_of t n k
     unfolding place_of place_at
     place-last g = rw (← h, le-leb n at g) refl
 
-    pub place-taken : at < n → (r : Bool) → r ≡ eqb (key_at t at) k → r ≡ true → Taken at ≡ place_of t n k
+    pub place-taken : at < n → (r : Bool) → r ≡ eqb (key_at t at) k → r ≡ true → Ok at ≡ place_of t n k
     unfolding place_of place_at
     place-taken g r e f = rw (← h, lt-leb n at g, ← e, f) refl
 
-    pub place-free : at < n → (r : Bool) → r ≡ eqb (key_at t at) k → r ≡ false → Free at ≡ place_of t n k
+    pub place-free : at < n → (r : Bool) → r ≡ eqb (key_at t at) k → r ≡ false → Err at ≡ place_of t n k
     unfolding place_of place_at
     place-free g r e f = rw (← h, lt-leb n at g, ← e, f) refl
 
@@ -307,37 +306,29 @@ module _ (t : List ℕ) (n k : ℕ) where
   place_is = go (leb n (rank_of t n k)) refl (eqb (key_at t (rank_of t n k)) k) refl
     where
       go : (x : Bool) → leb n (rank_of t n k) ≡ x → (y : Bool) → eqb (key_at t (rank_of t n k)) k ≡ y
-          → PlaceIs t n k (cond x (Free (rank_of t n k)) (cond y (Taken (rank_of t n k)) (Free (rank_of t n k))))
+          → PlaceIs t n k (cond x (Err (rank_of t n k)) (cond y (Ok (rank_of t n k)) (Err (rank_of t n k))))
       go true e y d = (rank_between, λ h f. omega (arith, leb-true n (rank_of t n k) e))
       go false e true d = (leb-false n (rank_of t n k) e, eqb-true (key_at t (rank_of t n k)) k d)
       go false e false d = (rank_between, λ h f. eqb-false (key_at t (rank_of t n k)) k d f)
 
   -- a free place is the rank
-  pub free-rank : (at : ℕ) → Free at ≡ place_of t n k → at ≡ rank_of t n k
+  pub free-rank : (at : ℕ) → Err at ≡ place_of t n k → at ≡ rank_of t n k
   unfolding place_of place_at
   free-rank at = go (leb n (rank_of t n k)) (eqb (key_at t (rank_of t n k)) k)
     where
-      go : (x y : Bool) → Free at ≡ cond x (Free (rank_of t n k)) (cond y (Taken (rank_of t n k)) (Free (rank_of t n k))) → at ≡ rank_of t n k
+      go : (x y : Bool) → Err at ≡ cond x (Err (rank_of t n k)) (cond y (Ok (rank_of t n k)) (Err (rank_of t n k))) → at ≡ rank_of t n k
       go true y e = cc
       go false true e = absurd (let z : ◌≡◌ {A = ℕ} 0 1 = cc in omega arith)
       go false false e = cc
 
-  -- the answers of `find`
-  pub found-taken : (r : Place) (i : ℕ) → r ≡ place_of t n k → r ≡ Taken i → Some i ≡ found_row t n k
-  unfolding found_row
-  found-taken r i h e = rw (← h, e) refl
-
-  pub found-free : (r : Place) (at : ℕ) → r ≡ place_of t n k → r ≡ Free at → None ≡ found_row t n k
-  unfolding found_row
-  found-free r at h e = rw (← h, e) refl
-
+  -- what `find` answers
   pub finds-row : (f : Option ℕ) → f ≡ found_row t n k → Finds t n k f
   unfolding found_row
   finds-row f e = rw e (go (place_of t n k) place_is)
     where
-      go : (p : Place) → PlaceIs t n k p → Finds t n k (taken_row p)
-      go (Taken i) g = record { within = λ j f. let w : i ≡ j = cc in omega (arith, g.0); is_row = λ s. sym (row_at t n k s i g.0 g.1) }
-      go (Free at) g = record { within = λ j f. absurd (let w : ◌≡◌ {A = ℕ} 0 1 = cc in omega arith); is_row = λ s. sym (row-none t n k (free-none t n k at s g.0 g.1)) }
+      go : (p : Result ℕ ℕ) → PlaceIs t n k p → Finds t n k (result_ok p)
+      go (Ok i) g = record { within = λ j f. let w : i ≡ j = cc in omega (arith, g.0); is_row = λ s. sym (row_at t n k s i g.0 g.1) }
+      go (Err at) g = record { within = λ j f. absurd (let w : ◌≡◌ {A = ℕ} 0 1 = cc in omega arith); is_row = λ s. sym (row-none t n k (free-none t n k at s g.0 g.1)) }
 
   -- the answers of `find_early`: a row that has the key, in a sorted table the only one
   pub finds-early : (i : ℕ) → i < n → (r : Bool) → r ≡ eqb (key_at t i) k → r ≡ true → Finds t n k (Some i)

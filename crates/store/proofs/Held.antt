@@ -1,6 +1,6 @@
 -- What a table holds: data as a list searched from the front, which an insertion extends by one entry, and variables by their
 -- number, which a row appended extends by one variable.
-use Rattle.std.specs.Prelude.{Option, Some, None}
+use Rattle.std.specs.Prelude.{Option, Some, None, Result, Ok}
 use mathlib.Core.Path.{◌≡◌, refl, sym, ◌∙◌, ap}
 use mathlib.Core.Bool.{Bool, true, false, cond, ◌&&◌}
 use mathlib.Core.List.{List, [], ◌∷◌, ◌++◌}
@@ -14,8 +14,7 @@ use lib.ListN.{length, get_or, length-append, get_or-append}
 use lib.Seq.{get_or_at}
 use lib.IntN.{ℤ}
 use Rattle.store.specs.declared.Key.{Key}
-use Rattle.store.specs.declared.Insertion.{Insertion}
-use Rattle.store.specs.declared.Insertion.TheVariants.{Done}
+use Rattle.store.specs.declared.InsertError.{InsertError}
 use Rattle.language.specs.Scope.{same_element}
 use Rattle.language.specs.Numbering.{Variable, same_variable, later, number_of}
 use Rattle.store.specs.Key.{key_number, key_of}
@@ -60,10 +59,10 @@ module _ (t : List ℕ) (n : ℕ) (es : List Entry) (i : ℕ) (l : List ℤ) (k 
   holds-nothing f g p = sym held ∙ rw (← ((finds-row t n k f g).is_row h.sorted), p)
 
   -- present exactly where the list has it
-  pub holds-answer : (w : ℕ) (r : Insertion) (t' : List ℕ) → Inserted t n k w r t' → Says r (word_of es i l) (has_room t n)
+  pub holds-answer : (w : ℕ) (r : Result (Unit {0}) InsertError) (t' : List ℕ) → Inserted t n k w r t' → Says r (word_of es i l) (has_room t n)
   holds-answer w r t' f = rw (← held) (inserted-says t n k w r t' f h.sorted)
 
-  pub holds-insert : (w : ℕ) (r : Insertion) (t' : List ℕ) → Inserted t n k w r t' → r ≡ Done
+  pub holds-insert : (w : ℕ) (r : Result (Unit {0}) InsertError) (t' : List ℕ) → Inserted t n k w r t' → r ≡ Ok tt
       → Holds t' (n + 1) (record { name = i; element = l; word = w } ∷ es)
   unfolding entered
   holds-insert w r t' f d = record {

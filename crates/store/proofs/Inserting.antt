@@ -7,10 +7,9 @@ use native.Mathlib.Omega.{arith}
 use borrow.Author.Tests.{lt-ltb, le-ltb, lt-leb, eq-eqb}
 use lib.ListN.{length}
 use Rattle.store.specs.declared.Key.{Key}
-use Rattle.store.specs.declared.Place.{Place}
-use Rattle.store.specs.declared.Place.TheVariants.{Taken, Free}
-use Rattle.store.specs.declared.Insertion.{Insertion}
-use Rattle.store.specs.declared.Insertion.TheVariants.{Done, Present, NoRoom}
+use Rattle.std.specs.Prelude.{Result, Ok, Err}
+use Rattle.store.specs.declared.InsertError.{InsertError}
+use Rattle.store.specs.declared.InsertError.TheVariants.{Present, NoRoom}
 use Rattle.store.specs.Key.{key_number}
 use Rattle.store.specs.Table.{key_at, word_at, has_room, Sorted, lookup, rank_of, place_at, place_of, PlaceIs, row_set, Moved, Grown, insertion_at, insertion_of, Says, entered, Inserted}
 use Rattle.store.proofs.Halving.{lookup-at, lookup-none, free-above, free-none, rank_between, place_is, free-rank}
@@ -18,8 +17,8 @@ use Rattle.store.proofs.Rows.{row-size, room_within, grown-insert, grown-sorted,
 
 -- ---- the answers of `insert`
 
-module _ (t : List ℕ) (n k w : ℕ) (r : Place) (h : r ≡ place_of t n k) where
-  pub insert-present : (i : ℕ) → r ≡ Taken i → Inserted t n k w Present t
+module _ (t : List ℕ) (n k w : ℕ) (r : Result ℕ ℕ) (h : r ≡ place_of t n k) where
+  pub insert-present : (i : ℕ) → r ≡ Ok i → Inserted t n k w (Err Present) t
   unfolding insertion_of
   insert-present i e = record {
     size = refl;
@@ -29,7 +28,7 @@ module _ (t : List ℕ) (n k w : ℕ) (r : Place) (h : r ≡ place_of t n k) whe
     done = λ f. absurd (let z : ◌≡◌ {A = ℕ} 0 1 = cc in omega arith);
   }
 
-  pub insert-no-room : (at : ℕ) → r ≡ Free at → length t / 4 ≤ n → Inserted t n k w NoRoom t
+  pub insert-no-room : (at : ℕ) → r ≡ Err at → length t / 4 ≤ n → Inserted t n k w (Err NoRoom) t
   unfolding insertion_of has_room
   insert-no-room at e f = record {
     size = refl;
@@ -40,11 +39,11 @@ module _ (t : List ℕ) (n k w : ℕ) (r : Place) (h : r ≡ place_of t n k) whe
   }
 
   -- the place is among the rows, or behind the last
-  pub free-within : (at : ℕ) → r ≡ Free at → at ≤ n
+  pub free-within : (at : ℕ) → r ≡ Err at → at ≤ n
   free-within at e = rw (← (free-rank t n k at (sym e ∙ h))) at (rank_between t n k).within
 
-pub insert-done : (t u : List ℕ) (n : ℕ) (k : Key) (w : ℕ) (r : Place) (at : ℕ) → r ≡ place_of t n (key_number k) → r ≡ Free at → n < length t / 4
-    → Moved t (at * 4) (n * 4) u → Inserted t n (key_number k) w Done (row_set u at k w)
+pub insert-done : (t u : List ℕ) (n : ℕ) (k : Key) (w : ℕ) (r : Result ℕ ℕ) (at : ℕ) → r ≡ place_of t n (key_number k) → r ≡ Err at → n < length t / 4
+    → Moved t (at * 4) (n * 4) u → Inserted t n (key_number k) w (Ok tt) (row_set u at k w)
 unfolding insertion_of has_room
 insert-done t u n k w r at h e f m = record {
   size = row-size u at k w ∙ m.size;
@@ -58,22 +57,22 @@ insert-done t u n k w r at h e f m = record {
 
 -- ---- in a sorted table
 
-module _ (t : List ℕ) (n k w : ℕ) (r : Insertion) (t' : List ℕ) (f : Inserted t n k w r t') (s : Sorted t n) where
+module _ (t : List ℕ) (n k w : ℕ) (r : Result (Unit {0}) InsertError) (t' : List ℕ) (f : Inserted t n k w r t') (s : Sorted t n) where
   -- a word is present exactly where the search from the front finds one
   pub inserted-says : Says r (lookup t n k) (has_room t n)
   unfolding insertion_of
   inserted-says = rw f.answer (go (place_of t n k) (place_is t n k) (has_room t n))
     where
-      go : (p : Place) → PlaceIs t n k p → (b : Bool) → Says (insertion_at p b) (lookup t n k) b
-      go (Taken i) g b = (word_at t i, lookup-at t n k s i g.0 g.1)
-      go (Free at) g true = (lookup-none t n k (free-none t n k at s g.0 g.1), refl)
-      go (Free at) g false = (lookup-none t n k (free-none t n k at s g.0 g.1), refl)
+      go : (p : Result ℕ ℕ) → PlaceIs t n k p → (b : Bool) → Says (insertion_at p b) (lookup t n k) b
+      go (Ok i) g b = (word_at t i, lookup-at t n k s i g.0 g.1)
+      go (Err at) g true = (lookup-none t n k (free-none t n k at s g.0 g.1), refl)
+      go (Err at) g false = (lookup-none t n k (free-none t n k at s g.0 g.1), refl)
 
-  module _ (d : r ≡ Done) where
+  module _ (d : r ≡ Ok tt) where
     free : rank_of t n k < n → key_at t (rank_of t n k) ≡ k → ⊥
     unfolding insertion_of place_of place_at
     free h g =
-        let e : Done ≡ Present = sym d ∙ f.answer ∙ rw (lt-leb n (rank_of t n k) h, eq-eqb (key_at t (rank_of t n k)) k g) refl in
+        let e : ◌≡◌ {A = Result (Unit {0}) InsertError} (Ok tt) (Err Present) = sym d ∙ f.answer ∙ rw (lt-leb n (rank_of t n k) h, eq-eqb (key_at t (rank_of t n k)) k g) refl in
         absurd (let z : ◌≡◌ {A = ℕ} 0 1 = cc in omega arith)
 
     above : (p : ℕ) → rank_of t n k ≤ p → p < n → k < key_at t p

@@ -1,10 +1,10 @@
 -- Laws of keys: a digit tells its number and its order; two keys are equal where name and element are, and are ordered as name
 -- and element are.
 use mathlib.Core.Path.{◌≡◌, refl, sym, ◌∙◌, ap}
-use mathlib.Core.Bool.{Bool, true, false, ◌&&◌}
+use mathlib.Core.Bool.{Bool, true, false, cond, ◌&&◌}
 use mathlib.Core.List.{List, [], ◌∷◌}
 use mathlib.Core.Logic.{◌↔◌, ◌⊎◌, inl, inr, ⊎_elim}
-use Prim.Native.Nat.{ℕ, zero, suc, ◌+◌, ◌*◌, ◌<◌, ◌≤◌}
+use Prim.Native.Nat.{ℕ, zero, suc, ◌+◌, ◌*◌, ◌<◌, ◌≤◌, min}
 use native.Mathlib.Omega.{arith}
 use native.Mathlib.Nat.{eq-or-lt_of_le, mul-le-mul_right}
 use borrow.Author.Tests.{lt-ltb, le-ltb, ltb-true, ltb-false, le-leb, lt-leb, leb-true, leb-false, eq-eqb, ne_eqb, eqb-true, eqb-false}
@@ -194,6 +194,14 @@ key-behind i (a ∷ []) = regroup _ 0 0 0
 key-behind i (a ∷ b ∷ []) = regroup _ (digit_of b) 0 0
 key-behind i (a ∷ b ∷ c ∷ []) = regroup _ (digit_of b) (digit_of c) 0
 key-behind i (a ∷ b ∷ c ∷ d ∷ l) = regroup _ (digit_of b) (digit_of c) (digit_of d)
+
+pub name_least : (i : ℕ) → min i 1048576 ≡ name_digit i
+unfolding name_digit name_bound
+name_least i = go (ltb i 1048576) refl
+  where
+    go : (b : Bool) → ltb i 1048576 ≡ b → min i 1048576 ≡ cond b i 1048576
+    go true e = omega (arith, ltb-true i 1048576 e)
+    go false e = omega (arith, ltb-false i 1048576 e)
 
 pub name-digit : (i : ℕ) → i < name_bound → name_digit i ≡ i
 unfolding name_digit

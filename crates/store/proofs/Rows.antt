@@ -100,23 +100,6 @@ module _ (t : List ℕ) (i : ℕ) (k : Key) (w : ℕ) where
       go true = row-size
       go false = refl
 
--- ---- words moved up
-
-pub moved_none : (t : List ℕ) (e : ℕ) → Moved t e e t
-moved_none t e = record { size = refl; before = λ j h. refl; moved = λ j h g. absurd (omega arith); behind = λ j h. refl }
-
-module _ (t u : List ℕ) (j e : ℕ) (m : Moved t j e u) (a : 0 < j) (b : j ≤ e) (g : e + 4 ≤ length t) where
-  pub moved_more : Moved t (j - 1) e (set u (j - 1 + 4) (get_or u (j - 1) 0))
-  moved_more = record {
-    size = length-set u _ _ ∙ m.size;
-    before = λ p h. get_or-set_other u (j - 1 + 4) p _ 0 (λ f. omega arith) ∙ m.before p (omega arith);
-    moved = λ p h f. ⊎_elim
-        (λ q. rw (← q) (get_or-set_same u (j - 1 + 4) _ 0 (omega (arith, m.size)) ∙ m.before (j - 1) (omega arith)))
-        (λ q. get_or-set_other u (j - 1 + 4) (p + 4) _ 0 (λ r. omega arith) ∙ m.moved p (omega arith) f)
-        (eq-or-lt_of_le {n = j - 1} {m = p} h);
-    behind = λ p h. get_or-set_other u (j - 1 + 4) p _ 0 (λ f. omega arith) ∙ m.behind p h;
-  }
-
 -- ---- a table that has grown
 
 pub room_within : (t : List ℕ) (n : ℕ) → n < length t / 4 → n * 4 + 4 ≤ length t

@@ -80,9 +80,6 @@ module _ (d : ℕ) (h : d < 2 ^ 62) where
   moved-is = rw (to_z-of_z moved-fits, unsigned)
 
 module _ (w : ℕ) (h : w < 2 ^ 64) where
-  pub unpacked-fits : SFits w64 (to_z w64 (w / 8) -ℤ pos 1000000000)
-  unpacked-fits = moved-fits (w / 8) (omega arith)
-
   pub unpacked-is : ◌≡◌ {A = Value} (record { m = to_z w64 (of_z w64 (to_z w64 (w / 8) -ℤ pos 1000000000)); s = w % 8 }) (unpacked w)
   unfolding unpacked mantissa_limit
   unpacked-is = rw (moved-is (w / 8) (omega arith))

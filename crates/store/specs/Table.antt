@@ -1,11 +1,10 @@
 -- A table is a list of rows of four words: the three words of a key, and one word that belongs to it. Its first n rows count, in
 -- rising order of their keys.
-use Rattle.std.specs.Prelude.{◌≡◌, Bool, true, false, cond, List, ℕ, zero, suc, ◌+◌, ◌-◌, ◌*◌, ◌/◌, ◌<◌, ◌≤◌, length, get_or, set, eqb, ltb, leb, Option, Some, None}
+use Rattle.std.specs.Prelude.{◌≡◌, Bool, true, false, cond, List, ℕ, zero, suc, ◌+◌, ◌-◌, ◌*◌, ◌/◌, ◌<◌, ◌≤◌, length, get_or, set, eqb, ltb, leb, Option, Some, None, Result, Ok, Err}
+use Rattle.std.specs.Result.{result_ok}
 use Rattle.store.specs.declared.Key.{Key}
-use Rattle.store.specs.declared.Place.{Place}
-use Rattle.store.specs.declared.Place.TheVariants.{Taken, Free}
-use Rattle.store.specs.declared.Insertion.{Insertion}
-use Rattle.store.specs.declared.Insertion.TheVariants.{Done, Present, NoRoom}
+use Rattle.store.specs.declared.InsertError.{InsertError}
+use Rattle.store.specs.declared.InsertError.TheVariants.{Present, NoRoom}
 use Rattle.store.specs.Key.{three_words}
 
 -- word f of row i
@@ -57,19 +56,15 @@ rank_in t k (suc f) a b = cond (ltb a b) (cond (ltb (key_at t (halfway a b)) k) 
 unfoldable pub rank_of : List ℕ → ℕ → ℕ → ℕ
 rank_of t n k = rank_in t k n 0 n
 
-unfoldable pub place_at : List ℕ → ℕ → ℕ → ℕ → Place
-place_at t n k at = cond (leb n at) (Free at) (cond (eqb (key_at t at) k) (Taken at) (Free at))
+unfoldable pub place_at : List ℕ → ℕ → ℕ → ℕ → Result ℕ ℕ
+place_at t n k at = cond (leb n at) (Err at) (cond (eqb (key_at t at) k) (Ok at) (Err at))
 
 -- the row there has the key, or it is free
-unfoldable pub place_of : List ℕ → ℕ → ℕ → Place
+unfoldable pub place_of : List ℕ → ℕ → ℕ → Result ℕ ℕ
 place_of t n k = place_at t n k (rank_of t n k)
 
-abbrev pub taken_row : Place → Option ℕ
-taken_row (Taken i) = Some i
-taken_row (Free at) = None
-
 unfoldable pub found_row : List ℕ → ℕ → ℕ → Option ℕ
-found_row t n k = taken_row (place_of t n k)
+found_row t n k = result_ok (place_of t n k)
 
 -- what a search by halving has found: in a sorted table what the search from the front finds
 pub record Finds (t : List ℕ) (n k : ℕ) (r : Option ℕ) : Type 0 where
@@ -84,9 +79,9 @@ pub record Between (t : List ℕ) (n k from to : ℕ) : Type 0 where
   pub above : Sorted t n → (p : ℕ) → to ≤ p → p < n → k ≤ key_at t p
 
 -- where k stands, or where it would stand
-abbrev pub PlaceIs : List ℕ → ℕ → ℕ → Place → Type 0
-PlaceIs t n k (Taken i) = (i < n) × (key_at t i ≡ k)
-PlaceIs t n k (Free at) = Between t n k at at × (at < n → key_at t at ≡ k → ⊥)
+abbrev pub PlaceIs : List ℕ → ℕ → ℕ → Result ℕ ℕ → Type 0
+PlaceIs t n k (Ok i) = (i < n) × (key_at t i ≡ k)
+PlaceIs t n k (Err at) = Between t n k at at × (at < n → key_at t at ≡ k → ⊥)
 
 -- ---- writing
 
@@ -114,27 +109,27 @@ pub record Grown (t : List ℕ) (n at k w : ℕ) (t' : List ℕ) : Type 0 where
   pub after : (p f : ℕ) → at ≤ p → p < n → f < 4 → part_at t' (p + 1) f ≡ part_at t p f
   pub behind : (j : ℕ) → n * 4 + 4 ≤ j → get_or t' j 0 ≡ get_or t j 0
 
-abbrev pub insertion_at : Place → Bool → Insertion
-insertion_at (Taken i) room = Present
-insertion_at (Free at) room = cond room Done NoRoom
+abbrev pub insertion_at : Result ℕ ℕ → Bool → Result (Unit {0}) InsertError
+insertion_at (Ok i) room = Err Present
+insertion_at (Err at) room = cond room (Ok tt) (Err NoRoom)
 
-unfoldable pub insertion_of : List ℕ → ℕ → ℕ → Insertion
+unfoldable pub insertion_of : List ℕ → ℕ → ℕ → Result (Unit {0}) InsertError
 insertion_of t n k = insertion_at (place_of t n k) (has_room t n)
 
 -- in a sorted table, what the answer of an insertion says of the word that its key had before, and of the room
-abbrev pub Says : Insertion → Option ℕ → Bool → Type 0
-Says Done o room = (o ≡ None) × (room ≡ true)
-Says Present o room = (w : ℕ) × (o ≡ Some w)
-Says NoRoom o room = (o ≡ None) × (room ≡ false)
+abbrev pub Says : Result (Unit {0}) InsertError → Option ℕ → Bool → Type 0
+Says (Ok _) o room = (o ≡ None) × (room ≡ true)
+Says (Err Present) o room = (w : ℕ) × (o ≡ Some w)
+Says (Err NoRoom) o room = (o ≡ None) × (room ≡ false)
 
 -- the word w entered at the key k
 unfoldable pub entered : ℕ → ℕ → (ℕ → Option ℕ) → ℕ → Option ℕ
 entered k w f q = cond (eqb q k) (Some w) (f q)
 
 -- an insertion: its answer, and where it is done the table with one row more
-pub record Inserted (t : List ℕ) (n k w : ℕ) (r : Insertion) (t' : List ℕ) : Type 0 where
+pub record Inserted (t : List ℕ) (n k w : ℕ) (r : Result (Unit {0}) InsertError) (t' : List ℕ) : Type 0 where
   pub size : length t' ≡ length t
   pub answer : r ≡ insertion_of t n k
-  pub present : r ≡ Present → t' ≡ t
-  pub no_room : r ≡ NoRoom → t' ≡ t
-  pub done : r ≡ Done → Grown t n (rank_of t n k) k w t'
+  pub present : r ≡ Err Present → t' ≡ t
+  pub no_room : r ≡ Err NoRoom → t' ≡ t
+  pub done : r ≡ Ok tt → Grown t n (rank_of t n k) k w t'

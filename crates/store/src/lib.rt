@@ -27,16 +27,9 @@ pub struct Key {
     pub low: u64,
 }
 
-// The row that has a key, or the row that it would have.
-#[derive(Clone, Copy)]
-enum Place {
-    Taken(usize),
-    Free(usize),
-}
-
-#[derive(Clone, Copy)]
-pub enum Insertion {
-    Done,
+// Why a row is not inserted.
+#[derive(Clone, Copy, Debug, PartialEq, Eq)]
+pub enum InsertError {
     Present, // the key has a row already
     NoRoom, // one row more doesn't lie in the table
 }
@@ -59,11 +52,7 @@ impl Element {
     pub fn length(self) -> usize
         ensures { result ≡ length (list_of self) }
     {
-        let n = self.count;
-        if n < rules::INDEX_LIMIT {
-            return n;
-        }
-        rules::INDEX_LIMIT
+        self.count.min(rules::INDEX_LIMIT)
     }
 
     // One number more; the same where there are four.
@@ -154,10 +143,7 @@ const NAME_BOUND: usize = 1048576;
 fn name_digit(name: usize) -> u64
     ensures { (result ≡ name_digit name) × (result < 2 ^ 31) }
 {
-    if name < NAME_BOUND {
-        return name as u64;
-    }
-    NAME_BOUND as u64
+    name.min(NAME_BOUND) as u64
 }
 
 fn pair(x: u64, y: u64) -> u64
@@ -248,27 +234,25 @@ fn rank(table: &[u64], n: usize, key: Key) -> usize
     from
 }
 
-fn locate(table: &[u64], n: usize, key: Key) -> Place
+// The row that has the key, or the row that it would have.
+fn locate(table: &[u64], n: usize, key: Key) -> Result<usize, usize>
     ensures { result ≡ place_of table.now n (key_number key) }
 {
     let at = rank(table, n, key);
     if n <= at {
-        return Place::Free(at);
+        return Err(at);
     }
     if is_at(table, at, key) {
-        return Place::Taken(at);
+        return Ok(at);
     }
-    Place::Free(at)
+    Err(at)
 }
 
 // The row among the first n that has the key.
 pub fn find(table: &[u64], n: usize, key: Key) -> Option<usize>
     ensures { result ≡ found_row table.now n (key_number key) }
 {
-    match locate(table, n, key) {
-        Place::Taken(i) => Some(i),
-        Place::Free(_) => None,
-    }
+    locate(table, n, key).ok()
 }
 
 // How many rows `find_early` tries one by one.
@@ -278,15 +262,10 @@ const EARLY: usize = 8;
 pub fn find_early(table: &[u64], n: usize, key: Key) -> Option<usize>
     ensures { Finds table.now n (key_number key) result }
 {
-    let mut i = 0;
-    while i < EARLY {
-        if n <= i {
-            return find(table, n, key);
-        }
+    for i in 0..n.min(EARLY) {
         if is_at(table, i, key) {
             return Some(i);
         }
-        i += 1;
     }
     find(table, n, key)
 }
@@ -310,32 +289,28 @@ pub fn append(table: &mut [u64], n: usize, key: Key, word: u64)
     }
 }
 
-// Moves the words from `from` on and below `to` up by four, the last first.
+// Moves the words from `from` on and below `to` up by four.
 fn move_up(table: &mut [u64], from: usize, to: usize)
     requires { (from ≤ to) × (to + 4 ≤ length table.old) }
     ensures { Moved table.old from to table.new }
 {
-    let mut j = to;
-    while from < j {
-        j -= 1;
-        table[j + 4] = table[j];
-    }
+    table.copy_within(from..to, from + 4);
 }
 
 // A row more where its key belongs, the rows above it moved up. Nothing changes where the key has a row already, or where row n
 // doesn't lie in the table.
-pub fn insert(table: &mut [u64], n: usize, key: Key, word: u64) -> Insertion
+pub fn insert(table: &mut [u64], n: usize, key: Key, word: u64) -> Result<(), InsertError>
     ensures { Inserted table.old n (key_number key) word result table.new }
 {
-    let Place::Free(at) = locate(table, n, key) else {
-        return Insertion::Present;
+    let Err(at) = locate(table, n, key) else {
+        return Err(InsertError::Present);
     };
     if table.len() / 4 <= n {
-        return Insertion::NoRoom;
+        return Err(InsertError::NoRoom);
     }
     move_up(table, at * 4, n * 4);
     set_row(table, at, key, word);
-    Insertion::Done
+    Ok(())
 }
 
 // ---- keys read back

@@ -1,5 +1,5 @@
 -- Laws of the token table and the name table over plain variables.
-use Rattle.std.specs.Prelude.{Option, Some, None}
+use Rattle.std.specs.Prelude.{Err, Ok, Option, Some, None}
 use mathlib.Core.Path.{◌≡◌, refl, sym, ◌∙◌, ap, subst}
 use mathlib.Core.Bool.{Bool, true, false}
 use mathlib.Core.List.{List, [], ◌∷◌, ◌++◌}
@@ -16,9 +16,7 @@ use Rattle.language.specs.Outcome.{done}
 use Rattle.language.specs.Syntax.{Name, Sort}
 use Rattle.language.specs.Syntax
 use Rattle.language.specs.Reader.{Used, passed, next, look, mark_of, name_of, find, is_index, string_of}
-use Rattle.tokens.specs.declared.Seen.TheVariants as seen
 use Rattle.tokens.specs.declared.Found.{Found}
-use Rattle.tokens.specs.declared.Found.TheVariants as found
 use Rattle.tokens.specs.Stored.{word_of, kind_part, place_part, payload_part, bytes_from, spelling, refusal_of, kind_of, token, view, from, mark_number, Looks, look_up, Shaped, Named, rows_of, Put}
 
 -- ---- what cannot be
@@ -26,12 +24,12 @@ use Rattle.tokens.specs.Stored.{word_of, kind_part, place_part, payload_part, by
 pub false-true : false ≡ true → ⊥
 false-true e = subst (λ b. elim b as (λ _. Type 0) [ true ↦ ⊥ | false ↦ Unit {0} ]) e tt
 
-name-nothing : (i k c : ℕ) → found.Name i k c ≡ found.Nothing → ⊥
-name-nothing i k c e = subst tells_name e tt
+name-nothing : (w : Found) → Some w ≡ None → ⊥
+name-nothing z e = subst tells_name e tt
   where
-    tells_name : Found → Type 0
-    tells_name (found.Name i k c) = Unit {0}
-    tells_name found.Nothing = ⊥
+    tells_name : Option Found → Type 0
+    tells_name (Some x) = Unit {0}
+    tells_name None = ⊥
 
 -- ---- a word's parts
 
@@ -149,17 +147,17 @@ view-end s [] (suc at) h = refl
 view-end s (w ∷ ts) zero h = absurd (omega arith)
 view-end s (w ∷ ts) (suc at) h = view-end s ts at (omega arith)
 
-pub looks-past : (ts : List ℕ) (at : ℕ) → length ts ≤ at → Looks ts at (seen.Refused Misplaced 0)
+pub looks-past : (ts : List ℕ) (at : ℕ) → length ts ≤ at → Looks ts at (Err (record { refusal = Misplaced; place = 0 }))
 unfolding from look next
 looks-past ts at h = record { sees = λ s. record { looks = rw (view-end s ts at h) refl; nexts = rw (view-end s ts at h) refl } }
 
 -- a word w that stands at the position, taken apart
 module _ (ts : List ℕ) (at : ℕ) (h : at < length ts) where
-  pub looks-wrong : (r : Refusal) → kind_part (get_or ts at 0) ≡ 5 → r ≡ refusal_of (payload_part (get_or ts at 0)) → Looks ts at (seen.Refused r (place_part (get_or ts at 0)))
+  pub looks-wrong : (r : Refusal) → kind_part (get_or ts at 0) ≡ 5 → r ≡ refusal_of (payload_part (get_or ts at 0)) → Looks ts at (Err (record { refusal = r; place = (place_part (get_or ts at 0)) }))
   unfolding from look next token kind_of passed
   looks-wrong r e i = record { sees = λ s. record { looks = rw (view-here s ts at h, e, i) refl; nexts = rw (view-here s ts at h, e, i) refl } }
 
-  pub looks-token : (kind_part (get_or ts at 0) ≡ 5 → ⊥) → Looks ts at (seen.Token (kind_part (get_or ts at 0)) (place_part (get_or ts at 0)) (payload_part (get_or ts at 0)) (at + 1))
+  pub looks-token : (kind_part (get_or ts at 0) ≡ 5 → ⊥) → Looks ts at (Ok (record { kind = (kind_part (get_or ts at 0)); place = (place_part (get_or ts at 0)); payload = (payload_part (get_or ts at 0)); next = (at + 1) }))
   unfolding from
   looks-token e = record { sees = λ s. (e, view-here s ts at h) }
 
@@ -249,7 +247,7 @@ row_here (x ∷ ns) (suc i) h =
     let e : suc i + 5 ≡ suc (i + 5) = omega arith in
     rw (a, b, c, d, e) (ap (λ l. l) (row_here ns i (omega arith)))
 
-row-none : (s l ns : List ℕ) (i number : ℕ) → length ns - i < 5 → look_up s l (drop i ns) number ≡ found.Nothing
+row-none : (s l ns : List ℕ) (i number : ℕ) → length ns - i < 5 → look_up s l (drop i ns) number ≡ None
 unfolding look_up
 row-none s l [] zero number h = refl
 row-none s l [] (suc i) number h = refl
@@ -260,27 +258,27 @@ row-none s l (a ∷ b ∷ c ∷ d ∷ []) zero number h = refl
 row-none s l (a ∷ b ∷ c ∷ d ∷ e ∷ ns) zero number h = absurd (omega arith)
 row-none s l (a ∷ ns) (suc i) number h = row-none s l ns i number (omega arith)
 
-pub tells-nothing : (s l ns : List ℕ) (i number : ℕ) → length ns - i < 5 → Tells s l ns i number → found.Nothing ≡ look_up s l ns 0
+pub tells-nothing : (s l ns : List ℕ) (i number : ℕ) → length ns - i < 5 → Tells s l ns i number → None ≡ look_up s l ns 0
 tells-nothing s l ns i number h t = sym (row-none s l ns i number h) ∙ t.tells
 
-pick_yes : (u : Bool) (a b : Found) → u ≡ true → (elim u as (λ _. Found) [ true ↦ a | false ↦ b ]) ≡ a
+pick_yes : (u : Bool) (a b : Option Found) → u ≡ true → (elim u as (λ _. Option Found) [ true ↦ a | false ↦ b ]) ≡ a
 pick_yes true a b e = refl
 pick_yes false a b e = absurd (false-true e)
 
-pick_no : (u : Bool) (a b : Found) → u ≡ false → (elim u as (λ _. Found) [ true ↦ a | false ↦ b ]) ≡ b
+pick_no : (u : Bool) (a b : Option Found) → u ≡ false → (elim u as (λ _. Option Found) [ true ↦ a | false ↦ b ]) ≡ b
 pick_no false a b e = refl
 pick_no true a b e = absurd (false-true (sym e))
 
-row-yes : (s l ns : List ℕ) (number p n k c q : ℕ) → same_bytes l (spelling s p n) ≡ true → look_up s l (p ∷ n ∷ k ∷ c ∷ q ∷ ns) number ≡ found.Name number k c
+row-yes : (s l ns : List ℕ) (number p n k c q : ℕ) → same_bytes l (spelling s p n) ≡ true → look_up s l (p ∷ n ∷ k ∷ c ∷ q ∷ ns) number ≡ Some (record { number = number; sort = k; count = c })
 unfolding look_up
-row-yes s l ns number p n k c q e = pick_yes (same_bytes l (spelling s p n)) (found.Name number k c) (look_up s l ns (suc number)) e
+row-yes s l ns number p n k c q e = pick_yes (same_bytes l (spelling s p n)) (Some (record { number = number; sort = k; count = c })) (look_up s l ns (suc number)) e
 
 row-no : (s l ns : List ℕ) (number p n k c q : ℕ) → same_bytes l (spelling s p n) ≡ false → look_up s l (p ∷ n ∷ k ∷ c ∷ q ∷ ns) number ≡ look_up s l ns (suc number)
 unfolding look_up
-row-no s l ns number p n k c q e = pick_no (same_bytes l (spelling s p n)) (found.Name number k c) (look_up s l ns (suc number)) e
+row-no s l ns number p n k c q e = pick_no (same_bytes l (spelling s p n)) (Some (record { number = number; sort = k; count = c })) (look_up s l ns (suc number)) e
 
 module _ (s l ns : List ℕ) (i number : ℕ) (b : Bool) (t : Tells s l ns i number) (e : b ≡ same_bytes l (spelling s (get_or ns i 0) (get_or ns (i + 1) 0))) (h : 5 ≤ length ns - i) where
-  pub tells-name : b ≡ true → found.Name number (get_or ns (i + 2) 0) (get_or ns (i + 3) 0) ≡ look_up s l ns 0
+  pub tells-name : b ≡ true → Some (record { number = number; sort = (get_or ns (i + 2) 0); count = (get_or ns (i + 3) 0) }) ≡ look_up s l ns 0
   tells-name d =
       sym (ap (λ m. look_up s l m number) (row_here ns i h) ∙ row-yes s l (drop (i + 5) ns) number (get_or ns i 0) (get_or ns (i + 1) 0) (get_or ns (i + 2) 0) (get_or ns (i + 3) 0) (get_or ns (i + 4) 0) (sym e ∙ d)) ∙ t.tells
 
@@ -300,7 +298,7 @@ pub record Declared (l : List ℕ) (names : List Name) (i p j k c : ℕ) : Type 
   pub shaped : Shaped used.sort k c
   pub placed : used.place ≡ p
 
-pub not-declared : (s l ns : List ℕ) (names : List Name) (i p : ℕ) → Named s ns names → look_up s l ns i ≡ found.Nothing → find l names i p ≡ None
+pub not-declared : (s l ns : List ℕ) (names : List Name) (i p : ℕ) → Named s ns names → look_up s l ns i ≡ None → find l names i p ≡ None
 unfolding look_up find
 not-declared s l [] [] i p h e = refl
 not-declared s l [] (y ∷ ys) i p h e = absurd h
@@ -311,32 +309,32 @@ not-declared s l (a ∷ b ∷ k ∷ c ∷ []) ys i p h e = absurd h
 not-declared s l (a ∷ b ∷ k ∷ c ∷ q ∷ ns) [] i p h e = absurd h
 not-declared s l (a ∷ b ∷ k ∷ c ∷ q ∷ ns) (y ∷ ys) i p h e = go (same_bytes l (spelling s a b)) (same_bytes l y.spelling) (ap (same_bytes l) h.0) (λ d. not-declared s l ns ys (suc i) p h.2 d) e
   where
-    go : (u v : Bool) → v ≡ u → (look_up s l ns (suc i) ≡ found.Nothing → find l ys (suc i) p ≡ None)
-        → (elim u as (λ _. Found) [ true ↦ found.Name i k c | false ↦ look_up s l ns (suc i) ]) ≡ found.Nothing
+    go : (u v : Bool) → v ≡ u → (look_up s l ns (suc i) ≡ None → find l ys (suc i) p ≡ None)
+        → (elim u as (λ _. Option Found) [ true ↦ Some (record { number = i; sort = k; count = c }) | false ↦ look_up s l ns (suc i) ]) ≡ None
         → ◌≡◌ {A = Option Used} (elim v as (λ _. Option Used) [ true ↦ Some (record { number = i; sort = y.sort; place = p }) | false ↦ find l ys (suc i) p ]) None
-    go true true x f e = absurd (name-nothing i k c e)
+    go true true x f e = absurd (name-nothing (record { number = i; sort = k; count = c }) e)
     go true false x f e = absurd (false-true x)
     go false true x f e = absurd (false-true (sym x))
     go false false x f e = f e
 
-pub declared : (s l ns : List ℕ) (names : List Name) (i p j k c : ℕ) → Named s ns names → look_up s l ns i ≡ found.Name j k c → Declared l names i p j k c
+pub declared : (s l ns : List ℕ) (names : List Name) (i p : ℕ) (w : Found) → Named s ns names → look_up s l ns i ≡ Some w → Declared l names i p w.number w.sort w.count
 unfolding look_up find
-declared s l [] [] i p j k c h e = absurd (name-nothing j k c (sym e))
-declared s l [] (y ∷ ys) i p j k c h e = absurd h
-declared s l (a ∷ []) ys i p j k c h e = absurd h
-declared s l (a ∷ b ∷ []) ys i p j k c h e = absurd h
-declared s l (a ∷ b ∷ d ∷ []) ys i p j k c h e = absurd h
-declared s l (a ∷ b ∷ d ∷ f ∷ []) ys i p j k c h e = absurd h
-declared s l (a ∷ b ∷ d ∷ f ∷ q ∷ ns) [] i p j k c h e = absurd h
-declared s l (a ∷ b ∷ d ∷ f ∷ q ∷ ns) (y ∷ ys) i p j k c h e = go (same_bytes l (spelling s a b)) (same_bytes l y.spelling) refl (ap (same_bytes l) h.0) (λ x. declared s l ns ys (suc i) p j k c h.2 x) e
+declared s l [] [] i p z h e = absurd (name-nothing z (sym e))
+declared s l [] (y ∷ ys) i p z h e = absurd h
+declared s l (a ∷ []) ys i p z h e = absurd h
+declared s l (a ∷ b ∷ []) ys i p z h e = absurd h
+declared s l (a ∷ b ∷ d ∷ []) ys i p z h e = absurd h
+declared s l (a ∷ b ∷ d ∷ f ∷ []) ys i p z h e = absurd h
+declared s l (a ∷ b ∷ d ∷ f ∷ q ∷ ns) [] i p z h e = absurd h
+declared s l (a ∷ b ∷ d ∷ f ∷ q ∷ ns) (y ∷ ys) i p z h e = go (same_bytes l (spelling s a b)) (same_bytes l y.spelling) refl (ap (same_bytes l) h.0) (λ x. declared s l ns ys (suc i) p z h.2 x) e
   where
-    go : (u v : Bool) → same_bytes l y.spelling ≡ v → v ≡ u → (look_up s l ns (suc i) ≡ found.Name j k c → Declared l ys (suc i) p j k c)
-        → (elim u as (λ _. Found) [ true ↦ found.Name i d f | false ↦ look_up s l ns (suc i) ]) ≡ found.Name j k c
-        → Declared l (y ∷ ys) i p j k c
+    go : (u v : Bool) → same_bytes l y.spelling ≡ v → v ≡ u → (look_up s l ns (suc i) ≡ Some z → Declared l ys (suc i) p z.number z.sort z.count)
+        → (elim u as (λ _. Option Found) [ true ↦ Some (record { number = i; sort = d; count = f }) | false ↦ look_up s l ns (suc i) ]) ≡ Some z
+        → Declared l (y ∷ ys) i p z.number z.sort z.count
     go true true w x g e =
-        let ij : i ≡ j = cc in
-        let dk : d ≡ k = cc in
-        let fc : f ≡ c = cc in
+        let ij : i ≡ z.number = cc in
+        let dk : d ≡ z.sort = cc in
+        let fc : f ≡ z.count = cc in
         record { used = record { number = i; sort = y.sort; place = p }; stands = rw (find, w) refl; numbered = ij; shaped = rw (← dk, ← fc) h.1; placed = refl }
     go true false w x g e = absurd (false-true x)
     go false true w x g e = absurd (false-true (sym x))

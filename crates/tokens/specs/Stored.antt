@@ -1,6 +1,7 @@
 -- The token table and the name table as the definition's tokens and names, and what it means that code moves a position as a
 -- reader of the definition does.
-use Rattle.std.specs.Prelude.{◌≡◌, true, false, cond, List, [], ◌∷◌, ◌++◌, ℕ, zero, suc, ◌+◌, ◌*◌, ◌/◌, ◌%◌, eqb, ltb, pos, length, take, drop, get_or}
+use Rattle.std.specs.Prelude.{Err, None, Ok, Option, Result, Some, ◌≡◌, true, false, cond, List, [], ◌∷◌, ◌++◌, ℕ, zero, suc, ◌+◌, ◌*◌, ◌/◌, ◌%◌, eqb, ltb, pos, length, take, drop, get_or}
+use Rattle.rules.specs.declared.Refused.{Refused}
 use Rattle.rules.specs.declared.Refusal.{Refusal}
 use Rattle.rules.specs.declared.Refusal.TheVariants.{LongText, StrangeByte, Misplaced, BadName, Unfit, Full}
 use Rattle.lexer.specs.Text.{Token, Kind, same_bytes}
@@ -9,14 +10,9 @@ use Rattle.language.specs.Outcome.{Outcome, done, refused}
 use Rattle.language.specs.Syntax.{Name, Sort, Spans, point, span}
 use Rattle.language.specs.Syntax
 use Rattle.language.specs.Reader.{Reader, Read, Used, look, next, read_known}
-use Rattle.tokens.specs.declared.Move.{Move}
-use Rattle.tokens.specs.declared.Move.TheVariants.{At, Refused}
 use Rattle.tokens.specs.declared.Seen.{Seen}
-use Rattle.tokens.specs.declared.Seen.TheVariants as seen
 use Rattle.tokens.specs.declared.Found.{Found}
-use Rattle.tokens.specs.declared.Found.TheVariants as found
 use Rattle.tokens.specs.declared.Known.{Known}
-use Rattle.tokens.specs.declared.Known.TheVariants as known
 
 -- ---- tokens: one word each, of kind, place (below 2^15) and payload (below 2^33)
 
@@ -96,24 +92,24 @@ pub record Unread (l : List Token) (r : Refusal) (p : ℕ) : Type 0 where
   pub looks : look l ≡ refused r p
   pub nexts : next l ≡ refused r p
 
-abbrev pub Sees : List ℕ → List ℕ → ℕ → Seen → Type 0
-Sees s ts at (seen.Token k p x a) = (k ≡ 5 → ⊥) × (from s ts at ≡ token s k p x ∷ from s ts a)
-Sees s ts at (seen.Refused r p) = Unread (from s ts at) r p
+abbrev pub Sees : List ℕ → List ℕ → ℕ → Result Seen Refused → Type 0
+Sees s ts at (Ok t) = (t.kind ≡ 5 → ⊥) × (from s ts at ≡ token s t.kind t.place t.payload ∷ from s ts t.next)
+Sees s ts at (Err e) = Unread (from s ts at) e.refusal e.place
 
 -- for every text
-pub record Looks (ts : List ℕ) (at : ℕ) (r : Seen) : Type 0 where
+pub record Looks (ts : List ℕ) (at : ℕ) (r : Result Seen Refused) : Type 0 where
   pub sees : (s : List ℕ) → Sees s ts at r
 
 -- ---- names: five words each, place, length, sort, number of indices, and the position of what was declared
 
 -- the i-th name and those behind it: the first one that is spelled l
-unfoldable pub look_up : List ℕ → List ℕ → List ℕ → ℕ → Found
-look_up s l [] i = found.Nothing
-look_up s l (p ∷ []) i = found.Nothing
-look_up s l (p ∷ n ∷ []) i = found.Nothing
-look_up s l (p ∷ n ∷ k ∷ []) i = found.Nothing
-look_up s l (p ∷ n ∷ k ∷ c ∷ []) i = found.Nothing
-look_up s l (p ∷ n ∷ k ∷ c ∷ q ∷ ns) i = elim (same_bytes l (spelling s p n)) [ true ↦ found.Name i k c | false ↦ look_up s l ns (suc i) ]
+unfoldable pub look_up : List ℕ → List ℕ → List ℕ → ℕ → Option Found
+look_up s l [] i = None
+look_up s l (p ∷ []) i = None
+look_up s l (p ∷ n ∷ []) i = None
+look_up s l (p ∷ n ∷ k ∷ []) i = None
+look_up s l (p ∷ n ∷ k ∷ c ∷ []) i = None
+look_up s l (p ∷ n ∷ k ∷ c ∷ q ∷ ns) i = elim (same_bytes l (spelling s p n)) [ true ↦ Some (record { number = i; sort = k; count = c }) | false ↦ look_up s l ns (suc i) ]
 
 unfoldable pub size : Spans → ℕ
 size point = 0
@@ -156,44 +152,44 @@ pub record Stands {A : Type 0} (m : Reader A) (s ts : List ℕ) (at : ℕ) (x : 
   pub rest : List Token
   pub reads : m (from s ts at) ≡ done (record { what = x; rest = rest })
 
-abbrev pub Knowing : Outcome (Read Used) → List ℕ → List ℕ → Known → Type 0
-Knowing (done x) s ts (known.Name i k c p a) = (x.rest ≡ from s ts a) × (x.what.number ≡ i) × Shaped x.what.sort k c × (x.what.place ≡ p)
-Knowing (done x) s ts (known.Refused r p) = ⊥
-Knowing (refused r q) s ts (known.Name i k c p a) = ⊥
-Knowing (refused r q) s ts (known.Refused r' p) = (r ≡ r') × (q ≡ p)
+abbrev pub Knowing : Outcome (Read Used) → List ℕ → List ℕ → Result Known Refused → Type 0
+Knowing (done x) s ts (Ok w) = (x.rest ≡ from s ts w.next) × (x.what.number ≡ w.number) × Shaped x.what.sort w.sort w.count × (x.what.place ≡ w.place)
+Knowing (done x) s ts (Err e) = ⊥
+Knowing (refused r q) s ts (Ok x) = ⊥
+Knowing (refused r q) s ts (Err e) = (r ≡ e.refusal) × (q ≡ e.place)
 
-abbrev pub known_found : ℕ → ℕ → Found → Known
-known_found p a (found.Name i k c) = known.Name i k c p a
-known_found p a found.Nothing = known.Refused BadName p
+abbrev pub known_found : ℕ → ℕ → Option Found → Result Known Refused
+known_found p a (Some x) = Ok (record { number = x.number; sort = x.sort; count = x.count; place = p; next = a })
+known_found p a None = Err (record { refusal = BadName; place = p })
 
 -- what the table says of a token: 3 where it is no name, 4 where the name is unknown
-unfoldable pub known_by : List ℕ → List ℕ → Seen → Known
-known_by s ns (seen.Token k p x a) = cond (eqb k 1) (known_found p a (look_up s (spelling s p (name_bytes x)) ns 0)) (known.Refused Misplaced p)
-known_by s ns (seen.Refused r p) = known.Refused r p
+unfoldable pub known_by : List ℕ → List ℕ → Result Seen Refused → Result Known Refused
+known_by s ns (Ok t) = cond (eqb t.kind 1) (known_found t.place t.next (look_up s (spelling s t.place (name_bytes t.payload)) ns 0)) (Err (record { refusal = Misplaced; place = t.place }))
+known_by s ns (Err e) = Err e
 
-pub record KnownAt (s ns ts : List ℕ) (at : ℕ) (r : Known) : Type 0 where
-  pub token : Seen
+pub record KnownAt (s ns ts : List ℕ) (at : ℕ) (r : Result Known Refused) : Type 0 where
+  pub token : Result Seen Refused
   pub looks : Looks ts at token
   pub answer : r ≡ known_by s ns token
 
 -- a declared name stands there, for all names that the table tells of
-pub record Knows (s ns ts : List ℕ) (at : ℕ) (r : Known) : Type 0 where
+pub record Knows (s ns ts : List ℕ) (at : ℕ) (r : Result Known Refused) : Type 0 where
   pub knows : (names : List Name) → Named s ns names → Knowing (read_known names (from s ts at)) s ts r
 
 -- ---- moves
 
 -- the same refusal, or what is left stands from the position on
-abbrev pub Matches : {A : Type 0} → Outcome (Read A) → List ℕ → List ℕ → Move → Type 0
-Matches (done x) s ts (At a) = x.rest ≡ from s ts a
-Matches (done x) s ts (Refused r p) = ⊥
-Matches (refused r q) s ts (At a) = ⊥
-Matches (refused r q) s ts (Refused r' p) = (r ≡ r') × (q ≡ p)
+abbrev pub Matches : {A : Type 0} → Outcome (Read A) → List ℕ → List ℕ → Result ℕ Refused → Type 0
+Matches (done x) s ts (Ok a) = x.rest ≡ from s ts a
+Matches (done x) s ts (Err e) = ⊥
+Matches (refused r q) s ts (Ok a) = ⊥
+Matches (refused r q) s ts (Err e) = (r ≡ e.refusal) × (q ≡ e.place)
 
 -- for all names that the table tells of: their trees do not matter
-pub record Moves {A : Type 0} (m : List Name → Reader A) (s ns ts : List ℕ) (at : ℕ) (r : Move) : Type 0 where
+pub record Moves {A : Type 0} (m : List Name → Reader A) (s ns ts : List ℕ) (at : ℕ) (r : Result ℕ Refused) : Type 0 where
   pub matches : (names : List Name) → Named s ns names → Matches (m names (from s ts at)) s ts r
 
 -- the same, and what code tells of what was read
-pub record Gives {A : Type 0} (m : List Name → Reader A) (Q : List Name → A → Type 0) (s ns ts : List ℕ) (at : ℕ) (r : Move) : Type 0 where
+pub record Gives {A : Type 0} (m : List Name → Reader A) (Q : List Name → A → Type 0) (s ns ts : List ℕ) (at : ℕ) (r : Result ℕ Refused) : Type 0 where
   pub moves : Moves m s ns ts at r
   pub tells : (names : List Name) → Named s ns names → (x : Read A) → m names (from s ts at) ≡ done x → Q names x.what

@@ -11,35 +11,44 @@ ghost use Rattle.std.specs.Prelude.{◌≡◌, [], ◌∷◌, ◌+◌, get_or};
 ghost use Rattle.lexer.specs.Text.{same_bytes};
 ghost use Rattle.tokens.specs.Stored.{spelling, refusal_of, mark_number, Looks, look_up, KnownAt, Put, Moves};
 ghost use Rattle.tokens.specs.Pieces.{expect_in, bracket_in, index_in, head_in, sign_in};
+ghost use Rattle.tokens.specs.Text.{In};
 
 use lexer::marks;
-
-// The position after what was read, or a refusal and its place.
-#[derive(Clone, Copy)]
-pub enum Move {
-    At(usize),
-    Refused(rules::Refusal, u64),
-}
+use rules::{Refused, refused};
 
 // A token's kind, place, payload and the position after it; or its refusal.
 #[derive(Clone, Copy)]
-pub enum Seen {
-    Token(u64, u64, u64, usize),
-    Refused(rules::Refusal, u64),
+pub struct Seen {
+    pub kind: u64,
+    pub place: u64,
+    pub payload: u64,
+    pub next: usize,
 }
 
 // A declared name's number, sort and number of indices.
 #[derive(Clone, Copy)]
-pub enum Found {
-    Name(usize, u64, u64),
-    Nothing,
+pub struct Found {
+    pub number: usize,
+    pub sort: u64,
+    pub count: u64,
 }
 
 // A declared name that stands in the text: its number, sort, number of indices and place, and the position after it.
 #[derive(Clone, Copy)]
-pub enum Known {
-    Name(usize, u64, u64, u64, usize),
-    Refused(rules::Refusal, u64),
+pub struct Known {
+    pub number: usize,
+    pub sort: u64,
+    pub count: u64,
+    pub place: u64,
+    pub next: usize,
+}
+
+// A text as it is stored: its bytes, its name table and its token table.
+#[derive(Clone, Copy)]
+pub struct Text<'a> {
+    pub bytes: &'a [u8],
+    pub names: &'a [u64],
+    pub tokens: &'a [u64],
 }
 
 // A word is kind * KIND_UNIT + place * PLACE_UNIT + payload, with the place below PLACES.
@@ -74,21 +83,28 @@ fn mark(k: u64) -> u64
 }
 
 // The token at `at`, after its own tests.
-pub fn token_at(tokens: &[u64], at: usize) -> Seen
+pub fn token_at(tokens: &[u64], at: usize) -> Result<Seen, Refused>
     ensures { Looks tokens.now at result }
 {
     if tokens.len() <= at {
-        return Seen::Refused(rules::Refusal::Misplaced, 0);
+        return refused!(Misplaced, 0);
     }
     let w = tokens[at];
-    let k = w / KIND_UNIT;
-    let p = w / PLACE_UNIT % PLACES;
-    let x = w % PLACE_UNIT;
-    if k == kinds::WRONG {
-        let r = refusal(x);
-        return Seen::Refused(r, p);
+    let kind = w / KIND_UNIT;
+    let place = w / PLACE_UNIT % PLACES;
+    let payload = w % PLACE_UNIT;
+    if kind == kinds::WRONG {
+        return Err(Refused {
+            refusal: refusal(payload),
+            place,
+        });
     }
-    Seen::Token(k, p, x, at + 1)
+    Ok(Seen {
+        kind,
+        place,
+        payload,
+        next: at + 1,
+    })
 }
 
 // The i-th byte behind p, 0 past the text's end.
@@ -126,7 +142,7 @@ fn same_name(text: &[u8], p: u64, n: u64, q: u64, m: u64) -> bool
 }
 
 // What the table says of the name with the n bytes at p.
-pub fn find(text: &[u8], names: &[u64], p: u64, n: u64) -> Found
+pub fn find(text: &[u8], names: &[u64], p: u64, n: u64) -> Option<Found>
     ensures { result ≡ look_up text.now (spelling text.now p n) names.now 0 }
 {
     let mut i = 0;
@@ -134,12 +150,16 @@ pub fn find(text: &[u8], names: &[u64], p: u64, n: u64) -> Found
     while 5 <= names.len() - i {
         let same = same_name(text, p, n, names[i], names[i + 1]);
         if same {
-            return Found::Name(number, names[i + 2], names[i + 3]);
+            return Some(Found {
+                number,
+                sort: names[i + 2],
+                count: names[i + 3],
+            });
         }
         i += 5;
         number += 1;
     }
-    Found::Nothing
+    None
 }
 
 // Row `number` of a table of rows of five words; nothing is written past the table's end.
@@ -158,111 +178,82 @@ pub fn put_row(rows: &mut [u64], number: usize, a: u64, b: u64, c: u64, d: u64, 
 }
 
 // The sign or word with the number `c`.
-pub fn expect(text: &[u8], names: &[u64], tokens: &[u64], at: usize, c: u8) -> Move
-    ensures { Moves (expect_in c) text.now names.now tokens.now at result }
+pub fn expect(text: Text<'_>, at: usize, c: u8) -> Result<usize, Refused>
+    ensures { In (Moves (expect_in c)) text.entry at result }
 {
-    let token = token_at(tokens, at);
-    match token {
-        Seen::Token(k, p, x, next) => {
-            let m = mark(k);
-            if m == c as u64 {
-                Move::At(next)
-            } else {
-                Move::Refused(rules::Refusal::Misplaced, p)
-            }
-        }
-        Seen::Refused(n, p) => Move::Refused(n, p),
+    let token = token_at(text.tokens, at)?;
+    if mark(token.kind) != c as u64 {
+        return refused!(Misplaced, token.place);
     }
+    Ok(token.next)
 }
 
 // The opening bracket `c`; with `nest` 0 it is one too many.
-pub fn bracket(text: &[u8], names: &[u64], tokens: &[u64], at: usize, nest: usize, c: u8) -> Move
-    ensures { Moves (bracket_in c nest) text.now names.now tokens.now at result }
+pub fn bracket(text: Text<'_>, at: usize, nest: usize, c: u8) -> Result<usize, Refused>
+    ensures { In (Moves (bracket_in c nest)) text.entry at result }
 {
-    let token = token_at(tokens, at);
-    match token {
-        Seen::Token(k, p, x, next) => {
-            let m = mark(k);
-            if m == c as u64 {
-                if nest == 0 {
-                    Move::Refused(rules::Refusal::Full, p)
-                } else {
-                    Move::At(next)
-                }
-            } else {
-                Move::Refused(rules::Refusal::Misplaced, p)
-            }
-        }
-        Seen::Refused(n, p) => Move::Refused(n, p),
+    let token = token_at(text.tokens, at)?;
+    if mark(token.kind) != c as u64 {
+        return refused!(Misplaced, token.place);
     }
+    if nest == 0 {
+        return refused!(Full, token.place);
+    }
+    Ok(token.next)
 }
 
 // A declared name.
-pub fn known_name(text: &[u8], names: &[u64], tokens: &[u64], at: usize) -> Known
-    ensures { KnownAt text.now names.now tokens.now at result }
+pub fn known_name(text: Text<'_>, at: usize) -> Result<Known, Refused>
+    ensures { In KnownAt text.entry at result }
 {
-    let token = token_at(tokens, at);
-    match token {
-        Seen::Token(k, p, x, next) => {
-            if k == kinds::NAME {
-                let name = find(text, names, p, x % NAME_UNIT);
-                match name {
-                    Found::Name(i, sort, count) => Known::Name(i, sort, count, p, next),
-                    Found::Nothing => Known::Refused(rules::Refusal::BadName, p),
-                }
-            } else {
-                Known::Refused(rules::Refusal::Misplaced, p)
-            }
-        }
-        Seen::Refused(n, p) => Known::Refused(n, p),
+    let token = token_at(text.tokens, at)?;
+    if token.kind != kinds::NAME {
+        return refused!(Misplaced, token.place);
     }
+    let Some(name) = find(
+        text.bytes,
+        text.names,
+        token.place,
+        token.payload % NAME_UNIT,
+    ) else {
+        return refused!(BadName, token.place);
+    };
+    Ok(Known {
+        number: name.number,
+        sort: name.sort,
+        count: name.count,
+        place: token.place,
+        next: token.next,
+    })
 }
 
 // A declared index.
-pub fn index(text: &[u8], names: &[u64], tokens: &[u64], at: usize) -> Move
-    ensures { Moves index_in text.now names.now tokens.now at result }
+pub fn index(text: Text<'_>, at: usize) -> Result<usize, Refused>
+    ensures { In (Moves index_in) text.entry at result }
 {
-    let name = known_name(text, names, tokens, at);
-    match name {
-        Known::Name(i, sort, count, p, next) => {
-            if sort == sorts::INDEX {
-                Move::At(next)
-            } else {
-                Move::Refused(rules::Refusal::Misplaced, p)
-            }
-        }
-        Known::Refused(n, p) => Move::Refused(n, p),
+    let name = known_name(text, at)?;
+    if name.sort != sorts::INDEX {
+        return refused!(Misplaced, name.place);
     }
+    Ok(name.next)
 }
 
 // `(`, an index and a comma.
-pub fn head(text: &[u8], names: &[u64], tokens: &[u64], at: usize, nest: usize) -> Move
-    ensures { Moves (head_in nest) text.now names.now tokens.now at result }
+pub fn head(text: Text<'_>, at: usize, nest: usize) -> Result<usize, Refused>
+    ensures { In (Moves (head_in nest)) text.entry at result }
 {
-    let open = bracket(text, names, tokens, at, nest, marks::LEFT_PAREN);
-    let Move::At(a) = open else {
-        return open;
-    };
-    let i = index(text, names, tokens, a);
-    let Move::At(b) = i else {
-        return i;
-    };
-    expect(text, names, tokens, b, marks::COMMA)
+    let a = bracket(text, at, nest, marks::LEFT_PAREN)?;
+    let b = index(text, a)?;
+    expect(text, b, marks::COMMA)
 }
 
 // An optional `+` or `-`.
-pub fn sign(text: &[u8], names: &[u64], tokens: &[u64], at: usize) -> Move
-    ensures { Moves sign_in text.now names.now tokens.now at result }
+pub fn sign(text: Text<'_>, at: usize) -> Result<usize, Refused>
+    ensures { In (Moves sign_in) text.entry at result }
 {
-    let token = token_at(tokens, at);
-    match token {
-        Seen::Token(k, p, x, next) => {
-            if (k == marks::PLUS as u64) | (k == marks::MINUS as u64) {
-                Move::At(next)
-            } else {
-                Move::At(at)
-            }
-        }
-        Seen::Refused(n, p) => Move::Refused(n, p),
+    let token = token_at(text.tokens, at)?;
+    if (token.kind == marks::PLUS as u64) | (token.kind == marks::MINUS as u64) {
+        return Ok(token.next);
     }
+    Ok(at)
 }

@@ -18,13 +18,8 @@ fn kind_of(token: Token) -> u64
     match token {
         Token::Mark(c) => c as u64,
         Token::Name(_, _) => super::kinds::NAME,
-        Token::Literal(whole, _) => {
-            if whole {
-                super::kinds::WHOLE
-            } else {
-                super::kinds::POINTED
-            }
-        }
+        Token::Literal(true, _) => super::kinds::WHOLE,
+        Token::Literal(false, _) => super::kinds::POINTED,
         Token::String(_, _) => super::kinds::STRING,
         Token::End => super::kinds::END,
         Token::Wrong(_) => super::kinds::WRONG,
@@ -44,11 +39,9 @@ fn payload_of(token: Token) -> u64
     ensures { result ≡ payload_of token }
 {
     match token {
-        Token::Mark(_) => 0,
-        Token::Name(_, n) => n as u64,
+        Token::Mark(_) | Token::End => 0,
+        Token::Name(_, n) | Token::String(_, n) => n as u64,
         Token::Literal(_, v) => value_payload(v),
-        Token::String(_, n) => n as u64,
-        Token::End => 0,
         Token::Wrong(r) => rules::number(r) as u64,
     }
 }
@@ -58,24 +51,14 @@ fn word(token: Token, place: usize) -> u64
     requires { Packs token × (place ≤ byte_limit) }
     ensures { result ≡ word_of (kind_number token) place (payload_of token) }
 {
-    let kind = kind_of(token);
-    let payload = payload_of(token);
-    let at = place as u64;
-    kind * super::KIND_UNIT + at * super::PLACE_UNIT + payload
+    kind_of(token) * super::KIND_UNIT + place as u64 * super::PLACE_UNIT + payload_of(token)
 }
 
 // Does no token come after it?
 fn is_last(token: Token) -> bool
     ensures { result ≡ is_last (kind_of [] token) }
 {
-    match token {
-        Token::Mark(_) => false,
-        Token::Name(_, _) => false,
-        Token::Literal(_, _) => false,
-        Token::String(_, _) => false,
-        Token::End => true,
-        Token::Wrong(_) => true,
-    }
+    matches!(token, Token::End | Token::Wrong(_))
 }
 
 // ---- the table
@@ -86,20 +69,15 @@ fn fill(text: &[u8], table: &mut [u64]) -> usize
     ensures { Scanned text.now table.old result table.new }
 {
     let mut source = Source::start();
-    let mut i = 0;
-    while i < table.len() {
-        let turn = source.next(text);
-        let token = turn.token;
-        table[i] = word(token, turn.place);
-        let last = is_last(token);
-        if last {
+    for i in 0..table.len() {
+        let read = source.next(text);
+        table[i] = word(read.token, read.place);
+        if is_last(read.token) {
             return i + 1;
         }
-        i += 1;
-        let next = turn.next;
-        source = next;
+        source = read.next;
     }
-    i
+    table.len()
 }
 
 // Writes the tokens of a text, up to the end or the first refusal, and answers how many. A table that is too short is filled.
@@ -109,7 +87,7 @@ pub fn scan(text: &[u8], table: &mut [u64]) -> usize
     if text.len() <= rules::BYTE_LIMIT {
         return fill(text, table);
     }
-    if table.len() == 0 {
+    if table.is_empty() {
         return 0;
     }
     table[0] = word(Token::Wrong(rules::Refusal::LongText), rules::BYTE_LIMIT);

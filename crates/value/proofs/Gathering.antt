@@ -1,6 +1,6 @@
 -- Laws of gathering (`specs/Gathering.antt`): what each way of `gather` gives; counts stay counts; a count gathers as values
 -- are added.
-use Rattle.std.specs.Prelude.{Option, Some, None}
+use Rattle.std.specs.Prelude.{Option, Some, None, is_some}
 use mathlib.Core.Path.{◌≡◌, refl, sym, ◌∙◌, ap}
 use mathlib.Core.Bool.{Bool, true, false, cond, ◌&&◌}
 use mathlib.Core.List.{List}
@@ -71,14 +71,16 @@ module _ (l : List ℤ) (k : ℕ) (v : Value) where
   unfolding gathers
   no-count e = record { answer = rw (e, and-false); sums = refl }
 
-  pub no-fit : of_millionths (get_or l k (pos 0) +ℤ millionths v) ≡ None → Gathered l k v false l
+  pub no-fit : (r : Option Value) → of_millionths (get_or l k (pos 0) +ℤ millionths v) ≡ r → is_some r ≡ false → Gathered l k v false l
   unfolding gathers is_fit
-  no-fit e = record { answer = rw (e, and-false); sums = refl }
+  no-fit (Some a) e f = absurd (let w : ◌≡◌ {A = ℕ} 0 1 = cc in omega arith)
+  no-fit None e f = record { answer = rw (e, and-false); sums = refl }
 
-  pub fits-there : (a : Value) → k < length l → in_range v ≡ true → is_count (get_or l k (pos 0)) ≡ true → of_millionths (get_or l k (pos 0) +ℤ millionths v) ≡ Some a
-      → Gathered l k v true (set l k (get_or l k (pos 0) +ℤ millionths v))
+  pub fits-there : (r : Option Value) → k < length l → in_range v ≡ true → is_count (get_or l k (pos 0)) ≡ true
+      → of_millionths (get_or l k (pos 0) +ℤ millionths v) ≡ r → is_some r ≡ true → Gathered l k v true (set l k (get_or l k (pos 0) +ℤ millionths v))
   unfolding gathers is_fit
-  fits-there a h e f g = record { answer = rw (lt-ltb k (length l) h, e, f, g); sums = refl }
+  fits-there (Some a) h e f g i = record { answer = rw (lt-ltb k (length l) h, e, f, g); sums = refl }
+  fits-there None h e f g i = absurd (let w : ◌≡◌ {A = ℕ} 0 1 = cc in omega arith)
 
   -- of a value, a place and counts only the sum is asked
   pub gathers-fit : Valid v → k < length l → Counts l → gathers l k v ≡ is_fit (of_millionths (get_or l k (pos 0) +ℤ millionths v))

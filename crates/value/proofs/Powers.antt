@@ -9,8 +9,7 @@ use native.Mathlib.Nat.{mul-one, mul_assoc, mul-le-mul, div-add-mod', pow-le-pow
 use native.Mathlib.Numerals.{add-one}
 use borrow.Author.Tests.{le-leb, lt-leb, eq-eqb, ne_eqb, eqb-true}
 use lib.Dec.{eqb, lit<}
-use lib.ListN.{length, get_or, take, drop, length-take, length-append, drop_of_length-le}
-use lib.Seq.{drop-cons}
+use lib.ListN.{length, take, drop, length-append}
 use lib.Pow.{pow-add}
 use lib.IntN.{ℤ, pos, negsuc, neg_ℤ, ◌*ℤ◌}
 use Rattle.rules.specs.Limits.{power_digits}
@@ -25,7 +24,9 @@ use Rattle.value.proofs.Tenths.{tenths-product, tenths-scale}
 use Rattle.value.proofs.Fitting.{fit_of-cong, fit_of-deep, fit_of-large}
 use Rattle.value.proofs.Scales.{ten-pos}
 use Rattle.value.proofs.Ranges.{and-false}
-use Rattle.value.proofs.Reading.{other-digits, not-letter, number-room, room_small, before-all, after-all, part-rest}
+use Rattle.std.specs.List.{position, position_or_len, slice_get}
+use Rattle.std.proofs.lemmas.List.Recursion.{is_position_or_len}
+use Rattle.value.proofs.Reading.{first-found, first-nowhere, other-digits, not-letter, number-room, room_small, before-all, after-all, part-rest}
 
 -- ---- a number times a power of ten
 
@@ -85,9 +86,6 @@ pub record Fewer (x s y i : ℕ) : Type 0 where
   pub small : y ≤ x
   pub same : fit_of (tenths (pos y) i) ≡ fit_of (tenths (pos x) s)
 
-pub fewer-first : (x s : ℕ) → Fewer x s x s
-fewer-first x s = record { small = omega arith; same = refl }
-
 module _ (x s y i : ℕ) (w : Fewer x s y i) (h : 18 < i) where
   pub fewer-next : y % 10 ≡ 0 → Fewer x s (y / 10) (i - 1)
   fewer-next e =
@@ -104,9 +102,6 @@ module _ (x s y i : ℕ) (w : Fewer x s y i) (h : 18 < i) where
 -- ---- the outcomes of `lifted`
 
 module _ (x k : ℕ) where
-  pub lift-zero : x ≡ 0 → fit_of (tenths (pos 0) 0) ≡ fit_of (tenths (pos (x * 10 ^ k)) 0)
-  lift-zero e = let p : x * 10 ^ k ≡ 0 = rw e (omega arith) in rw p
-
   pub lift-large : 999999999 < x → None ≡ fit_of (tenths (pos (x * 10 ^ k)) 0)
   lift-large h = fit_of-large (x * 10 ^ k) (omega (arith, le-mul_of_pos_right x (ten-pos k)))
 
@@ -122,17 +117,13 @@ module _ (x k : ℕ) where
 
 -- ---- the first `E`
 
-pub letter-here : (t : List ℕ) (i : ℕ) → i < length t → get_or t i 0 ≡ 69 → length (significand (drop i t)) ≡ 0
+letter-first : (t : List ℕ) → length (significand t) ≡ position_or_len (λ b. eqb b 69) t
 unfolding significand
-letter-here t i h e = rw (drop-cons t i 0 h, eq-eqb (get_or t i 0) 69 e, significand)
-
-pub letter-next : (t : List ℕ) (i : ℕ) → i < length t → (get_or t i 0 ≡ 69 → ⊥) → length (significand (drop i t)) ≡ suc (length (significand (drop (i + 1) t)))
-unfolding significand
-letter-next t i h f = rw (add-one, drop-cons t i 0 h, ne_eqb (get_or t i 0) 69 f, significand)
-
-pub letter-end : (t : List ℕ) (i : ℕ) → length t ≤ i → length (significand (drop i t)) ≡ 0
-unfolding significand
-letter-end t i h = rw (drop_of_length-le t h)
+letter-first = is_position_or_len (λ t. length (significand t)) (λ b. eqb b 69) refl (λ b t. go (eqb b 69) b t)
+  where
+    go : (u : Bool) (b : ℕ) (t : List ℕ) → length {A = ℕ} (elim u as (λ _. List ℕ) [ true ↦ [] | false ↦ b ∷ significand t ]) ≡ cond u 0 (1 + length (significand t))
+    go true b t = refl
+    go false b t = omega arith
 
 significand-take : (t : List ℕ) → significand t ≡ take (length (significand t)) t
 unfolding significand
@@ -176,26 +167,27 @@ module _ (minus : Bool) (t : List ℕ) where
         small = room_small k 0 100 (rw n (number-room 0 t 0 100 (omega (arith, pow-le-pow_right {n = 10} (lit< tt) {i = length t + 0} {j = 2} (omega arith)))));
       }
 
--- an optional sign before it
-pub power-empty : (t : List ℕ) → length t ≡ 0 → IsPower (power_of t) None
+-- an optional sign before it, by the first byte b
+pub power-empty : (t : List ℕ) → None ≡ slice_get t 0 → IsPower (power_of t) None
 unfolding power_of
 power-empty [] e = record { same = refl; small = tt }
-power-empty (b ∷ t) e = absurd (omega arith)
+power-empty (x ∷ t) e = absurd (let w : ◌≡◌ {A = ℕ} 0 1 = cc in omega arith)
 
-pub power-minus : (t : List ℕ) (r : Option (Bool × ℕ)) → (length t ≡ 0 → ⊥) → get_or t 0 0 ≡ 45 → IsPower (power_by true (take (length t - 1) (drop 1 t))) r → IsPower (power_of t) r
-unfolding power_of
-power-minus [] r h e i = absurd (h refl)
-power-minus (b ∷ t) r h e i = rw (eq-eqb b 45 e) (rw (part-rest (b ∷ t) 1) at i)
+module _ (b : ℕ) (r : Option (Bool × ℕ)) where
+  pub power-minus : (t : List ℕ) → Some b ≡ slice_get t 0 → b ≡ 45 → IsPower (power_by true (take (length t - 1) (drop 1 t))) r → IsPower (power_of t) r
+  unfolding power_of
+  power-minus [] h e i = absurd (let w : ◌≡◌ {A = ℕ} 0 1 = cc in omega arith)
+  power-minus (x ∷ t) h e i = let q : x ≡ 45 = cc in rw (eq-eqb x 45 q) (rw (part-rest (x ∷ t) 1) at i)
 
-pub power-plus : (t : List ℕ) (r : Option (Bool × ℕ)) → (length t ≡ 0 → ⊥) → (get_or t 0 0 ≡ 45 → ⊥) → get_or t 0 0 ≡ 43 → IsPower (power_by false (take (length t - 1) (drop 1 t))) r → IsPower (power_of t) r
-unfolding power_of
-power-plus [] r h f e i = absurd (h refl)
-power-plus (b ∷ t) r h f e i = rw (ne_eqb b 45 f, eq-eqb b 43 e) (rw (part-rest (b ∷ t) 1) at i)
+  pub power-plus : (t : List ℕ) → Some b ≡ slice_get t 0 → b ≡ 43 → IsPower (power_by false (take (length t - 1) (drop 1 t))) r → IsPower (power_of t) r
+  unfolding power_of
+  power-plus [] h e i = absurd (let w : ◌≡◌ {A = ℕ} 0 1 = cc in omega arith)
+  power-plus (x ∷ t) h e i = let p : x ≡ 43 = cc in rw (ne_eqb x 45 (λ w. omega arith), eq-eqb x 43 p) (rw (part-rest (x ∷ t) 1) at i)
 
-pub power-plain : (t : List ℕ) (r : Option (Bool × ℕ)) → (length t ≡ 0 → ⊥) → (get_or t 0 0 ≡ 45 → ⊥) → (get_or t 0 0 ≡ 43 → ⊥) → IsPower (power_by false t) r → IsPower (power_of t) r
-unfolding power_of
-power-plain [] r h f g i = absurd (h refl)
-power-plain (b ∷ t) r h f g i = rw (ne_eqb b 45 f, ne_eqb b 43 g) i
+  pub power-plain : (t : List ℕ) → Some b ≡ slice_get t 0 → (b ≡ 45 → ⊥) → (b ≡ 43 → ⊥) → IsPower (power_by false t) r → IsPower (power_of t) r
+  unfolding power_of
+  power-plain [] h f g i = absurd (let w : ◌≡◌ {A = ℕ} 0 1 = cc in omega arith)
+  power-plain (x ∷ t) h f g i = let q : b ≡ x = cc in rw (ne_eqb x 45 (λ w. f (q ∙ w)), ne_eqb x 43 (λ w. g (q ∙ w))) i
 
 -- ---- a literal, by the place p of its `E`
 
@@ -204,26 +196,32 @@ raised-none : (t : List ℕ) → raised_by (Some (signed_power false 0)) t ≡ d
 unfolding raised_by decimal_of signed_power
 raised-none t = ap (λ (v : Option Value). cond (is_decimal t) v None) (fit_of-cong _ _ (scaled-none (decimal_number t)))
 
-module _ (t : List ℕ) (p : ℕ) (r : Option Value) (at : p ≡ length (significand t)) where
-  pub literal-alone : length t ≤ p → r ≡ raised_by (Some (signed_power false 0)) t → r ≡ literal_of t
-  unfolding literal_of
-  literal-alone h e =
-      rw (eq-eqb (length (significand t)) (length t) (omega (arith, at, ap length (significand-take t), length-take (length (significand t)) t))) (e ∙ raised-none t)
+-- no `E`
+pub literal-alone : (t : List ℕ) (r : Option Value) → None ≡ position (λ b. eqb b 69) t → r ≡ raised_by (Some (signed_power false 0)) t → r ≡ literal_of t
+unfolding literal_of
+literal-alone t r h e =
+    let n = letter-first t ∙ first-nowhere (λ b. eqb b 69) t (sym h) in
+    rw (eq-eqb (length (significand t)) (length t) n) (e ∙ raised-none t)
 
-  is-raised : p < length t → literal_of t ≡ raised_by (power_of (take (length t - (p + 1)) (drop (p + 1) t))) (take p t)
+module _ (t : List ℕ) (p : ℕ) (r : Option Value) (first : Some p ≡ position (λ b. eqb b 69) t) where
+  at : p ≡ length (significand t)
+  at = (first-found (λ b. eqb b 69) t p (sym first)).0 ∙ sym (letter-first t)
+
+  is-raised : literal_of t ≡ raised_by (power_of (take (length t - (p + 1)) (drop (p + 1) t))) (take p t)
   unfolding literal_of
-  is-raised h =
+  is-raised =
+      let h = (first-found (λ b. eqb b 69) t p (sym first)).1 in
       let a : significand t ≡ take p t = rw at (significand-take t) in
       let b : exponent t ≡ drop (p + 1) t = rw (add-one, at) (exponent-drop t) in
       rw (part-rest t (p + 1), ne_eqb (length (significand t)) (length t) (λ e. omega (arith, at)), a, b)
 
-  pub literal-raised : (i : Option (Bool × ℕ)) (minus : Bool) (k : ℕ) → p < length t → IsPower (power_of (take (length t - (p + 1)) (drop (p + 1) t))) i → i ≡ Some (minus, k)
+  pub literal-raised : (i : Option (Bool × ℕ)) (minus : Bool) (k : ℕ) → IsPower (power_of (take (length t - (p + 1)) (drop (p + 1) t))) i → i ≡ Some (minus, k)
       → r ≡ raised_by (Some (signed_power minus k)) (take p t) → r ≡ literal_of t
-  literal-raised i minus k h q e f = f ∙ rw (is-raised h, ← q.same, e)
+  literal-raised i minus k q e f = f ∙ rw (is-raised, ← q.same, e)
 
-  pub literal-none : (i : Option (Bool × ℕ)) → p < length t → IsPower (power_of (take (length t - (p + 1)) (drop (p + 1) t))) i → i ≡ None → r ≡ None → r ≡ literal_of t
+  pub literal-none : (i : Option (Bool × ℕ)) → IsPower (power_of (take (length t - (p + 1)) (drop (p + 1) t))) i → i ≡ None → r ≡ None → r ≡ literal_of t
   unfolding raised_by
-  literal-none i h q e f = f ∙ rw (is-raised h, ← q.same, e)
+  literal-none i q e f = f ∙ rw (is-raised, ← q.same, e)
 
 -- a power that is read has at most two digits
 pub power_small : (o : Option ℤ) (i : Option (Bool × ℕ)) (minus : Bool) (k : ℕ) → IsPower o i → i ≡ Some (minus, k) → k < 100

@@ -1,16 +1,19 @@
 -- Laws of digits and decimals (`specs/Literal.antt`); `Powers` has those of powers of ten.
 use Rattle.std.specs.Prelude.{Option, Some, None}
-use mathlib.Core.Path.{◌≡◌, refl, ◌∙◌, ap, subst}
-use mathlib.Core.Bool.{Bool, true, false, cond, ◌&&◌}
+use mathlib.Core.Path.{◌≡◌, refl, sym, ◌∙◌, ap, subst}
+use mathlib.Core.Bool.{Bool, true, false, cond, not, ◌&&◌}
 use mathlib.Core.List.{List, [], ◌∷◌, ◌++◌, append-nil}
 use Prim.Native.Nat.{ℕ, suc, ◌+◌, ◌-◌, ◌*◌, ◌^◌, ◌<◌, ◌≤◌}
 use native.Mathlib.Omega.{arith}
 use native.Mathlib.Nat.{mul_assoc, mul_comm, mul_left_comm, mul-le-mul_right, pow-suc, one-le-pow, pow-le-pow_right, le-mul_of_pos_right}
 use native.Mathlib.Numerals.{add-one}
-use borrow.Author.Tests.{le-leb, lt-leb, leb-true, eq-eqb, ne_eqb}
-use lib.Dec.{leb, eqb, lit<}
+use borrow.Author.Tests.{le-leb, lt-leb, leb-true, ltb-true, ltb-false, eq-eqb, ne_eqb}
+use lib.Dec.{leb, ltb, eqb, lit<}
 use lib.ListN.{length, get_or, take, drop, length-drop, drop_of_length-le}
 use lib.Seq.{drop-cons, take_all, drop-length}
+use Rattle.std.specs.List.{list_all, position, position_or_len}
+use Rattle.std.proofs.lemmas.List.Sums.{prefix_len-le-length}
+use Rattle.std.proofs.lemmas.List.Recursion.{is_position_or_len}
 use lib.IntN.{ℤ, pos, negsuc, nat_abs}
 use Rattle.rules.specs.Limits.{digit_limit, mantissa_limit}
 use Rattle.rational.specs.Fraction.{Fraction, ◌⊗◌, integer}
@@ -22,10 +25,6 @@ use Rattle.value.proofs.Fitting.{fit_of-valid}
 use Rattle.value.proofs.Ranges.{and-true, and-false}
 
 -- ---- a digit
-
-pub digit_low : (b : ℕ) → b < 48 → false ≡ is_digit b
-unfolding is_digit
-digit_low b h = rw (lt-leb 48 b h)
 
 pub digit-test : (b : ℕ) → 48 ≤ b → leb b 57 ≡ is_digit b
 unfolding is_digit
@@ -65,17 +64,14 @@ digit-small b = go (is_digit b) refl
 
 -- ---- the digits that are left
 
-pub all-next : (t : List ℕ) (i : ℕ) → i < length t → is_digit (get_or t i 0) ≡ true → all_digits (drop i t) ≡ all_digits (drop (i + 1) t)
+pub all-listed : (t : List ℕ) → list_all is_digit t ≡ all_digits t
 unfolding all_digits
-all-next t i h e = rw (add-one, drop-cons t i 0 h, e, all_digits)
-
-pub all-stop : (t : List ℕ) (i : ℕ) → i < length t → is_digit (get_or t i 0) ≡ false → all_digits (drop i t) ≡ false
-unfolding all_digits
-all-stop t i h e = rw (drop-cons t i 0 h, e, all_digits)
-
-pub all_end : (t : List ℕ) (i : ℕ) → length t ≤ i → all_digits (drop i t) ≡ true
-unfolding all_digits
-all_end t i h = rw (drop_of_length-le t h)
+all-listed [] = refl
+all-listed (b ∷ t) = go (all-listed t) (is_digit b)
+  where
+    go : list_all is_digit t ≡ all_digits t → (u : Bool) → (u && list_all is_digit t) ≡ elim u as (λ _. Bool) [ true ↦ all_digits t | false ↦ false ]
+    go r true = r
+    go r false = refl
 
 -- the first of them, and the others
 module _ (x : ℕ) (a : List ℕ) (e : all_digits (x ∷ a) ≡ true) where
@@ -168,19 +164,38 @@ module _ (e : ℤ) (a b : List ℕ) where
   unfolding parts_value
   parts-strange-after h = rw (← h, and-false)
 
+-- ---- a byte that is sought
+
+module _ (p : ℕ → Bool) (t : List ℕ) where
+  pub first-found : (i : ℕ) → position p t ≡ Some i → (i ≡ position_or_len p t) × (i < length t)
+  first-found i e = go (ltb (position_or_len p t) (length t)) refl e
+    where
+      go : (u : Bool) → ltb (position_or_len p t) (length t) ≡ u → cond u (Some (position_or_len p t)) None ≡ Some i → (i ≡ position_or_len p t) × (i < length t)
+      go true h e = let q : i ≡ position_or_len p t = cc in (q, omega (arith, ltb-true _ _ h))
+      go false h e = absurd (let w : ◌≡◌ {A = ℕ} 0 1 = cc in omega arith)
+
+  pub first-nowhere : position p t ≡ None → position_or_len p t ≡ length t
+  first-nowhere e = go (ltb (position_or_len p t) (length t)) refl e
+    where
+      go : (u : Bool) → ltb (position_or_len p t) (length t) ≡ u → cond u (Some (position_or_len p t)) None ≡ None → position_or_len p t ≡ length t
+      go true h e = absurd (let w : ◌≡◌ {A = ℕ} 0 1 = cc in omega arith)
+      go false h e = omega (arith, ltb-false _ _ h, prefix_len-le-length (λ x. not (p x)) t)
+
 -- ---- the first point
 
-pub before-point : (t : List ℕ) (i : ℕ) → i < length t → get_or t i 0 ≡ 46 → length (before (drop i t)) ≡ 0
+before-first : (t : List ℕ) → length (before t) ≡ position_or_len (λ b. eqb b 46) t
 unfolding before
-before-point t i h e = rw (drop-cons t i 0 h, eq-eqb (get_or t i 0) 46 e, before)
+before-first = is_position_or_len (λ t. length (before t)) (λ b. eqb b 46) refl (λ b t. go (eqb b 46) b t)
+  where
+    go : (u : Bool) (b : ℕ) (t : List ℕ) → length {A = ℕ} (elim u as (λ _. List ℕ) [ true ↦ [] | false ↦ b ∷ before t ]) ≡ cond u 0 (1 + length (before t))
+    go true b t = refl
+    go false b t = omega arith
 
-pub before-next : (t : List ℕ) (i : ℕ) → i < length t → (get_or t i 0 ≡ 46 → ⊥) → length (before (drop i t)) ≡ suc (length (before (drop (i + 1) t)))
-unfolding before
-before-next t i h f = rw (add-one, drop-cons t i 0 h, ne_eqb (get_or t i 0) 46 f, before)
+pub point-at : (t : List ℕ) (p : ℕ) → Some p ≡ position (λ b. eqb b 46) t → (p ≡ length (before t)) × (p < length t)
+point-at t p h = let f = first-found (λ b. eqb b 46) t p (sym h) in (f.0 ∙ sym (before-first t), f.1)
 
-pub before-end : (t : List ℕ) (i : ℕ) → length t ≤ i → length (before (drop i t)) ≡ 0
-unfolding before
-before-end t i h = rw (drop_of_length-le t h)
+pub point-nowhere : (t : List ℕ) → None ≡ position (λ b. eqb b 46) t → length t ≤ length (before t)
+point-nowhere t h = omega (arith, before-first t, first-nowhere (λ b. eqb b 46) t (sym h))
 
 before-take : (t : List ℕ) → before t ≡ take (length (before t)) t
 unfolding before

@@ -62,16 +62,6 @@ rounded-whole z s true e h =
     rw (e, div-one (nat_abs z - 1), p) (sym (with_sign-own z))
 rounded-whole z s false e h = rw (e, div-one (nat_abs z)) (sym (with_sign-own z))
 
-pub negative-size : (z : ℤ) → lt_z z (pos 0) ≡ true → 0 < nat_abs z
-negative-size (pos zero) e = absurd (let w : ◌≡◌ {A = ℕ} 0 1 = cc in omega arith)
-negative-size (pos (suc n)) e = omega arith
-negative-size (negsuc n) e = omega arith
-
-pub positive-size : (z : ℤ) → lt_z (pos 0) z ≡ true → 0 < nat_abs z
-positive-size (pos zero) e = absurd (let w : ◌≡◌ {A = ℕ} 0 1 = cc in omega arith)
-positive-size (pos (suc n)) e = omega arith
-positive-size (negsuc n) e = omega arith
-
 less_one : (n d : ℕ) → (suc n - 1) / d + 1 ≡ suc (n / d)
 less_one n d = let p : suc n - 1 ≡ n = omega arith in rw p (omega arith)
 

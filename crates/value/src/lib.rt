@@ -2,12 +2,13 @@
 // Every public function is total: it answers for any numbers m and s, also those that are no value.
 #![tactic(auto)]
 
-ghost use Rattle.std.specs.Prelude.{◌≡◌, true, false, cond, ◌&&◌, [], ◌∷◌, ◌+◌, ◌-◌, ◌*◌, ◌/◌, ◌%◌, ◌^◌, ◌<◌, ◌≤◌, length, pos, nat_abs, ◌+ℤ◌, ◌-ℤ◌, ◌*ℤ◌, Some};
+ghost use Rattle.std.specs.Prelude.{◌≡◌, true, false, cond, ◌&&◌, [], ◌∷◌, ◌+◌, ◌-◌, ◌*◌, ◌/◌, ◌%◌, ◌^◌, ◌<◌, ◌≤◌, length, pos, nat_abs, ◌+ℤ◌, ◌-ℤ◌, ◌*ℤ◌, Some, eqb};
+ghost use Rattle.std.specs.List.{position};
 ghost use Rattle.rules.specs.Characters.{code};
 ghost use Rattle.rules.specs.Limits.{mantissa_limit, scale_limit};
 ghost use Rattle.value.specs.Decimal.{tenths, with_sign, at, choose, fit_of, in_range, if_in_range, sum_of, product_of, negate, is_at_most, is_zero, whole_of, of_whole, floor_of, ceiling_of};
 ghost use Rattle.value.specs.Gathering.{count_limit, millionths, of_millionths, is_count, Gathered};
-ghost use Rattle.value.specs.Literal.{is_digit, all_digits, digit_of, number_from, before, significand, power_by, power_of, scaled_by, raised_by, literal_of};
+ghost use Rattle.value.specs.Literal.{all_digits, digit_of, number_from, power_by, power_of, scaled_by, raised_by, literal_of};
 ghost use Rattle.value.specs.Printed.{width_from, digits, minus_sign, places, printed, shown, Written};
 ghost use Rattle.value.specs.Parts.{parts_value, signed_power, IsPower};
 
@@ -71,17 +72,6 @@ fn times(a: i64, b: i64) -> i64
     a * b
 }
 
-// Of any number, also the least, whose magnitude is 2^63.
-fn magnitude(a: i64) -> u64
-    ensures { result ≡ nat_abs a }
-{
-    if a < 0 {
-        (0 - (a + 1)) as u64 + 1
-    } else {
-        a as u64
-    }
-}
-
 // x with the sign of a
 fn with_sign(a: i64, x: u64) -> i64
     requires { x < 2 ^ 63 }
@@ -110,14 +100,12 @@ fn normalise(z: i64, s: usize) -> Option<Value>
     requires { s < 19 }
     ensures { result ≡ fit_of (tenths z s) }
 {
-    let x = magnitude(z);
-    let mut i = 0;
-    while i <= rules::SCALE_LIMIT {
+    let x = z.unsigned_abs();
+    for i in 0..=rules::SCALE_LIMIT {
         let d = power(s - i);
         if x % d == 0 {
             return chosen(z, x / d, i);
         }
-        i = i + 1;
     }
     None
 }
@@ -128,19 +116,13 @@ fn normalise(z: i64, s: usize) -> Option<Value>
 fn in_range(v: Value) -> bool
     ensures { result ≡ in_range v }
 {
-    if rules::MANTISSA_LIMIT < magnitude(v.m) {
-        return false;
-    }
-    v.s <= rules::SCALE_LIMIT
+    v.m.unsigned_abs() <= rules::MANTISSA_LIMIT && v.s <= rules::SCALE_LIMIT
 }
 
 fn both_in_range(a: Value, b: Value) -> bool
     ensures { result ≡ (in_range a && in_range b) }
 {
-    if in_range(a) {
-        return in_range(b);
-    }
-    false
+    in_range(a) && in_range(b)
 }
 
 // m * 10^k
@@ -205,25 +187,19 @@ pub fn negated(v: Value) -> Value
 pub fn at_most(a: Value, b: Value) -> bool
     ensures { result ≡ cond (in_range a && in_range b) (is_at_most a b) false }
 {
-    if both_in_range(a, b) {
-        return scaled(a.m, b.s) <= scaled(b.m, a.s);
-    }
-    false
+    both_in_range(a, b) && scaled(a.m, b.s) <= scaled(b.m, a.s)
 }
 
 pub fn is_zero(v: Value) -> bool
     ensures { result ≡ is_zero v }
 {
-    magnitude(v.m) == 0
+    v.m == 0
 }
 
 pub fn whole_of(v: Value) -> Option<i64>
     ensures { result ≡ whole_of v }
 {
-    if v.s == 0 {
-        return Some(v.m);
-    }
-    None
+    (v.s == 0).then_some(v.m)
 }
 
 pub fn of_whole(k: i64) -> Value
@@ -251,7 +227,7 @@ fn shortened(v: Value, away: bool) -> i64
     if v.s == 0 {
         return v.m;
     }
-    let x = magnitude(v.m);
+    let x = v.m.unsigned_abs();
     if away {
         return with_sign(v.m, quotient(x - 1, v.s) + 1);
     }
@@ -284,7 +260,7 @@ pub fn count_limit() -> u64
 fn is_count(z: i64) -> bool
     ensures { result ≡ is_count z }
 {
-    magnitude(z) < count_limit()
+    z.unsigned_abs() < count_limit()
 }
 
 // Adds v to element k of the sums, which are counts of millionths, and says whether it did: there is such an element, it is
@@ -303,13 +279,11 @@ pub fn gather(sums: &mut [i64], k: usize, v: Value) -> bool
         return false;
     }
     let sum = plus(old, aligned(v));
-    match of_millionths(sum) {
-        Some(_) => {
-            sums[k] = sum;
-            true
-        }
-        None => false,
+    if of_millionths(sum).is_none() {
+        return false;
     }
+    sums[k] = sum;
+    true
 }
 
 // ---- reading a literal
@@ -317,32 +291,16 @@ pub fn gather(sums: &mut [i64], k: usize, v: Value) -> bool
 // A power of ten above this times a whole number that is not 0 does not fit.
 const LARGEST_POWER: usize = 8;
 
-fn is_digit(b: u8) -> bool
-    ensures { result ≡ is_digit b }
-{
-    if b < b'0' {
-        return false;
-    }
-    b <= b'9'
-}
-
 fn all_digits(t: &[u8]) -> bool
     ensures { result ≡ all_digits t.now }
 {
-    let mut i = 0;
-    while i < t.len() {
-        if !is_digit(t[i]) {
-            return false;
-        }
-        i = i + 1;
-    }
-    true
+    t.iter().all(u8::is_ascii_digit)
 }
 
 fn digit(b: u8) -> u64
     ensures { result ≡ digit_of b }
 {
-    if is_digit(b) {
+    if b.is_ascii_digit() {
         return (b - b'0') as u64;
     }
     0
@@ -354,26 +312,17 @@ fn number(t: &[u8], m: u64) -> u64
     ensures { result ≡ number_from m t.now }
 {
     let mut x = m;
-    let mut i = 0;
-    while i < t.len() {
-        x = x * 10 + digit(t[i]);
-        i = i + 1;
+    for &b in t {
+        x = x * 10 + digit(b);
     }
     x
 }
 
-// Where the first point is, or the end.
-fn point(t: &[u8]) -> usize
-    ensures { result ≡ length (before t.now) }
+// Where a byte stands first, if it does.
+fn first(t: &[u8], byte: u8) -> Option<usize>
+    ensures { result ≡ position (λ b. eqb b byte) t.now }
 {
-    let mut i = 0;
-    while i < t.len() {
-        if t[i] == b'.' {
-            return i;
-        }
-        i = i + 1;
-    }
-    i
+    t.iter().position(|&b| b == byte)
 }
 
 // x / 10^s: a spare zero of x is taken off where the power is too large for `normalise`.
@@ -452,30 +401,26 @@ fn decimal(t: &[u8], minus: bool, k: usize) -> Option<Value>
     requires { k < 100 }
     ensures { result ≡ raised_by (Some (signed_power minus k)) t.now }
 {
-    let n = t.len();
-    if n == 0 {
+    if t.is_empty() {
         return None;
     }
-    let p = point(t);
-    if n <= p {
-        return read_parts(t, &t[n..], minus, k);
-    }
-    let q = p + 1;
-    if n <= q {
+    let Some(p) = first(t, b'.') else {
+        return read_parts(t, &[], minus, k);
+    };
+    if t.len() <= p + 1 {
         return None;
     }
-    read_parts(&t[..p], &t[q..], minus, k)
+    read_parts(&t[..p], &t[p + 1..], minus, k)
 }
 
 // The power that one or two digits write.
 fn power_by(minus: bool, t: &[u8]) -> Option<(bool, usize)>
     ensures { IsPower (power_by minus t.now) result }
 {
-    let n = t.len();
-    if n == 0 {
+    if t.is_empty() {
         return None;
     }
-    if rules::POWER_DIGITS < n {
+    if rules::POWER_DIGITS < t.len() {
         return None;
     }
     if !all_digits(t) {
@@ -489,31 +434,11 @@ fn power_by(minus: bool, t: &[u8]) -> Option<(bool, usize)>
 fn power_of(t: &[u8]) -> Option<(bool, usize)>
     ensures { IsPower (power_of t.now) result }
 {
-    if t.len() == 0 {
-        return None;
+    match t.first()? {
+        b'-' => power_by(true, &t[1..]),
+        b'+' => power_by(false, &t[1..]),
+        _ => power_by(false, t),
     }
-    let b = t[0];
-    if b == b'-' {
-        return power_by(true, &t[1..]);
-    }
-    if b == b'+' {
-        return power_by(false, &t[1..]);
-    }
-    power_by(false, t)
-}
-
-// Where the first `E` is, or the end.
-fn letter(t: &[u8]) -> usize
-    ensures { result ≡ length (significand t.now) }
-{
-    let mut i = 0;
-    while i < t.len() {
-        if t[i] == b'E' {
-            return i;
-        }
-        i = i + 1;
-    }
-    i
 }
 
 // The value of a literal: a decimal of at most 18 digits, which may be followed by `E`, an optional sign and one or two digits. Too
@@ -521,16 +446,11 @@ fn letter(t: &[u8]) -> usize
 pub fn literal(t: &[u8]) -> Option<Value>
     ensures { result ≡ literal_of t.now }
 {
-    let n = t.len();
-    let e = letter(t);
-    if n <= e {
+    let Some(e) = first(t, b'E') else {
         return decimal(t, false, 0);
-    }
-    let from = e + 1;
-    match power_of(&t[from..]) {
-        Some((minus, k)) => decimal(&t[..e], minus, k),
-        None => None,
-    }
+    };
+    let (minus, k) = power_of(&t[e + 1..])?;
+    decimal(&t[..e], minus, k)
 }
 
 // ---- printing
@@ -542,7 +462,6 @@ fn put(out: &mut [u8], at: usize, b: u8) -> usize
 {
     if at < out.len() {
         out[at] = b;
-        return at + 1;
     }
     at + 1
 }
@@ -560,9 +479,7 @@ fn put_digits(out: &mut [u8], at: usize, k: usize, n: u64) -> usize
     ensures { Written out.old at (digits k n) result out.new }
 {
     let mut i = at;
-    let mut j = k;
-    while 0 < j {
-        j = j - 1;
+    for j in (0..k).rev() {
         i = put(out, i, digit_at(n, j));
     }
     i
@@ -572,14 +489,12 @@ fn put_digits(out: &mut [u8], at: usize, k: usize, n: u64) -> usize
 fn width_of(n: u64) -> usize
     ensures { (result ≡ width_from 17 1 n) × (result < 19) }
 {
-    let mut w = 1;
-    while w < 18 {
+    for w in 1..18 {
         if n < power(w) {
             return w;
         }
-        w = w + 1;
     }
-    w
+    18
 }
 
 fn put_sign(out: &mut [u8], m: i64) -> usize
@@ -609,7 +524,7 @@ fn put_value(out: &mut [u8], v: Value) -> usize
 {
     let m = v.m;
     let s = v.s;
-    let x = magnitude(m);
+    let x = m.unsigned_abs();
     let whole = x / power(s);
     let at = put_sign(out, m);
     let mid = put_digits(out, at, width_of(whole), whole);

@@ -1,17 +1,11 @@
 -- Laws over plain variables that answer the code's needs.
-use mathlib.Core.Path.{◌≡◌, sym}
-use mathlib.Core.List.{List as Bytes}
+use mathlib.Core.Path.{◌≡◌}
 use Prim.Native.Nat.{ℕ, ◌-◌, ◌<◌, ◌≤◌}
 use native.Mathlib.Omega.{arith}
 use borrow.Author.Tests.{le-leb, lt-leb, eq-eqb, ne_eqb}
-use lib.ListN.{length, take}
-use lib.Seq.{length-take-le}
 use Rattle.rules.specs.Characters.{code}
-use Rattle.generator.specs.declared.Entry.{Entry}
 use Rattle.generator.specs.declared.Entry.TheVariants.{List, Export, Read}
-use Rattle.cases.specs.declared.frames.Given.{Given}
-use Rattle.cases.specs.declared.frames.Given.TheVariants.{Text}
-use Rattle.cases.specs.Frames.Frames.{digit_of, entry_of, Within}
+use Rattle.cases.specs.Frames.Frames.{digit_of, entry_of}
 
 module _ (b : ℕ) where
   pub digit_low : b < 48 → 0 ≡ digit_of b
@@ -33,14 +27,3 @@ module _ (b : ℕ) where
 
   pub entry-list : (b ≡ code "E" → ⊥) → (b ≡ code "R" → ⊥) → List ≡ entry_of b
   entry-list f g = rw (ne_eqb b (code "E") f, ne_eqb b (code "R") g)
-
-pub part_length : (k : ℕ) (l : Bytes ℕ) → k ≤ length l → k ≡ length (take k l)
-part_length k l h = sym (length-take-le k l h)
-
--- a text that was given lies at the start of what was lent for it
-module _ (g : Given) (x : Entry) (n k : ℕ) (l : Bytes ℕ) (e : g ≡ Text x n k) (h : Within g (length l)) where
-  pub text-within : n ≤ length l
-  text-within = (rw e at h).0
-
-  pub text-part : n ≡ length (take n l)
-  text-part = part_length n l text-within

@@ -1,16 +1,16 @@
--- `cases::nonzero` meets its contract. The measure is the number of bytes that are left.
+-- `cases::nonzero` meets its contract.
 use native.Mathlib.Omega.{arith}
 use Rattle.cases.proofs.Laws.{counted_none, counted-more, counted-all}
 use Rattle.cases.proofs.nonzero.Goals as goal
 
-pub loop-i-init : goal.loop-i-init
-loop-i-init c = counted_none _
+pub loop-b-init : goal.loop-b-init
+loop-b-init c = counted_none _
 
 pub overflow_add-count : goal.overflow_add-count
 overflow_add-count c = omega arith
 
-pub loop-i-preserved : goal.loop-i-preserved
-loop-i-preserved c = search counted-more depth 8
+pub loop-b-preserved : goal.loop-b-preserved
+loop-b-preserved c = search counted-more depth 8
 
 pub returns : goal.returns
 returns c = search counted-all depth 8

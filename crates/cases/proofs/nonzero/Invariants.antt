@@ -1,11 +1,6 @@
--- `cases::nonzero` meets its contract. The measure is the number of bytes that are left.
-use Prim.Native.Nat.{◌-◌}
-use lib.ListN.{length}
+-- `cases::nonzero` meets its contract.
 use Rattle.cases.proofs.Laws.{Counted}
 use Rattle.cases.proofs.nonzero.Given as goal
 
-abbrev pub invariant-loop-i : goal.invariant-loop-i
-invariant-loop-i l = Counted l.bytes l.i l.count
-
-abbrev pub decreases-loop-i : goal.decreases-loop-i
-decreases-loop-i l = length l.bytes - l.i
+abbrev pub invariant-loop-b : goal.invariant-loop-b
+invariant-loop-b l = Counted l.bytes l.b-index l.count

@@ -1,10 +1,9 @@
 -- What the head of a frame says.
-use Rattle.std.specs.Prelude.{cond, ℕ, ◌+◌, ◌*◌, ◌-◌, ◌≤◌, leb, eqb}
+use Rattle.std.specs.Prelude.{None, Option, Some, cond, ℕ, ◌+◌, ◌*◌, ◌-◌, ◌≤◌, leb, eqb}
 use Prim.Native.Char.{code}
 use Rattle.generator.specs.declared.Entry.{Entry}
 use Rattle.generator.specs.declared.Entry.TheVariants.{List, Export, Read}
 use Rattle.cases.specs.declared.frames.Given.{Given}
-use Rattle.cases.specs.declared.frames.Given.TheVariants.{Text, Nothing}
 
 -- 0 for what is no digit
 abbrev pub digit_of : ℕ → ℕ
@@ -17,6 +16,6 @@ abbrev pub entry_of : ℕ → Entry
 entry_of b = cond (eqb b (code "E")) Export (cond (eqb b (code "R")) Read List)
 
 -- a text has room in the m bytes that were lent for it, and its buffer's length has five digits
-abbrev pub Within : Given → ℕ → Type 0
-Within (Text e n k) m = (n ≤ m) × (k ≤ 99999)
-Within Nothing m = Unit {0}
+abbrev pub Within : Option Given → ℕ → Type 0
+Within (Some x) m = (x.text ≤ m) × (x.room ≤ 99999)
+Within None m = Unit {0}

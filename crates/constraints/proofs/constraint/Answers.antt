@@ -3,4 +3,4 @@ use Rattle.constraints.proofs.RowLaws.{row_is}
 use Rattle.constraints.proofs.constraint.Goals as goal
 
 pub returns : goal.returns
-returns c = search row_is depth 5
+returns c = search (row_is, c.in_ok-sites.ensures) depth 6

@@ -1,13 +1,9 @@
 -- Laws of the words of a row.
-use mathlib.Core.Path.{◌≡◌, sym, ap}
 use mathlib.Core.Bool.{Bool, true, false}
-use mathlib.Core.List.{List}
-use Prim.Native.Nat.{ℕ, ◌+◌, ◌*◌, ◌/◌, ◌%◌, ◌≤◌}
+use Prim.Native.Nat.{ℕ, ◌+◌, ◌*◌, ◌/◌, ◌%◌}
 use native.Mathlib.Omega.{arith}
-use lib.Dec.{eqb}
 use borrow.Author.Tests.{eq-eqb, ne_eqb}
-use lib.ListN.{length, get_or, get_or-eq_default}
-use Rattle.constraints.specs.Layout.{bare_part, floor_part, UnitIf, Packs}
+use Rattle.constraints.specs.Layout.{UnitIf, Packs}
 
 -- ---- the third word
 
@@ -40,21 +36,3 @@ packs m false false n u v e g =
       floor = ne_eqb ((m % 256 + u + v + n % 8 * 1024) / 512 % 2) 1 (λ z. omega (arith, e.is, g.is));
       entries = λ h. omega (arith, e.is, g.is);
     }
-
-pub bare-is : (w u : ℕ) → w ≡ u → eqb (w / 256 % 2) 1 ≡ bare_part u
-bare-is w u e = ap bare_part e
-
-pub floor-is : (w u : ℕ) → w ≡ u → eqb (w / 512 % 2) 1 ≡ floor_part u
-floor-is w u e = ap floor_part e
-
--- ---- past the end
-
-module _ (t : List ℕ) (k f : ℕ) where
-  pub word-past : length t ≤ k * 5 + f → 0 ≡ get_or t (k * 5 + f) 0
-  word-past h = sym (get_or-eq_default t 0 {n = k * 5 + f} h)
-
-  pub word-beyond : length t ≤ k → 0 ≡ get_or t (k * 5 + f) 0
-  word-beyond h = word-past (omega arith)
-
-  pub word_wide : length t ≤ f → 0 ≡ get_or t (k * 5 + f) 0
-  word_wide h = word-past (omega arith)

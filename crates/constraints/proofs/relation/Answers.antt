@@ -1,12 +1,13 @@
 -- `constraints::relation` meets its contract.
+use Rattle.std.proofs.lemmas.Result.{err_from_is_err_and}
 use Rattle.constraints.proofs.TokenLaws.{relation-yes, relation-no, relation-wrong}
 use Rattle.constraints.proofs.relation.Goals as goal
 
-pub returns-then-k : goal.returns-then-k
-returns-then-k c = search relation-yes depth 7
+pub returns-in_err-token : goal.returns-in_err-token
+returns-in_err-token c = let p = err_from_is_err_and c.from_residual.result c.from_residual.ensures.1 in rw (p.1, p.2) (search (relation-wrong, c.in_err-token.was) depth 6)
 
-pub returns-else-k : goal.returns-else-k
-returns-else-k c = search relation-no depth 7
+pub returns-then-mark : goal.returns-then-mark
+returns-then-mark c = search (relation-yes, c.in_ok-token.was) depth 8
 
-pub returns-in-Refused : goal.returns-in-Refused
-returns-in-Refused c = search relation-wrong depth 6
+pub returns : goal.returns
+returns c = search (relation-no, c.in_ok-token.was) depth 8

@@ -1,12 +1,13 @@
 -- `constraints::title` meets its contract.
+use Rattle.std.proofs.lemmas.Result.{err_from_is_err_and}
 use Rattle.constraints.proofs.TokenLaws.{title-yes, title-no, title-wrong}
 use Rattle.constraints.proofs.title.Goals as goal
 
-pub returns-then-k-eq-STRING : goal.returns-then-k-eq-STRING
-returns-then-k-eq-STRING c = search title-yes depth 7
+pub returns-in_err-token : goal.returns-in_err-token
+returns-in_err-token c = let p = err_from_is_err_and c.from_residual.result c.from_residual.ensures.1 in rw (p.1, p.2) (search (title-wrong, c.in_err-token.was) depth 6)
 
-pub returns-else-k-eq-STRING : goal.returns-else-k-eq-STRING
-returns-else-k-eq-STRING c = search title-no depth 7
+pub returns-then-token-ne-STRING : goal.returns-then-token-ne-STRING
+returns-then-token-ne-STRING c = search (title-no, c.in_ok-token.was) depth 8
 
-pub returns-in-Refused : goal.returns-in-Refused
-returns-in-Refused c = search title-wrong depth 6
+pub returns : goal.returns
+returns c = search (title-yes, c.in_ok-token.was) depth 8

@@ -3,11 +3,12 @@ use mathlib.Core.Path.{◌≡◌, refl, sym, ◌∙◌, ap}
 use mathlib.Core.Bool.{Bool, true, false, cond, ◌&&◌}
 use mathlib.Core.List.{List, [], ◌∷◌, ◌++◌}
 use mathlib.Core.Logic.{◌⊎◌, inl, inr}
-use Prim.Native.Nat.{ℕ, zero, suc, ◌+◌, ◌<◌, ◌≤◌}
+use Prim.Native.Nat.{ℕ, zero, suc, ◌+◌, min, ◌<◌, ◌≤◌}
 use native.Mathlib.Omega.{arith}
 use borrow.Author.Tests.{eq-eqb, ne_eqb, lt-ltb, le-ltb}
 use lib.Dec.{eqb}
-use lib.ListN.{length, get_or, take, drop, length-take, length-append, get_or-eq_default, drop_of_length-le}
+use Rattle.std.proofs.lemmas.List.{length-set, take_more_set}
+use lib.ListN.{length, get_or, set, take, drop, length-take, length-append, get_or-eq_default, drop_of_length-le}
 use lib.Seq.{take_all, get_or-take, drop-cons}
 use Rattle.language.specs.Declarations.{is_in}
 use Rattle.language.specs.Data.{no_repeats, all_in, rearranges}
@@ -16,9 +17,9 @@ use Rattle.data.specs.Reading.Few.{numbers_of, Holds, Keeps, Adds, rearranges_ke
 
 -- ---- the numbers that are kept
 
-pub holds-none : (a b c d : ℕ) → Holds (record { count = 0; a = a; b = b; c = c; d = d }) []
+pub holds-none : (l : List ℕ) → Holds (record { count = 0; numbers = l }) []
 unfolding numbers_of
-holds-none a b c d = record { count = refl; numbers = refl }
+holds-none l = record { count = refl; numbers = refl }
 
 pub holds-keeps : (f : Few) (l : List ℕ) → Holds f l → Keeps f l
 holds-keeps f l h = record { all = λ g. (h.count, h.numbers); more = λ g. omega (arith, h.count) }
@@ -35,30 +36,6 @@ few-or-more (suc (suc (suc (suc zero)))) = inl (omega arith)
 few-or-more (suc (suc (suc (suc (suc n))))) = inr (omega arith)
 
 module _ (f : Few) where
-  pub length-count : f.count < 4 → f.count ≡ length (numbers_of f)
-  unfolding numbers_of
-  length-count h = simp length-take (omega arith)
-
-  pub length-four : 4 ≤ f.count → 4 ≡ length (numbers_of f)
-  unfolding numbers_of
-  length-four h = simp length-take (omega arith)
-
-  at-kept : (i : ℕ) → i < f.count → get_or (f.a ∷ f.b ∷ f.c ∷ f.d ∷ []) i 0 ≡ get_or (numbers_of f) i 0
-  unfolding numbers_of
-  at-kept i h = sym (get_or-take f.count (f.a ∷ f.b ∷ f.c ∷ f.d ∷ []) i 0 h)
-
-  pub at_first : (i : ℕ) → i < f.count → i ≡ 0 → f.a ≡ get_or (numbers_of f) i 0
-  at_first i h e = rw e (at-kept 0 (omega arith))
-
-  pub at_second : (i : ℕ) → i < f.count → i ≡ 1 → f.b ≡ get_or (numbers_of f) i 0
-  at_second i h e = rw e (at-kept 1 (omega arith))
-
-  pub at-third : (i : ℕ) → i < f.count → i ≡ 2 → f.c ≡ get_or (numbers_of f) i 0
-  at-third i h e = rw e (at-kept 2 (omega arith))
-
-  pub at-fourth : (i : ℕ) → i < f.count → i ≡ 3 → f.d ≡ get_or (numbers_of f) i 0
-  at-fourth i h e = rw e (at-kept 3 (omega arith))
-
   length-within : length (numbers_of f) ≤ f.count
   unfolding numbers_of
   length-within = simp length-take (omega arith)
@@ -67,39 +44,33 @@ module _ (f : Few) where
   unfolding numbers_of
   length-few = simp length-take (omega arith)
 
-  pub at-past : (i : ℕ) → f.count ≤ i → 0 ≡ get_or (numbers_of f) i 0
-  at-past i h = sym (get_or-eq_default (numbers_of f) 0 {n = i} (omega (arith, length-within)))
+  pub at-past : (n i : ℕ) → n ≡ length (numbers_of f) → n ≤ i → 0 ≡ get_or (numbers_of f) i 0
+  at-past n i e h = sym (get_or-eq_default (numbers_of f) 0 {n = i} (omega arith))
 
-  pub at-beyond : (i : ℕ) → 4 ≤ i → 0 ≡ get_or (numbers_of f) i 0
-  at-beyond i h = sym (get_or-eq_default (numbers_of f) 0 {n = i} (omega (arith, length-few)))
+  pub at-kept : (n i : ℕ) → n ≡ length (numbers_of f) → i < n → get_or f.numbers i 0 ≡ get_or (numbers_of f) i 0
+  unfolding numbers_of
+  at-kept n i e h = sym (get_or-take f.count (take 4 f.numbers) i 0 (omega (arith, length-within)) ∙ get_or-take 4 f.numbers i 0 (omega (arith, length-few)))
 
-  -- one number more, by the count before
+  pub length-count : (n : ℕ) → length f.numbers ≡ 4 → n ≡ min f.count 4 → n ≡ length (numbers_of f)
+  unfolding numbers_of
+  length-count n full e = e ∙ simp length-take (omega arith)
+
+  -- one number more
   module _ (i : ℕ) where
-    adds-by : (r : Few) → f.count < 4 → r.count ≡ f.count + 1 → numbers_of r ≡ numbers_of f ++ (i ∷ []) → Adds f i r
-    adds-by r h c e = record { count = rw (lt-ltb f.count 4 h) c; numbers = rw (lt-ltb f.count 4 h) e }
-
-    pub with_first : f.count ≡ 0 → Adds f i (record { count = 1; a = i; b = f.b; c = f.c; d = f.d })
+    pub with-room : length f.numbers ≡ 4 → f.count < 4 → Adds f i (record { count = f.count + 1; numbers = set f.numbers f.count i })
     unfolding numbers_of
-    with_first h = adds-by _ (omega arith) (omega arith) (rw h)
+    with-room full h =
+        record {
+          count = rw (lt-ltb f.count 4 h) refl;
+          numbers = rw (lt-ltb f.count 4 h, take_all 4 (set f.numbers f.count i) (omega (arith, length-set f.numbers f.count i)), take_all 4 f.numbers (omega arith)) (take_more_set f.numbers f.count i (omega arith));
+        }
 
-    pub with_second_lem : f.count ≡ 1 → Adds f i (record { count = 2; a = f.a; b = i; c = f.c; d = f.d })
+    pub with-more : 4 ≤ f.count → Adds f i (record { count = 5; numbers = f.numbers })
     unfolding numbers_of
-    with_second_lem h = adds-by _ (omega arith) (omega arith) (rw h)
-
-    pub with-third : f.count ≡ 2 → Adds f i (record { count = 3; a = f.a; b = f.b; c = i; d = f.d })
-    unfolding numbers_of
-    with-third h = adds-by _ (omega arith) (omega arith) (rw h)
-
-    pub with-fourth : f.count ≡ 3 → Adds f i (record { count = 4; a = f.a; b = f.b; c = f.c; d = i })
-    unfolding numbers_of
-    with-fourth h = adds-by _ (omega arith) (omega arith) (rw h)
-
-    pub with-more : 4 ≤ f.count → Adds f i (record { count = 5; a = f.a; b = f.b; c = f.c; d = f.d })
-    unfolding numbers_of
-    with-more h = record { count = rw (le-ltb f.count 4 h) refl; numbers = rw (le-ltb f.count 4 h) (more f.count h) }
+    with-more h = record { count = rw (le-ltb f.count 4 h) refl; numbers = rw (le-ltb f.count 4 h) (all 5 (omega arith) ∙ sym (all f.count h)) }
       where
-        more : (n : ℕ) → 4 ≤ n → take 5 (f.a ∷ f.b ∷ f.c ∷ f.d ∷ []) ≡ take n (f.a ∷ f.b ∷ f.c ∷ f.d ∷ [])
-        more n h = sym (take_all n (f.a ∷ f.b ∷ f.c ∷ f.d ∷ []) (omega arith))
+        all : (n : ℕ) → 4 ≤ n → take n (take 4 f.numbers) ≡ take 4 f.numbers
+        all n h = take_all n (take 4 f.numbers) (simp length-take (omega arith))
 
     -- of a list that is kept
     module _ (r : Few) (w : Adds f i r) (l : List ℕ) (k : Keeps f l) where

@@ -2,13 +2,14 @@
 use Rattle.std.specs.Prelude.{None, Some}
 use mathlib.Core.Path.{◌≡◌, refl, sym, ◌∙◌, ap}
 use mathlib.Core.Bool.{Bool, true, false}
-use mathlib.Core.List.{List, [], ◌∷◌, ◌++◌, append_assoc, append-nil}
-use Prim.Native.Nat.{ℕ, zero, suc, ◌+◌, ◌<◌, ◌≤◌}
+use mathlib.Core.List.{List, [], ◌∷◌, ◌++◌, map, append_assoc, append-nil}
+use Rattle.std.proofs.lemmas.List.{length-set, length-map, map-set, get_or-map, take_more_set}
+use Prim.Native.Nat.{ℕ, zero, suc, ◌+◌, min, ◌<◌, ◌≤◌}
 use native.Mathlib.Omega.{arith}
 use borrow.Author.Tests.{lt-ltb, le-ltb}
 use lib.Dec.{eqb}
 use lib.ListN.{length, get_or, drop, take, set, length-take, get_or-eq_default, drop_of_length-le}
-use lib.Seq.{get_or-take, drop-cons, take-suc-set, take-set-lt, set_out}
+use lib.Seq.{get_or-take, drop-cons, take_all, set_out}
 use lib.IntN.{ℤ}
 use mir.Syntax.{w64}
 use mir.Val.{SFits, to_z, of_z}
@@ -23,9 +24,9 @@ use Rattle.data.specs.Reading.Few.{Holds, Keeps, Adds}
 use Rattle.data.specs.Reading.Entries.{entry_of, entries_of, marks_index, one_more}
 use Rattle.data.proofs.reading.Lists.{holds-keeps, keeps-holds, adds-keeps}
 
-pub none-held : (a b c d : Held) → entries_of (record { count = 0; a = a; b = b; c = c; d = d }) ≡ []
+pub none-held : (l : List Held) → entries_of (record { count = 0; entries = l }) ≡ []
 unfolding entries_of
-none-held a b c d = refl
+none-held l = refl
 
 pub marks-other : (x : Held) (i : ℕ) (k : ℤ) → x ≡ Fixed k → false ≡ marks_index i (entry_of x)
 marks-other x i k e = rw e refl
@@ -42,15 +43,7 @@ take-set (suc n) (y ∷ l) (suc i) x = ap (λ m. y ∷ m) (take-set n l i x)
 
 module _ (e : Entries) where
   abbrev all : List Entry
-  all = entry_of e.a ∷ entry_of e.b ∷ entry_of e.c ∷ entry_of e.d ∷ []
-
-  pub entries-count : e.count < 4 → e.count ≡ length (entries_of e)
-  unfolding entries_of
-  entries-count h = simp length-take (omega arith)
-
-  pub entries-four : 4 ≤ e.count → 4 ≡ length (entries_of e)
-  unfolding entries_of
-  entries-four h = simp length-take (omega arith)
+  all = map entry_of e.entries
 
   entries-within : length (entries_of e) ≤ e.count
   unfolding entries_of
@@ -60,72 +53,38 @@ module _ (e : Entries) where
   unfolding entries_of
   entries-few = simp length-take (omega arith)
 
+  pub entries-count : (n : ℕ) → length e.entries ≡ 4 → n ≡ min e.count 4 → n ≡ length (entries_of e)
+  unfolding entries_of
+  entries-count n full d = d ∙ simp length-take (omega (arith, length-map e.entries entry_of))
+
   -- ---- the entry at a position
 
-  entry_kept : (i : ℕ) → i < e.count → get_or all i (marked 0) ≡ get_or (entries_of e) i (marked 0)
+  pub entry_past : (n i : ℕ) → n ≡ length (entries_of e) → n ≤ i → marked 0 ≡ get_or (entries_of e) i (marked 0)
+  entry_past n i d h = sym (get_or-eq_default (entries_of e) (marked 0) {n = i} (omega arith))
+
+  pub entry_kept : (n i : ℕ) (d : Held) → length e.entries ≡ 4 → n ≡ length (entries_of e) → i < n → entry_of (get_or e.entries i d) ≡ get_or (entries_of e) i (marked 0)
   unfolding entries_of
-  entry_kept i h = sym (get_or-take e.count all i (marked 0) h)
-
-  pub entry_first : (i : ℕ) → i < e.count → i ≡ 0 → entry_of e.a ≡ get_or (entries_of e) i (marked 0)
-  entry_first i h d = rw d (entry_kept 0 (omega arith))
-
-  pub entry-second : (i : ℕ) → i < e.count → i ≡ 1 → entry_of e.b ≡ get_or (entries_of e) i (marked 0)
-  entry-second i h d = rw d (entry_kept 1 (omega arith))
-
-  pub entry-third : (i : ℕ) → i < e.count → i ≡ 2 → entry_of e.c ≡ get_or (entries_of e) i (marked 0)
-  entry-third i h d = rw d (entry_kept 2 (omega arith))
-
-  pub entry-fourth : (i : ℕ) → i < e.count → i ≡ 3 → entry_of e.d ≡ get_or (entries_of e) i (marked 0)
-  entry-fourth i h d = rw d (entry_kept 3 (omega arith))
-
-  pub entry_past : (i : ℕ) → e.count ≤ i → marked 0 ≡ get_or (entries_of e) i (marked 0)
-  entry_past i h = sym (get_or-eq_default (entries_of e) (marked 0) {n = i} (omega (arith, entries-within)))
-
-  pub entry-beyond : (i : ℕ) → 4 ≤ i → marked 0 ≡ get_or (entries_of e) i (marked 0)
-  entry-beyond i h = sym (get_or-eq_default (entries_of e) (marked 0) {n = i} (omega (arith, entries-few)))
+  entry_kept n i d full c h =
+      sym (get_or-take e.count (take 4 all) i (marked 0) (omega (arith, entries-within)) ∙ get_or-take 4 all i (marked 0) (omega (arith, entries-few)) ∙ get_or-map entry_of e.entries i d (marked 0) (omega (arith, entries-few)))
 
   -- ---- another entry at a position
 
-  module _ (i : ℕ) (x : Held) where
-    put-by : (n : ℕ) → take e.count (set all n (entry_of x)) ≡ set (entries_of e) n (entry_of x)
-    unfolding entries_of
-    put-by n = take-set e.count all n (entry_of x)
+  put-entry : (i : ℕ) (x : Held) → entries_of (record { count = e.count; entries = set e.entries i x }) ≡ set (entries_of e) i (entry_of x)
+  unfolding entries_of
+  put-entry i x = ap (λ l. take e.count (take 4 l)) (map-set entry_of e.entries i x) ∙ ap (take e.count) (take-set 4 all i (entry_of x)) ∙ take-set e.count (take 4 all) i (entry_of x)
 
-    pub put_first : i ≡ 0 → entries_of (record { count = e.count; a = x; b = e.b; c = e.c; d = e.d }) ≡ set (entries_of e) i (entry_of x)
-    unfolding entries_of
-    put_first d = rw d (put-by 0)
-
-    pub put_second : i ≡ 1 → entries_of (record { count = e.count; a = e.a; b = x; c = e.c; d = e.d }) ≡ set (entries_of e) i (entry_of x)
-    unfolding entries_of
-    put_second d = rw d (put-by 1)
-
-    pub put-third : i ≡ 2 → entries_of (record { count = e.count; a = e.a; b = e.b; c = x; d = e.d }) ≡ set (entries_of e) i (entry_of x)
-    unfolding entries_of
-    put-third d = rw d (put-by 2)
-
-    pub put-fourth : i ≡ 3 → entries_of (record { count = e.count; a = e.a; b = e.b; c = e.c; d = x }) ≡ set (entries_of e) i (entry_of x)
-    unfolding entries_of
-    put-fourth d = rw d (put-by 3)
-
-  pub put-none : (i : ℕ) (x : Entry) → 4 ≤ i → entries_of e ≡ set (entries_of e) i x
-  put-none i x d = sym (set_out (entries_of e) i x (omega (arith, entries-few)))
-
-  module _ (x : Held) where
+  module _ (x : Held) (full : length e.entries ≡ 4) where
     pub grows_none : 4 ≤ e.count → entries_of e ≡ one_more (entries_of e) (entry_of x)
     unfolding one_more
-    grows_none h = rw (le-ltb (length (entries_of e)) 4 (omega (arith, entries-four h))) refl
+    grows_none h = rw (le-ltb (length (entries_of e)) 4 (omega (arith, entries-count 4 full (omega arith)))) refl
 
-    pub grows-put : (r : Entries) → e.count < 4
-        → entries_of r ≡ set (entries_of (record { count = e.count + 1; a = e.a; b = e.b; c = e.c; d = e.d })) e.count (entry_of x)
-        → entries_of r ≡ one_more (entries_of e) (entry_of x)
+    pub grows-put : e.count < 4 → entries_of (record { count = e.count + 1; entries = set e.entries e.count x }) ≡ one_more (entries_of e) (entry_of x)
     unfolding entries_of one_more
-    grows-put r h d =
-        let n : e.count + 1 ≡ suc e.count = omega arith in
-        let g = entries-count h in
-        d
-        ∙ rw n (sym (take-set-lt (suc e.count) all e.count (entry_of x) (omega arith)))
-        ∙ take-suc-set all e.count (entry_of x) (omega arith)
-        ∙ rw (lt-ltb (length (take e.count all)) 4 (omega arith)) refl
+    grows-put h =
+        let f : length all ≡ 4 = length-map e.entries entry_of ∙ full in
+        let g = entries-count e.count full (omega arith) in
+        rw (map-set entry_of e.entries e.count x, take_all 4 (set all e.count (entry_of x)) (omega (arith, length-set all e.count (entry_of x))), take_all 4 all (omega arith), lt-ltb (length (take e.count all)) 4 (simp length-take (omega arith)))
+        (take_more_set all e.count (entry_of x) (omega arith))
 
 -- where there is room
 pub one_more_lem : (l : List Entry) (x : Entry) → length l < 4 → one_more l x ≡ l ++ (x ∷ [])
@@ -142,9 +101,13 @@ bound-set (marked i ∷ l) zero k = refl
 bound-set (fixed x ∷ l) (suc j) k = ap (λ m. Some x ∷ m) (bound-set l j k)
 bound-set (marked i ∷ l) (suc j) k = ap (λ m. None ∷ m) (bound-set l j k)
 
--- k is read back from its bits
-pub fix-bound : (e r : Entries) (j : ℕ) (k : ℤ) → SFits w64 k → entries_of r ≡ set (entries_of e) j (fixed (to_z w64 (of_z w64 k))) → bound_of (entries_of r) ≡ set_at j k (bound_of (entries_of e))
-fix-bound e r j k f d = ap bound_of (d ∙ ap (λ z. set (entries_of e) j (fixed z)) (to_z-of_z f)) ∙ bound-set (entries_of e) j k
+module _ (e : Entries) (j : ℕ) (k : ℤ) where
+  -- k is read back from its bits
+  pub fix-within : SFits w64 k → bound_of (entries_of (record { count = e.count; entries = set e.entries j (Fixed (to_z w64 (of_z w64 k))) })) ≡ set_at j k (bound_of (entries_of e))
+  fix-within f = ap bound_of (put-entry e j (Fixed (to_z w64 (of_z w64 k))) ∙ ap (λ z. set (entries_of e) j (fixed z)) (to_z-of_z f)) ∙ bound-set (entries_of e) j k
+
+  pub fix-past : 4 ≤ j → bound_of (entries_of e) ≡ set_at j k (bound_of (entries_of e))
+  fix-past h = ap bound_of (sym (set_out (entries_of e) j (fixed k) (omega (arith, entries-few e)))) ∙ bound-set (entries_of e) j k
 
 -- ---- marks
 
@@ -198,9 +161,9 @@ module _ (l : List Entry) (i : ℕ) where
   pub placing-start : Placing l i 0
   placing-start = record { placing = refl }
 
-  pub placing-end : (n k : ℕ) → n ≡ length l → Placing l i k → n ≤ k → k ≡ position_of i l 0
+  pub placing-end : (n k : ℕ) → n ≡ length l → Placing l i k → n ≤ k → k ≤ n → n ≡ position_of i l 0
   unfolding position_of
-  placing-end n k e p h = sym (ap (λ t. position_of i t k) (drop_of_length-le l {i = k} (omega arith))) ∙ p.placing
+  placing-end n k e p h g = let d : n ≡ k = omega arith in d ∙ sym (ap (λ t. position_of i t k) (drop_of_length-le l {i = k} (omega arith))) ∙ p.placing
 
   position-by : (x : Entry) (t : List Entry) (k : ℕ) (b : Bool) → marks_index i x ≡ b → position_of i (x ∷ t) k ≡ elim b as (λ _. ℕ) [ true ↦ k | false ↦ position_of i t (suc k) ]
   unfolding position_of

@@ -1,5 +1,7 @@
 -- Laws of the readers of one token over plain variables: an index, an entry, a number, the data section's ends.
-use Rattle.std.specs.Prelude.{Option, Some, None}
+use Rattle.std.specs.Prelude.{Err, Ok, Result, Option, Some, None}
+use Rattle.rules.specs.declared.Refused.{Refused}
+use Rattle.data.specs.declared.reading.entries.Entry.{Entry}
 use mathlib.Core.Path.{◌≡◌, refl, sym, ◌∙◌, ap, subst}
 use mathlib.Core.Bool.{Bool, true, false, ◌||◌}
 use mathlib.Core.List.{List, [], ◌∷◌}
@@ -12,7 +14,6 @@ use lib.Signed.{mag}
 use mir.Syntax.{w64}
 use mir.Val.{SFits, to_z, of_z}
 use mir.Facts.{to_z-of_z, to_z_pos}
-use Rattle.rules.specs.declared.Refusal.{Refusal}
 use Rattle.rules.specs.declared.Refusal.TheVariants.{Misplaced, Missing}
 use Rattle.value.specs.Decimal.{negate}
 use Rattle.value.proofs.Integers.{sfits, back, nat_abs-neg}
@@ -22,21 +23,13 @@ use Rattle.language.proofs.Outcome.{some-injective, none-some}
 use Rattle.language.specs.Syntax.{Name, Sort}
 use Rattle.language.specs.Reader.{Reader, Read, follow, give, next, name_of, string_of, demand, require, read_string, Used, find, found, known, read_known, is_index, read_index}
 use Rattle.language.specs.Data.{marked, digits_of, with_minus, signed_entry, entry_by, read_entry, value_of, signed_value, read_close, is_end, read_end}
-use Rattle.tokens.specs.declared.Move.TheVariants as move
 use Rattle.tokens.specs.declared.Seen.{Seen}
-use Rattle.tokens.specs.declared.Seen.TheVariants as seen
 use Rattle.tokens.specs.declared.Known.{Known}
 use Rattle.tokens.specs.Stored.{name_bytes, spelling, kind_of, token, from, Sees, Looks, Shaped, Named, Knowing, KnownAt, Knows}
 use Rattle.tokens.proofs.Tables.{false-true, mark-of, mark-same, index-sort, other-sort, no-string}
 use Rattle.tokens.proofs.Moved.{next-is, knows-of}
-use Rattle.data.specs.declared.reading.heads.Indexed.{Indexed}
-use Rattle.data.specs.declared.reading.heads.Indexed.TheVariants as index
-use Rattle.data.specs.declared.reading.heads.Entered.{Entered}
-use Rattle.data.specs.declared.reading.heads.Entered.TheVariants as entry
 use Rattle.data.specs.declared.reading.entries.Entry.TheVariants.{Fixed, Marked}
 use Rattle.data.specs.declared.reading.numbers.Numbered.{Numbered}
-use Rattle.data.specs.declared.reading.numbers.Numbered.TheVariants as number
-use Rattle.data.specs.declared.reading.ends.Titled.TheVariants as title
 use Rattle.data.specs.Reading.Readers.{Answers, Says, leaves, indexed, index_in, entered, mark_in, numbered, literal_in, number_in, passed, titled}
 
 -- ---- kinds
@@ -103,156 +96,156 @@ signed-value false m s = refl
 
 -- ---- a token
 
-module _ (ts : List ℕ) (at : ℕ) (t : Seen) (h : Looks ts at t) where
-  sees : (s : List ℕ) (w : Seen) → t ≡ w → Sees s ts at w
+module _ (ts : List ℕ) (at : ℕ) (t : Result Seen Refused) (h : Looks ts at t) where
+  sees : (s : List ℕ) (w : Result Seen Refused) → t ≡ w → Sees s ts at w
   sees s w e = subst (Sees s ts at) e (h.sees s)
 
-  taken : (s : List ℕ) (k p x a : ℕ) → t ≡ seen.Token k p x a → next (from s ts at) ≡ leaves (token s k p x) s ts a
-  taken s k p x a e = next-is s ts at k p x a (sees s _ e)
+  taken : (s : List ℕ) (w : Seen) → t ≡ Ok w → next (from s ts at) ≡ leaves (token s w.kind w.place w.payload) s ts w.next
+  taken s z e = next-is s ts at z (sees s _ e)
 
-  wrong : (s : List ℕ) (n : Refusal) (p : ℕ) → t ≡ seen.Refused n p → next (from s ts at) ≡ refused n p
-  wrong s n p e = (sees s _ e).nexts
+  wrong : (s : List ℕ) (e : Refused) → t ≡ Err e → next (from s ts at) ≡ refused e.refusal e.place
+  wrong s z e = (sees s _ e).nexts
 
   -- ---- a string
 
-  pub title-wrong : (n : Refusal) (p : ℕ) → t ≡ seen.Refused n p → Says titled read_string ts at (title.Refused n p)
+  pub title-wrong : (e : Refused) → t ≡ Err e → Says titled read_string ts at (Err e)
   unfolding read_string
-  title-wrong n p e = record { is = λ s. rw (wrong s n p e) refl }
+  title-wrong z e = record { is = λ s. rw (wrong s z e) refl }
 
-  pub title-yes : (k p x a : ℕ) → t ≡ seen.Token k p x a → k ≡ 4 → Says titled read_string ts at (title.Of p x a)
+  pub title-yes : (w : Seen) → t ≡ Ok w → w.kind ≡ 4 → Says titled read_string ts at (Ok (record { place = w.place; length = w.payload; next = w.next }))
   unfolding read_string demand string_of token kind_of
-  title-yes k p x a e i = record { is = λ s. rw (taken s k p x a e, i) refl }
+  title-yes z e i = record { is = λ s. rw (taken s z e, i) refl }
 
-  pub title-no : (k p x a : ℕ) → t ≡ seen.Token k p x a → (k ≡ 4 → ⊥) → Says titled read_string ts at (title.Refused Misplaced p)
+  pub title-no : (w : Seen) → t ≡ Ok w → (w.kind ≡ 4 → ⊥) → Says titled read_string ts at (Err (record { refusal = Misplaced; place = w.place }))
   unfolding read_string demand token
-  title-no k p x a e i = record { is = λ s. rw (taken s k p x a e, no-string s k p x i) refl }
+  title-no z e i = record { is = λ s. rw (taken s z e, no-string s z.kind z.place z.payload i) refl }
 
   -- ---- `CLOSE`, and the text's end
 
-  pub close-wrong : (n : Refusal) (p : ℕ) → t ≡ seen.Refused n p → Says passed read_close ts at (move.Refused n p)
+  pub close-wrong : (e : Refused) → t ≡ Err e → Says passed read_close ts at (Err e)
   unfolding read_close
-  close-wrong n p e = record { is = λ s. rw (wrong s n p e) refl }
+  close-wrong z e = record { is = λ s. rw (wrong s z e) refl }
 
-  pub close-sign : (k p x a : ℕ) → t ≡ seen.Token k p x a → (eqb k 43 || eqb k 45) ≡ true → Says passed read_close ts at (move.Refused Missing p)
+  pub close-sign : (w : Seen) → t ≡ Ok w → (eqb w.kind 43 || eqb w.kind 45) ≡ true → Says passed read_close ts at (Err (record { refusal = Missing; place = w.place }))
   unfolding read_close require token
-  close-sign k p x a e i = record { is = λ s. rw (taken s k p x a e, mark-of s k p x, mark-same k 43 (omega arith), mark-same k 45 (omega arith), i) refl }
+  close-sign z e i = record { is = λ s. rw (taken s z e, mark-of s z.kind z.place z.payload, mark-same z.kind 43 (omega arith), mark-same z.kind 45 (omega arith), i) refl }
 
-  pub close-yes : (k p x a : ℕ) → t ≡ seen.Token k p x a → (eqb k 43 || eqb k 45) ≡ false → k ≡ 129 → Says passed read_close ts at (move.At a)
+  pub close-yes : (w : Seen) → t ≡ Ok w → (eqb w.kind 43 || eqb w.kind 45) ≡ false → w.kind ≡ 129 → Says passed read_close ts at (Ok w.next)
   unfolding read_close require token
-  close-yes k p x a e i j =
-      record { is = λ s. rw (taken s k p x a e, mark-of s k p x, mark-same k 43 (omega arith), mark-same k 45 (omega arith), i, mark-same k 129 (omega arith), eq-eqb k 129 j) refl }
+  close-yes z e i j =
+      record { is = λ s. rw (taken s z e, mark-of s z.kind z.place z.payload, mark-same z.kind 43 (omega arith), mark-same z.kind 45 (omega arith), i, mark-same z.kind 129 (omega arith), eq-eqb z.kind 129 j) refl }
 
-  pub close-no : (k p x a : ℕ) → t ≡ seen.Token k p x a → (eqb k 43 || eqb k 45) ≡ false → (k ≡ 129 → ⊥) → Says passed read_close ts at (move.Refused Misplaced p)
+  pub close-no : (w : Seen) → t ≡ Ok w → (eqb w.kind 43 || eqb w.kind 45) ≡ false → (w.kind ≡ 129 → ⊥) → Says passed read_close ts at (Err (record { refusal = Misplaced; place = w.place }))
   unfolding read_close require token
-  close-no k p x a e i j =
-      record { is = λ s. rw (taken s k p x a e, mark-of s k p x, mark-same k 43 (omega arith), mark-same k 45 (omega arith), i, mark-same k 129 (omega arith), ne_eqb k 129 j) refl }
+  close-no z e i j =
+      record { is = λ s. rw (taken s z e, mark-of s z.kind z.place z.payload, mark-same z.kind 43 (omega arith), mark-same z.kind 45 (omega arith), i, mark-same z.kind 129 (omega arith), ne_eqb z.kind 129 j) refl }
 
-  pub end-wrong : (n : Refusal) (p : ℕ) → t ≡ seen.Refused n p → Says passed read_end ts at (move.Refused n p)
+  pub end-wrong : (e : Refused) → t ≡ Err e → Says passed read_end ts at (Err e)
   unfolding read_end
-  end-wrong n p e = record { is = λ s. rw (wrong s n p e) refl }
+  end-wrong z e = record { is = λ s. rw (wrong s z e) refl }
 
-  pub end-yes : (k p x a : ℕ) → t ≡ seen.Token k p x a → k ≡ 0 → Says passed read_end ts at (move.At a)
+  pub end-yes : (w : Seen) → t ≡ Ok w → w.kind ≡ 0 → Says passed read_end ts at (Ok w.next)
   unfolding read_end require token kind_of
-  end-yes k p x a e i = record { is = λ s. rw (taken s k p x a e, i) refl }
+  end-yes z e i = record { is = λ s. rw (taken s z e, i) refl }
 
-  pub end-no : (k p x a : ℕ) → t ≡ seen.Token k p x a → (k ≡ 0 → ⊥) → Says passed read_end ts at (move.Refused Misplaced p)
+  pub end-no : (w : Seen) → t ≡ Ok w → (w.kind ≡ 0 → ⊥) → Says passed read_end ts at (Err (record { refusal = Misplaced; place = w.place }))
   unfolding read_end require token
-  end-no k p x a e i = record { is = λ s. rw (taken s k p x a e, no_end s k p x i) refl }
+  end-no z e i = record { is = λ s. rw (taken s z e, no_end s z.kind z.place z.payload i) refl }
 
   -- ---- a number
 
   module _ (sign : ℕ) (minus : Bool) where
-    pub literal-wrong : (n : Refusal) (p : ℕ) → t ≡ seen.Refused n p → Says numbered (literal_in sign minus) ts at (number.Refused n p)
+    pub literal-wrong : (e : Refused) → t ≡ Err e → Says numbered (literal_in sign minus) ts at (Err e)
     unfolding literal_in
-    literal-wrong n p e = record { is = λ s. rw (wrong s n p e) refl }
+    literal-wrong z e = record { is = λ s. rw (wrong s z e) refl }
 
-    pub literal-yes : (k p x a : ℕ) (z : ℤ) → t ≡ seen.Token k p x a → (eqb k 2 || eqb k 3) ≡ true → z ≡ with_minus minus (pos (x / 8)) → mag z < 2 ^ 63
-        → Says numbered (literal_in sign minus) ts at (number.Of (record { m = to_z w64 (of_z w64 z); s = x % 8 }) sign a)
+    pub literal-yes : (w : Seen) (z : ℤ) → t ≡ Ok w → (eqb w.kind 2 || eqb w.kind 3) ≡ true → z ≡ with_minus minus (pos (w.payload / 8)) → mag z < 2 ^ 63
+        → Says numbered (literal_in sign minus) ts at (Ok (record { value = (record { m = to_z w64 (of_z w64 z); s = w.payload % 8 }); place = sign; next = w.next }))
     unfolding literal_in demand token
-    literal-yes k p x a z e i j b =
-        record { is = λ s. rw (taken s k p x a e, some-value s k p x i, signed-value minus (pos (x / 8)) (x % 8), ← j) (rw (back {z = z} b) refl) }
+    literal-yes w z e i j b =
+        record { is = λ s. rw (taken s w e, some-value s w.kind w.place w.payload i, signed-value minus (pos (w.payload / 8)) (w.payload % 8), ← j) (rw (back {z = z} b) refl) }
 
-    pub literal-no : (k p x a : ℕ) → t ≡ seen.Token k p x a → (eqb k 2 || eqb k 3) ≡ false → Says numbered (literal_in sign minus) ts at (number.Refused Misplaced p)
+    pub literal-no : (w : Seen) → t ≡ Ok w → (eqb w.kind 2 || eqb w.kind 3) ≡ false → Says numbered (literal_in sign minus) ts at (Err (record { refusal = Misplaced; place = w.place }))
     unfolding literal_in demand token
-    literal-no k p x a e i = record { is = λ s. rw (taken s k p x a e, no_value s k p x i) refl }
+    literal-no z e i = record { is = λ s. rw (taken s z e, no_value s z.kind z.place z.payload i) refl }
 
-  pub number-wrong : (n : Refusal) (p : ℕ) → t ≡ seen.Refused n p → Says numbered number_in ts at (number.Refused n p)
+  pub number-wrong : (e : Refused) → t ≡ Err e → Says numbered number_in ts at (Err e)
   unfolding number_in
-  number-wrong n p e = record { is = λ s. rw (wrong s n p e) refl }
+  number-wrong z e = record { is = λ s. rw (wrong s z e) refl }
 
-  pub number-no : (k p x a : ℕ) → t ≡ seen.Token k p x a → (eqb k 43 || eqb k 45) ≡ false → Says numbered number_in ts at (number.Refused Missing p)
+  pub number-no : (w : Seen) → t ≡ Ok w → (eqb w.kind 43 || eqb w.kind 45) ≡ false → Says numbered number_in ts at (Err (record { refusal = Missing; place = w.place }))
   unfolding number_in require token
-  number-no k p x a e i = record { is = λ s. rw (taken s k p x a e, mark-of s k p x, mark-same k 43 (omega arith), mark-same k 45 (omega arith), i) refl }
+  number-no z e i = record { is = λ s. rw (taken s z e, mark-of s z.kind z.place z.payload, mark-same z.kind 43 (omega arith), mark-same z.kind 45 (omega arith), i) refl }
 
-  pub number-yes : (k p x a : ℕ) (r : Numbered) → t ≡ seen.Token k p x a → (eqb k 43 || eqb k 45) ≡ true → Says numbered (literal_in p (eqb k 45)) ts a r → Says numbered number_in ts at r
+  pub number-yes : (w : Seen) (r : Result Numbered Refused) → t ≡ Ok w → (eqb w.kind 43 || eqb w.kind 45) ≡ true → Says numbered (literal_in w.place (eqb w.kind 45)) ts w.next r → Says numbered number_in ts at r
   unfolding number_in require token
-  number-yes k p x a r e i g =
-      record { is = λ s. rw (taken s k p x a e, mark-of s k p x, mark-same k 43 (omega arith), mark-same k 45 (omega arith), i) (g.is s) }
+  number-yes z r e i g =
+      record { is = λ s. rw (taken s z e, mark-of s z.kind z.place z.payload, mark-same z.kind 43 (omega arith), mark-same z.kind 45 (omega arith), i) (g.is s) }
 
   -- ---- a fixed entry
 
   module _ (minus : Bool) where
-    pub fixed-wrong : (n : Refusal) (p : ℕ) → t ≡ seen.Refused n p → Says entered (signed_entry minus) ts at (entry.Refused n p)
+    pub fixed-wrong : (e : Refused) → t ≡ Err e → Says entered (signed_entry minus) ts at (Err e)
     unfolding signed_entry
-    fixed-wrong n p e = record { is = λ s. rw (wrong s n p e) refl }
+    fixed-wrong z e = record { is = λ s. rw (wrong s z e) refl }
 
-    pub fixed-yes : (k p x a : ℕ) (z : ℤ) → t ≡ seen.Token k p x a → k ≡ 2 → z ≡ with_minus minus (pos (x / 8)) → mag z < 2 ^ 63
-        → Says entered (signed_entry minus) ts at (entry.Of (Fixed (to_z w64 (of_z w64 z))) a)
+    pub fixed-yes : (w : Seen) (z : ℤ) → t ≡ Ok w → w.kind ≡ 2 → z ≡ with_minus minus (pos (w.payload / 8)) → mag z < 2 ^ 63
+        → Says entered (signed_entry minus) ts at (Ok ((Fixed (to_z w64 (of_z w64 z))), w.next))
     unfolding signed_entry demand digits_of token kind_of
-    fixed-yes k p x a z e i j b = record { is = λ s. rw (taken s k p x a e, i) (rw (back {z = z} b, j) refl) }
+    fixed-yes w z e i j b = record { is = λ s. rw (taken s w e, i) (rw (back {z = z} b, j) refl) }
 
-    pub fixed_no : (k p x a : ℕ) → t ≡ seen.Token k p x a → (k ≡ 2 → ⊥) → Says entered (signed_entry minus) ts at (entry.Refused Misplaced p)
+    pub fixed_no : (w : Seen) → t ≡ Ok w → (w.kind ≡ 2 → ⊥) → Says entered (signed_entry minus) ts at (Err (record { refusal = Misplaced; place = w.place }))
     unfolding signed_entry demand token
-    fixed_no k p x a e i = record { is = λ s. rw (taken s k p x a e, no-digits s k p x i) refl }
+    fixed_no z e i = record { is = λ s. rw (taken s z e, no-digits s z.kind z.place z.payload i) refl }
 
 -- ---- a declared index
 
-module _ (s ns ts : List ℕ) (at : ℕ) (r : Known) (told : KnownAt s ns ts at r) where
+module _ (s ns ts : List ℕ) (at : ℕ) (r : Result Known Refused) (told : KnownAt s ns ts at r) where
   h : Knows s ns ts at r
   h = knows-of s ns ts at r told
 
-  knowing : (names : List Name) → Named s ns names → (w : Known) → r ≡ w → Knowing (read_known names (from s ts at)) s ts w
+  knowing : (names : List Name) → Named s ns names → (w : Result Known Refused) → r ≡ w → Knowing (read_known names (from s ts at)) s ts w
   knowing names d w e = subst (Knowing (read_known names (from s ts at)) s ts) e (h.knows names d)
 
   index_test : Used → Reader ℕ
   index_test u ts = follow (follow (require (is_index u.sort) Misplaced u.place ts) (λ _. give u)) (λ u. give u.number)
 
-  pub index-wrong : (n : Refusal) (p : ℕ) → r ≡ Known.Refused n p → Answers indexed index_in s ns ts at (index.Refused n p)
+  pub index-wrong : (e : Refused) → r ≡ Err e → Answers indexed index_in s ns ts at (Err e)
   unfolding index_in read_index
-  index-wrong n p e = record { is = λ names d. go (read_known names (from s ts at)) (knowing names d (Known.Refused n p) e) }
+  index-wrong z e = record { is = λ names d. go (read_known names (from s ts at)) (knowing names d (Err z) e) }
     where
-      go : (o : Outcome (Read Used)) → Knowing o s ts (Known.Refused n p)
-          → follow (follow o (λ u ts. follow (require (is_index u.sort) Misplaced u.place ts) (λ _. give u))) (λ u. give u.number) ≡ refused n p
+      go : (o : Outcome (Read Used)) → Knowing o s ts (Err z)
+          → follow (follow o (λ u ts. follow (require (is_index u.sort) Misplaced u.place ts) (λ _. give u))) (λ u. give u.number) ≡ refused z.refusal z.place
       go (done x) k = absurd k
       go (refused m q) k = rw (k.0, k.1) refl
 
-  index-by : (i sort count p a : ℕ) (b : Bool) (z : Indexed) → r ≡ Known.Name i sort count p a → ((x : Sort) → Shaped x sort count → is_index x ≡ b)
-      → ((u : Used) → u.place ≡ p → u.number ≡ i → follow (follow (require b Misplaced u.place (from s ts a)) (λ _. give u)) (λ u. give u.number) ≡ indexed s ts z)
+  index-by : (w : Known) (b : Bool) (z : Result (ℕ × ℕ) Refused) → r ≡ Ok w → ((x : Sort) → Shaped x w.sort w.count → is_index x ≡ b)
+      → ((u : Used) → u.place ≡ w.place → u.number ≡ w.number → follow (follow (require b Misplaced u.place (from s ts w.next)) (λ _. give u)) (λ u. give u.number) ≡ indexed s ts z)
       → Answers indexed index_in s ns ts at z
   unfolding index_in read_index
-  index-by i sort count p a b z e f g = record { is = λ names d. go (read_known names (from s ts at)) (knowing names d (Known.Name i sort count p a) e) }
+  index-by w b z e f g = record { is = λ names d. go (read_known names (from s ts at)) (knowing names d (Ok w) e) }
     where
-      go : (o : Outcome (Read Used)) → Knowing o s ts (Known.Name i sort count p a)
+      go : (o : Outcome (Read Used)) → Knowing o s ts (Ok w)
           → follow (follow o (λ u ts. follow (require (is_index u.sort) Misplaced u.place ts) (λ _. give u))) (λ u. give u.number) ≡ indexed s ts z
       go (done x) k = rw (k.0, f x.what.sort k.2) (g x.what k.3 k.1)
       go (refused m q) k = absurd k
 
-  pub index-yes : (i sort count p a : ℕ) → r ≡ Known.Name i sort count p a → sort ≡ 0 → Answers indexed index_in s ns ts at (index.Number i a)
+  pub index-yes : (w : Known) → r ≡ Ok w → w.sort ≡ 0 → Answers indexed index_in s ns ts at (Ok (w.number, w.next))
   unfolding require
-  index-yes i sort count p a e f = index-by i sort count p a true (index.Number i a) e (λ x g. index-sort x sort count g f) (λ u q j. rw j refl)
+  index-yes z e f = index-by z true (Ok (z.number, z.next)) e (λ x g. index-sort x z.sort z.count g f) (λ u q j. rw j refl)
 
-  pub index-other : (i sort count p a : ℕ) → r ≡ Known.Name i sort count p a → (sort ≡ 0 → ⊥) → Answers indexed index_in s ns ts at (index.Refused Misplaced p)
+  pub index-other : (w : Known) → r ≡ Ok w → (w.sort ≡ 0 → ⊥) → Answers indexed index_in s ns ts at (Err (record { refusal = Misplaced; place = w.place }))
   unfolding require
-  index-other i sort count p a e f = index-by i sort count p a false (index.Refused Misplaced p) e (λ x g. other-sort x sort count g f) (λ u q j. rw q refl)
+  index-other z e f = index-by z false (Err (record { refusal = Misplaced; place = z.place })) e (λ x g. other-sort x z.sort z.count g f) (λ u q j. rw q refl)
 
-module _ (s ns ts : List ℕ) (at : ℕ) (r : Indexed) (h : Answers indexed index_in s ns ts at r) where
-  pub mark-yes : (i a : ℕ) → r ≡ index.Number i a → Answers entered mark_in s ns ts at (entry.Of (Marked i) a)
+module _ (s ns ts : List ℕ) (at : ℕ) (r : Result (ℕ × ℕ) Refused) (h : Answers indexed index_in s ns ts at r) where
+  pub mark-yes : (i a : ℕ) → r ≡ Ok (i, a) → Answers entered mark_in s ns ts at (Ok ((Marked i), a))
   unfolding mark_in
   mark-yes i a e = record { is = λ names d. rw (h.is names d, e) refl }
 
-  pub mark-wrong : (n : Refusal) (p : ℕ) → r ≡ index.Refused n p → Answers entered mark_in s ns ts at (entry.Refused n p)
+  pub mark-wrong : (e : Refused) → r ≡ Err e → Answers entered mark_in s ns ts at (Err e)
   unfolding mark_in
-  mark-wrong n p e = record { is = λ names d. rw (h.is names d, e) refl }
+  mark-wrong z e = record { is = λ names d. rw (h.is names d, e) refl }
 
 -- ---- an entry
 
@@ -296,34 +289,34 @@ module _ (names : List Name) (s : List ℕ) (p x : ℕ) (ts : List Token) where
   no-entry (suc (suc (suc (suc (suc zero))))) a b c d e = absurd (c refl)
   no-entry (suc (suc (suc (suc (suc (suc k)))))) a b c d e = rw (ne_eqb (suc (suc (suc (suc (suc (suc k)))))) 43 d, ne_eqb (suc (suc (suc (suc (suc (suc k)))))) 45 e) refl
 
-module _ (s ns ts : List ℕ) (at : ℕ) (t : Seen) (h : Looks ts at t) where
-  pub entry-wrong : (n : Refusal) (p : ℕ) → t ≡ seen.Refused n p → Answers entered read_entry s ns ts at (entry.Refused n p)
+module _ (s ns ts : List ℕ) (at : ℕ) (t : Result Seen Refused) (h : Looks ts at t) where
+  pub entry-wrong : (e : Refused) → t ≡ Err e → Answers entered read_entry s ns ts at (Err e)
   unfolding read_entry
-  entry-wrong n p e = record { is = λ names d. rw (wrong ts at t h s n p e) refl }
+  entry-wrong z e = record { is = λ names d. rw (wrong ts at t h s z e) refl }
 
-  pub entry-mark : (k p x a : ℕ) (r : Entered) → t ≡ seen.Token k p x a → k ≡ 1 → Answers entered mark_in s ns ts at r → Answers entered read_entry s ns ts at r
+  pub entry-mark : (w : Seen) (r : Result (Entry × ℕ) Refused) → t ≡ Ok w → w.kind ≡ 1 → Answers entered mark_in s ns ts at r → Answers entered read_entry s ns ts at r
   unfolding read_entry mark_in index_in read_index read_known demand name_of token kind_of entry_by
-  entry-mark k p x a r e i g =
+  entry-mark z r e i g =
       record {
         is = λ names d.
-            rw (taken ts at t h s k p x a e, i)
-            (sym (marked-same names (spelling s p (name_bytes x)) p (from s ts a)) ∙ (rw (taken ts at t h s k p x a e, i) at (g.is names d)));
+            rw (taken ts at t h s z e, i)
+            (sym (marked-same names (spelling s z.place (name_bytes z.payload)) z.place (from s ts z.next)) ∙ (rw (taken ts at t h s z e, i) at (g.is names d)));
       }
 
-  pub entry_whole : (k p x a : ℕ) (z : ℤ) → t ≡ seen.Token k p x a → k ≡ 2 → z ≡ with_minus false (pos (x / 8)) → mag z < 2 ^ 63
-      → Answers entered read_entry s ns ts at (entry.Of (Fixed (to_z w64 (of_z w64 z))) a)
+  pub entry_whole : (w : Seen) (z : ℤ) → t ≡ Ok w → w.kind ≡ 2 → z ≡ with_minus false (pos (w.payload / 8)) → mag z < 2 ^ 63
+      → Answers entered read_entry s ns ts at (Ok ((Fixed (to_z w64 (of_z w64 z))), w.next))
   unfolding read_entry token kind_of entry_by
-  entry_whole k p x a z e i j b = record { is = λ names d. rw (taken ts at t h s k p x a e, i) (rw (back {z = z} b, j) refl) }
+  entry_whole w z e i j b = record { is = λ names d. rw (taken ts at t h s w e, i) (rw (back {z = z} b, j) refl) }
 
-  pub entry-plus : (k p x a : ℕ) (r : Entered) → t ≡ seen.Token k p x a → k ≡ 43 → Says entered (signed_entry false) ts a r → Answers entered read_entry s ns ts at r
+  pub entry-plus : (w : Seen) (r : Result (Entry × ℕ) Refused) → t ≡ Ok w → w.kind ≡ 43 → Says entered (signed_entry false) ts w.next r → Answers entered read_entry s ns ts at r
   unfolding read_entry token kind_of entry_by
-  entry-plus k p x a r e i g = record { is = λ names d. rw (taken ts at t h s k p x a e, i) (g.is s) }
+  entry-plus z r e i g = record { is = λ names d. rw (taken ts at t h s z e, i) (g.is s) }
 
-  pub entry-minus : (k p x a : ℕ) (r : Entered) → t ≡ seen.Token k p x a → k ≡ 45 → Says entered (signed_entry true) ts a r → Answers entered read_entry s ns ts at r
+  pub entry-minus : (w : Seen) (r : Result (Entry × ℕ) Refused) → t ≡ Ok w → w.kind ≡ 45 → Says entered (signed_entry true) ts w.next r → Answers entered read_entry s ns ts at r
   unfolding read_entry token kind_of entry_by
-  entry-minus k p x a r e i g = record { is = λ names d. rw (taken ts at t h s k p x a e, i) (g.is s) }
+  entry-minus z r e i g = record { is = λ names d. rw (taken ts at t h s z e, i) (g.is s) }
 
-  pub entry_other : (k p x a : ℕ) → t ≡ seen.Token k p x a → (k ≡ 1 → ⊥) → (k ≡ 2 → ⊥) → (k ≡ 43 → ⊥) → (k ≡ 45 → ⊥) → Answers entered read_entry s ns ts at (entry.Refused Misplaced p)
+  pub entry_other : (w : Seen) → t ≡ Ok w → (w.kind ≡ 1 → ⊥) → (w.kind ≡ 2 → ⊥) → (w.kind ≡ 43 → ⊥) → (w.kind ≡ 45 → ⊥) → Answers entered read_entry s ns ts at (Err (record { refusal = Misplaced; place = w.place }))
   unfolding read_entry token
-  entry_other k p x a e b c d f =
-      record { is = λ names n. rw (taken ts at t h s k p x a e) (no-entry names s p x (from s ts a) k b c (sees ts at t h s _ e).0 d f) }
+  entry_other z e b c d f =
+      record { is = λ names n. rw (taken ts at t h s z e) (no-entry names s z.place z.payload (from s ts z.next) z.kind b c (sees ts at t h s _ e).0 d f) }

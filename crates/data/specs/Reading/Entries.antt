@@ -1,5 +1,5 @@
 -- A portion's entries as a list.
-use Rattle.std.specs.Prelude.{Bool, false, cond, List, [], ◌∷◌, ◌++◌, ℕ, eqb, ltb, length, take}
+use Rattle.std.specs.Prelude.{Bool, false, cond, List, [], ◌∷◌, ◌++◌, ℕ, eqb, ltb, length, map, take}
 use Rattle.language.specs.Data.{Entry, fixed, marked}
 use Rattle.data.specs.declared.reading.entries.Entry.{Entry as Held}
 use Rattle.data.specs.declared.reading.entries.Entry.TheVariants.{Fixed, Marked}
@@ -10,7 +10,7 @@ entry_of (Fixed k) = fixed k
 entry_of (Marked i) = marked i
 
 unfoldable pub entries_of : Entries → List Entry
-entries_of e = take e.count (entry_of e.a ∷ entry_of e.b ∷ entry_of e.c ∷ entry_of e.d ∷ [])
+entries_of e = take e.count (take 4 (map entry_of e.entries))
 
 abbrev pub marks_index : ℕ → Entry → Bool
 marks_index i (fixed k) = false

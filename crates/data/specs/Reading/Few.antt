@@ -5,7 +5,7 @@ use Rattle.data.specs.declared.reading.few.Few.{Few}
 
 -- the numbers that are kept
 unfoldable pub numbers_of : Few → List ℕ
-numbers_of f = take f.count (f.a ∷ f.b ∷ f.c ∷ f.d ∷ [])
+numbers_of f = take f.count (take 4 f.numbers)
 
 -- the numbers of a list, and no others
 pub record Holds (f : Few) (l : List ℕ) : Type 0 where

@@ -1,25 +1,20 @@
 -- The readers of a portion's entries, its order and its head.
-use Rattle.std.specs.Prelude.{◌≡◌, Bool, true, false, List, [], ◌∷◌, ℕ, zero, suc, ◌≤◌, length}
+use Rattle.std.specs.Prelude.{Err, Ok, Result, ◌≡◌, List, [], ◌∷◌, ℕ, zero, suc, ◌≤◌, length}
+use Rattle.rules.specs.declared.Refused.{Refused}
+use Rattle.data.specs.declared.reading.entries.Entries.{Entries}
 use Rattle.rules.specs.declared.Refusal.TheVariants.{BadIndex}
 use Rattle.rules.specs.Limits.{byte_limit, nesting_limit}
-use Rattle.lexer.specs.Marks.{comma, opens_list, closes_list, closes}
+use Rattle.lexer.specs.Marks.{comma, opens_list, closes_list}
 use Rattle.language.specs.Outcome.{Outcome, done, refused}
 use Rattle.language.specs.Syntax.{Name}
-use Rattle.language.specs.Reader.{Reader, Read, ◌>>=◌, give, next, look, is_mark, require, expect, bracket}
+use Rattle.language.specs.Reader.{Reader, Read, ◌>>=◌, give, require, expect, bracket}
 use Rattle.language.specs.Data.{Entry, read_entry, marks_of, no_repeats, rearranges, positions_of, order_from, read_order}
 use Rattle.tokens.specs.Stored.{from, Named}
-use Rattle.data.specs.declared.reading.heads.Listed.{Listed}
-use Rattle.data.specs.declared.reading.heads.Listed.TheVariants as list
-use Rattle.data.specs.declared.reading.heads.Turn.{Turn}
-use Rattle.data.specs.declared.reading.heads.Turn.TheVariants as turn
-use Rattle.data.specs.declared.reading.heads.Order.{Order}
-use Rattle.data.specs.declared.reading.heads.Order.TheVariants as order
 use Rattle.data.specs.declared.reading.heads.Plan.{Plan}
-use Rattle.data.specs.declared.reading.heads.Plan.TheVariants as plan
 use Rattle.data.specs.declared.reading.few.Few.{Few}
 use Rattle.data.specs.Reading.Few.{numbers_of, Keeps}
 use Rattle.data.specs.Reading.Entries.{entries_of}
-use Rattle.data.specs.Reading.Readers.{leaves, index_in}
+use Rattle.data.specs.Reading.Readers.{leaves}
 
 -- ---- entries
 
@@ -43,57 +38,29 @@ list_in (suc n) names = do
   es ← list_in n names
   give (e ∷ es)
 
-abbrev pub listed : List ℕ → List ℕ → Listed → Outcome (Read (List Entry))
-listed s ts (list.Of e a) = leaves (entries_of e) s ts a
-listed s ts (list.Refused r p) = refused r p
+abbrev pub listed : List ℕ → List ℕ → Result (Entries × ℕ) Refused → Outcome (Read (List Entry))
+listed s ts (Ok (e, a)) = leaves (entries_of e) s ts a
+listed s ts (Err e) = refused e.refusal e.place
 
 -- of a domain of at most four indices
-pub record Lists (s ns ts : List ℕ) (at n : ℕ) (r : Listed) : Type 0 where
+pub record Lists (s ns ts : List ℕ) (at n : ℕ) (r : Result (Entries × ℕ) Refused) : Type 0 where
   pub is : (names : List Name) → Named s ns names → n ≤ 4 → list_in n names (from s ts at) ≡ listed s ts r
 
 -- ---- an order
 
-pub record OrderItem : Type 0 where
-  pub number : ℕ
-  pub more : Bool
-
-unfoldable pub behind_by : ℕ → Bool → Reader OrderItem
-behind_by i true = do
-  _ ← next
-  give (record { number = i; more = true })
-behind_by i false = do
-  _ ← expect closes
-  give (record { number = i; more = false })
-
--- the comma or the `)` behind the index i
-unfoldable pub behind_in : ℕ → Reader OrderItem
-behind_in i = do
-  t ← look
-  behind_by i (is_mark comma t)
-
-unfoldable pub turn_in : List Name → Reader OrderItem
-turn_in names = do
-  i ← index_in names
-  behind_in i
-
-abbrev pub turned : List ℕ → List ℕ → Turn → Outcome (Read OrderItem)
-turned s ts (turn.More i a) = leaves (record { number = i; more = true }) s ts a
-turned s ts (turn.Last i a) = leaves (record { number = i; more = false }) s ts a
-turned s ts (turn.Refused r p) = refused r p
-
-abbrev pub OrderIs : Outcome (Read (List ℕ)) → List ℕ → List ℕ → Order → Type 0
-OrderIs (done x) s ts (order.Of f a) = (x.rest ≡ from s ts a) × Keeps f x.what
-OrderIs (done x) s ts (order.Refused r p) = ⊥
-OrderIs (refused r q) s ts (order.Of f a) = ⊥
-OrderIs (refused r q) s ts (order.Refused r' p) = (r ≡ r') × (q ≡ p)
+abbrev pub OrderIs : Outcome (Read (List ℕ)) → List ℕ → List ℕ → Result (Few × ℕ) Refused → Type 0
+OrderIs (done x) s ts (Ok (f, a)) = (x.rest ≡ from s ts a) × Keeps f x.what
+OrderIs (done x) s ts (Err e) = ⊥
+OrderIs (refused r q) s ts (Ok (f, a)) = ⊥
+OrderIs (refused r q) s ts (Err e) = (r ≡ e.refusal) × (q ≡ e.place)
 
 -- the indices of an order: of a long one, that it is long
-pub record Ordered (s ns ts : List ℕ) (at : ℕ) (r : Order) : Type 0 where
+pub record Ordered (s ns ts : List ℕ) (at : ℕ) (r : Result (Few × ℕ) Refused) : Type 0 where
   pub is : (names : List Name) → Named s ns names → OrderIs (order_from names byte_limit (from s ts at)) s ts r
 
-abbrev pub ordered : List ℕ → List ℕ → Order → Outcome (Read (List ℕ))
-ordered s ts (order.Of f a) = leaves (numbers_of f) s ts a
-ordered s ts (order.Refused r p) = refused r p
+abbrev pub ordered : List ℕ → List ℕ → Result (Few × ℕ) Refused → Outcome (Read (List ℕ))
+ordered s ts (Ok (f, a)) = leaves (numbers_of f) s ts a
+ordered s ts (Err e) = refused e.refusal e.place
 
 -- the marks m rearranged, for the portion's name at p
 unfoldable pub bracketed_in : ℕ → List ℕ → List Name → Reader (List ℕ)
@@ -106,7 +73,7 @@ unfoldable pub optional_in : ℕ → List ℕ → List Name → Reader (List ℕ
 optional_in p m names = read_order names p m
 
 -- an order of at most four marks
-pub record Orders (o : List ℕ → List Name → Reader (List ℕ)) (s ns ts : List ℕ) (at : ℕ) (marks : Few) (r : Order) : Type 0 where
+pub record Orders (o : List ℕ → List Name → Reader (List ℕ)) (s ns ts : List ℕ) (at : ℕ) (marks : Few) (r : Result (Few × ℕ) Refused) : Type 0 where
   pub is : (names : List Name) → Named s ns names → (m : List ℕ) → Keeps marks m → length m ≤ 4 → o m names (from s ts at) ≡ ordered s ts r
 
 -- ---- a head
@@ -133,10 +100,10 @@ head_in p n names = do
   _ ← bracket opens_list nesting_limit
   rest_in p n names
 
-abbrev pub planned : List ℕ → List ℕ → Plan → Outcome (Read Head)
-planned s ts (plan.Runs f e a) = leaves (record { positions = numbers_of f; entries = entries_of e }) s ts a
-planned s ts (plan.Refused r p) = refused r p
+abbrev pub planned : List ℕ → List ℕ → Result Plan Refused → Outcome (Read Head)
+planned s ts (Ok x) = leaves (record { positions = numbers_of x.runs; entries = entries_of x.entries }) s ts x.next
+planned s ts (Err e) = refused e.refusal e.place
 
 -- of a domain of n indices, at most four
-pub record Heads (m : List Name → Reader Head) (s ns ts : List ℕ) (at n : ℕ) (r : Plan) : Type 0 where
+pub record Heads (m : List Name → Reader Head) (s ns ts : List ℕ) (at n : ℕ) (r : Result Plan Refused) : Type 0 where
   pub is : (names : List Name) → Named s ns names → n ≤ 4 → m names (from s ts at) ≡ planned s ts r

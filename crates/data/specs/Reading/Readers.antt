@@ -1,5 +1,6 @@
 -- The readers of a portion's parts, and what code answers as the definition's outcome.
-use Rattle.std.specs.Prelude.{◌≡◌, Bool, List, ℕ, ◌+◌}
+use Rattle.std.specs.Prelude.{Err, Ok, Result, ◌≡◌, Bool, List, ℕ, ◌+◌}
+use Rattle.rules.specs.declared.Refused.{Refused}
 use Rattle.rules.specs.declared.Refusal.TheVariants.{Missing}
 use Rattle.value.specs.declared.Value.{Value}
 use Rattle.lexer.specs.Marks.{minus_sign}
@@ -8,17 +9,10 @@ use Rattle.language.specs.Syntax.{Name}
 use Rattle.language.specs.Reader.{Reader, Read, ◌>>=◌, give, next, is_mark, demand, require, Titled, read_index}
 use Rattle.language.specs.Formulas.{is_sum}
 use Rattle.language.specs.Data.{Entry, marked, value_of, signed_value}
-use Rattle.tokens.specs.declared.Move.{Move}
-use Rattle.tokens.specs.declared.Move.TheVariants as move
 use Rattle.tokens.specs.Stored.{spelling, from, Named}
-use Rattle.data.specs.declared.reading.heads.Indexed.{Indexed}
-use Rattle.data.specs.declared.reading.heads.Indexed.TheVariants as index
-use Rattle.data.specs.declared.reading.heads.Entered.{Entered}
-use Rattle.data.specs.declared.reading.heads.Entered.TheVariants as entry
+use Rattle.data.specs.declared.reading.entries.Entry.{Entry as Held}
 use Rattle.data.specs.declared.reading.numbers.Numbered.{Numbered}
-use Rattle.data.specs.declared.reading.numbers.Numbered.TheVariants as number
 use Rattle.data.specs.declared.reading.ends.Titled.{Titled as Title}
-use Rattle.data.specs.declared.reading.ends.Titled.TheVariants as title
 use Rattle.data.specs.Reading.Entries.{entry_of}
 
 -- ---- answers
@@ -36,18 +30,18 @@ leaves a s ts at = done (record { what = a; rest = from s ts at })
 
 -- ---- an index, an entry
 
-abbrev pub indexed : List ℕ → List ℕ → Indexed → Outcome (Read ℕ)
-indexed s ts (index.Number i a) = leaves i s ts a
-indexed s ts (index.Refused r p) = refused r p
+abbrev pub indexed : List ℕ → List ℕ → Result (ℕ × ℕ) Refused → Outcome (Read ℕ)
+indexed s ts (Ok (i, a)) = leaves i s ts a
+indexed s ts (Err e) = refused e.refusal e.place
 
 unfoldable pub index_in : List Name → Reader ℕ
 index_in names = do
   u ← read_index names
   give u.number
 
-abbrev pub entered : List ℕ → List ℕ → Entered → Outcome (Read Entry)
-entered s ts (entry.Of e a) = leaves (entry_of e) s ts a
-entered s ts (entry.Refused r p) = refused r p
+abbrev pub entered : List ℕ → List ℕ → Result (Held × ℕ) Refused → Outcome (Read Entry)
+entered s ts (Ok (e, a)) = leaves (entry_of e) s ts a
+entered s ts (Err e) = refused e.refusal e.place
 
 unfoldable pub mark_in : List Name → Reader Entry
 mark_in names = do
@@ -60,9 +54,9 @@ pub record Number : Type 0 where
   pub sign : ℕ
   pub value : Value
 
-abbrev pub numbered : List ℕ → List ℕ → Numbered → Outcome (Read Number)
-numbered s ts (number.Of v p a) = leaves (record { sign = p; value = v }) s ts a
-numbered s ts (number.Refused r p) = refused r p
+abbrev pub numbered : List ℕ → List ℕ → Result Numbered Refused → Outcome (Read Number)
+numbered s ts (Ok x) = leaves (record { sign = x.place; value = x.value }) s ts x.next
+numbered s ts (Err e) = refused e.refusal e.place
 
 unfoldable pub literal_in : ℕ → Bool → Reader Number
 literal_in p minus = do
@@ -78,10 +72,10 @@ number_in = do
 
 -- ---- the ends of the data section
 
-abbrev pub passed : List ℕ → List ℕ → Move → Outcome (Read (Unit {0}))
-passed s ts (move.At a) = leaves tt s ts a
-passed s ts (move.Refused r p) = refused r p
+abbrev pub passed : List ℕ → List ℕ → Result ℕ Refused → Outcome (Read (Unit {0}))
+passed s ts (Ok a) = leaves tt s ts a
+passed s ts (Err e) = refused e.refusal e.place
 
-abbrev pub titled : List ℕ → List ℕ → Title → Outcome (Read Titled)
-titled s ts (title.Of p n a) = leaves (record { title = spelling s (p + 1) n; place = p }) s ts a
-titled s ts (title.Refused r p) = refused r p
+abbrev pub titled : List ℕ → List ℕ → Result Title Refused → Outcome (Read Titled)
+titled s ts (Ok x) = leaves (record { title = spelling s (x.place + 1) x.length; place = x.place }) s ts x.next
+titled s ts (Err e) = refused e.refusal e.place

@@ -1,5 +1,5 @@
 // The entries of a portion by value; and, while it runs, what each position is bound to.
-ghost use Rattle.std.specs.Prelude.{◌≡◌, [], length, get_or, set};
+ghost use Rattle.std.specs.Prelude.{◌≡◌, [], length, get_or};
 ghost use Rattle.language.specs.Data.{marked, marks_of, position_of, positions_of, bound_of};
 ghost use Rattle.language.specs.Store.{set_at};
 ghost use Rattle.data.specs.Reading.Few.{numbers_of, Holds};
@@ -14,14 +14,11 @@ pub enum Entry {
     Marked(usize),
 }
 
-// The first `count` of a, b, c, d.
+// The first `count` of the entries.
 #[derive(Clone, Copy)]
 pub struct Entries {
     pub count: usize,
-    pub a: Entry,
-    pub b: Entry,
-    pub c: Entry,
-    pub d: Entry,
+    pub entries: [Entry; 4],
 }
 
 // Does the entry mark its position by the index i?
@@ -40,80 +37,24 @@ impl Entries {
     {
         Entries {
             count: 0,
-            a: Entry::Marked(0),
-            b: Entry::Marked(0),
-            c: Entry::Marked(0),
-            d: Entry::Marked(0),
+            entries: [Entry::Marked(0); 4],
         }
     }
 
     pub fn length(self) -> usize
         ensures { result ≡ length (entries_of self) }
     {
-        let n = self.count;
-        if n < 4 {
-            return n;
-        }
-        4
+        self.count.min(4)
     }
 
     // The entry at a position.
     pub fn at(self, i: usize) -> Entry
         ensures { entry_of result ≡ get_or (entries_of self) i (marked 0) }
     {
-        let n = self.count;
-        if n <= i {
+        if self.length() <= i {
             return Entry::Marked(0);
         }
-        match i {
-            0 => self.a,
-            1 => self.b,
-            2 => self.c,
-            3 => self.d,
-            _ => Entry::Marked(0),
-        }
-    }
-
-    // Another entry at a position.
-    fn put(self, i: usize, e: Entry) -> Self
-        ensures { entries_of result ≡ set (entries_of self) i (entry_of e) }
-    {
-        let n = self.count;
-        let a = self.a;
-        let b = self.b;
-        let c = self.c;
-        let d = self.d;
-        match i {
-            0 => Entries {
-                count: n,
-                a: e,
-                b,
-                c,
-                d,
-            },
-            1 => Entries {
-                count: n,
-                a,
-                b: e,
-                c,
-                d,
-            },
-            2 => Entries {
-                count: n,
-                a,
-                b,
-                c: e,
-                d,
-            },
-            3 => Entries {
-                count: n,
-                a,
-                b,
-                c,
-                d: e,
-            },
-            _ => self,
-        }
+        self.entries[i]
     }
 
     // One entry more; the same where there are four.
@@ -124,28 +65,28 @@ impl Entries {
         if 4 <= n {
             return self;
         }
+        self.entries[n] = e;
         self.count = n + 1;
-        self.put(n, e)
+        self
     }
 
     // A position bound to a number.
-    pub fn fix(self, j: usize, k: i64) -> Self
+    pub fn fix(mut self, j: usize, k: i64) -> Self
         ensures { bound_of (entries_of result) ≡ set_at j k (bound_of (entries_of self)) }
     {
-        self.put(j, Entry::Fixed(k))
+        if j < 4 {
+            self.entries[j] = Entry::Fixed(k);
+        }
+        self
     }
 
     // The index names of the marked positions, left to right.
     pub fn marks(self) -> Few
         ensures { Holds result (marks_of (entries_of self)) }
     {
-        let n = self.length();
         let mut marks = Few::none();
-        let mut k = 0;
-        while k < n {
-            let e = self.at(k);
-            k += 1;
-            let Entry::Marked(i) = e else {
+        for k in 0..self.length() {
+            let Entry::Marked(i) = self.at(k) else {
                 continue;
             };
             marks = marks.with(i);
@@ -158,28 +99,21 @@ impl Entries {
         ensures { result ≡ position_of i (entries_of self) 0 }
     {
         let n = self.length();
-        let mut k = 0;
-        while k < n {
-            let e = self.at(k);
-            if marks_index(e, i) {
+        for k in 0..n {
+            if marks_index(self.at(k), i) {
                 return k;
             }
-            k += 1;
         }
-        k
+        n
     }
 
     // The positions that the indices of an order mark.
     pub fn positions(self, order: Few) -> Few
         ensures { Holds result (positions_of (numbers_of order) (entries_of self)) }
     {
-        let n = order.length();
         let mut positions = Few::none();
-        let mut k = 0;
-        while k < n {
-            let i = order.at(k);
-            positions = positions.with(self.position(i));
-            k += 1;
+        for k in 0..order.length() {
+            positions = positions.with(self.position(order.at(k)));
         }
         positions
     }

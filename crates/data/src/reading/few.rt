@@ -4,14 +4,11 @@ ghost use Rattle.language.specs.Declarations.{is_in};
 ghost use Rattle.language.specs.Data.{no_repeats, all_in};
 ghost use Rattle.data.specs.Reading.Few.{numbers_of, Holds, Adds, rearranges_kept};
 
-// The first `count` of a, b, c, d. A count above four says that there are more, which are not kept.
+// The first `count` of the numbers. A count above four says that there are more, which are not kept.
 #[derive(Clone, Copy)]
 pub struct Few {
     pub count: usize,
-    pub a: usize,
-    pub b: usize,
-    pub c: usize,
-    pub d: usize,
+    pub numbers: [usize; 4],
 }
 
 impl Few {
@@ -20,10 +17,7 @@ impl Few {
     {
         Few {
             count: 0,
-            a: 0,
-            b: 0,
-            c: 0,
-            d: 0,
+            numbers: [0; 4],
         }
     }
 
@@ -32,74 +26,40 @@ impl Few {
         ensures { Adds self i result }
     {
         let n = self.count;
-        match n {
-            0 => {
-                self.count = 1;
-                self.a = i;
-                self
-            }
-            1 => {
-                self.count = 2;
-                self.b = i;
-                self
-            }
-            2 => {
-                self.count = 3;
-                self.c = i;
-                self
-            }
-            3 => {
-                self.count = 4;
-                self.d = i;
-                self
-            }
-            _ => {
-                self.count = 5;
-                self
-            }
+        if 4 <= n {
+            self.count = 5;
+            return self;
         }
+        self.numbers[n] = i;
+        self.count = n + 1;
+        self
     }
 
     // How many are kept.
     pub fn length(self) -> usize
         ensures { result ≡ length (numbers_of self) }
     {
-        let n = self.count;
-        if n < 4 {
-            return n;
-        }
-        4
+        self.count.min(4)
     }
 
     // The number at a position, 0 where there is none.
     pub fn at(self, i: usize) -> usize
         ensures { result ≡ get_or (numbers_of self) i 0 }
     {
-        let n = self.count;
-        if n <= i {
+        if self.length() <= i {
             return 0;
         }
-        match i {
-            0 => self.a,
-            1 => self.b,
-            2 => self.c,
-            3 => self.d,
-            _ => 0,
-        }
+        self.numbers[i]
     }
 
     // Is x among the numbers from position `from` on?
     fn has(self, from: usize, x: usize) -> bool
         ensures { result ≡ is_in x (drop from (numbers_of self)) }
     {
-        let n = self.length();
-        let mut k = from;
-        while k < n {
-            let y = self.at(k);
-            if x == y {
+        for k in from..self.length() {
+            if x == self.at(k) {
                 return true;
             }
-            k += 1;
         }
         false
     }
@@ -108,12 +68,8 @@ impl Few {
     pub fn no_repeats(self) -> bool
         ensures { result ≡ no_repeats (numbers_of self) }
     {
-        let n = self.length();
-        let mut k = 0;
-        while k < n {
-            let x = self.at(k);
-            k += 1;
-            if self.has(k, x) {
+        for k in 0..self.length() {
+            if self.has(k + 1, self.at(k)) {
                 return false;
             }
         }
@@ -124,14 +80,10 @@ impl Few {
     fn all_in(self, others: Few) -> bool
         ensures { result ≡ all_in (numbers_of self) (numbers_of others) }
     {
-        let n = self.length();
-        let mut k = 0;
-        while k < n {
-            let x = self.at(k);
-            if !others.has(0, x) {
+        for k in 0..self.length() {
+            if !others.has(0, self.at(k)) {
                 return false;
             }
-            k += 1;
         }
         true
     }

@@ -2,141 +2,75 @@
 ghost use Rattle.std.specs.Prelude.{◌≡◌};
 ghost use Rattle.language.specs.Data.{signed_entry, read_entry};
 ghost use Rattle.data.specs.Reading.Entries.{entries_of};
-ghost use Rattle.data.specs.Reading.Readers.{Answers, Says, indexed, entered, index_in, mark_in};
-ghost use Rattle.data.specs.Reading.Lists.{item_in, separator_of, turned, behind_in, turn_in, planned, bracketed_in, optional_in, order_in, rest_in, head_in, Lists, Ordered, Orders, Heads};
+ghost use Rattle.data.specs.Reading.Readers.{Answers, Says, indexed, entered, index_in};
+ghost use Rattle.data.specs.Reading.Lists.{item_in, separator_of, planned, bracketed_in, optional_in, order_in, rest_in, head_in, Lists, Ordered, Orders, Heads};
+ghost use Rattle.tokens.specs.Text.{In};
 
 use super::entries::{Entries, Entry};
 use super::few::Few;
 use super::numbers::signed;
 use lexer::marks;
-use tokens::{Known, Move, Seen, kinds, sorts};
-
-// An index's number, and the position behind it.
-#[derive(Clone, Copy)]
-pub enum Indexed {
-    Number(usize, usize),
-    Refused(rules::Refusal, u64),
-}
-
-// An entry, and the position behind it.
-#[derive(Clone, Copy)]
-pub enum Entered {
-    Of(Entry, usize),
-    Refused(rules::Refusal, u64),
-}
-
-// The entries, and the position behind the `]`.
-#[derive(Clone, Copy)]
-pub enum Listed {
-    Of(Entries, usize),
-    Refused(rules::Refusal, u64),
-}
-
-// An index of an order, and the position behind the comma or behind the `)`.
-#[derive(Clone, Copy)]
-enum Turn {
-    More(usize, usize),
-    Last(usize, usize),
-    Refused(rules::Refusal, u64),
-}
-
-// The indices of an order, and the position behind it.
-#[derive(Clone, Copy)]
-pub enum Order {
-    Of(Few, usize),
-    Refused(rules::Refusal, u64),
-}
+use rules::{Refused, refused};
+use tokens::{Text, kinds, sorts};
 
 // The positions that run, outermost first; the entries; the position behind the head.
 #[derive(Clone, Copy)]
-pub enum Plan {
-    Runs(Few, Entries, usize),
-    Refused(rules::Refusal, u64),
+pub struct Plan {
+    pub runs: Few,
+    pub entries: Entries,
+    pub next: usize,
 }
 
 // A declared index.
-fn index(text: &[u8], names: &[u64], tokens: &[u64], at: usize) -> Indexed
-    ensures { Answers indexed index_in text.now names.now tokens.now at result }
+fn index(text: Text<'_>, at: usize) -> Result<(usize, usize), Refused>
+    ensures { In (Answers indexed index_in) text.entry at result }
 {
-    let name = tokens::known_name(text, names, tokens, at);
-    match name {
-        Known::Name(i, sort, count, p, next) => {
-            if sort == sorts::INDEX {
-                Indexed::Number(i, next)
-            } else {
-                Indexed::Refused(rules::Refusal::Misplaced, p)
-            }
-        }
-        Known::Refused(n, p) => Indexed::Refused(n, p),
+    let name = tokens::known_name(text, at)?;
+    if name.sort != sorts::INDEX {
+        return refused!(Misplaced, name.place);
     }
+    Ok((name.number, name.next))
 }
 
 // The digits behind an entry's sign.
-fn signed_entry(tokens: &[u64], at: usize, minus: bool) -> Entered
+fn signed_entry(tokens: &[u64], at: usize, minus: bool) -> Result<(Entry, usize), Refused>
     ensures { Says entered (signed_entry minus) tokens.now at result }
 {
-    let token = tokens::token_at(tokens, at);
-    match token {
-        Seen::Token(k, p, x, next) => {
-            if k == kinds::WHOLE {
-                Entered::Of(Entry::Fixed(signed(x, minus)), next)
-            } else {
-                Entered::Refused(rules::Refusal::Misplaced, p)
-            }
-        }
-        Seen::Refused(n, p) => Entered::Refused(n, p),
+    let token = tokens::token_at(tokens, at)?;
+    if token.kind != kinds::WHOLE {
+        return refused!(Misplaced, token.place);
     }
-}
-
-// The index name of a marked position.
-fn mark(text: &[u8], names: &[u64], tokens: &[u64], at: usize) -> Entered
-    ensures { Answers entered mark_in text.now names.now tokens.now at result }
-{
-    let i = index(text, names, tokens, at);
-    match i {
-        Indexed::Number(i, next) => Entered::Of(Entry::Marked(i), next),
-        Indexed::Refused(n, p) => Entered::Refused(n, p),
-    }
+    Ok((Entry::Fixed(signed(token.payload, minus)), token.next))
 }
 
 // A fixed whole number, or an index name.
-fn entry(text: &[u8], names: &[u64], tokens: &[u64], at: usize) -> Entered
-    ensures { Answers entered read_entry text.now names.now tokens.now at result }
+fn entry(text: Text<'_>, at: usize) -> Result<(Entry, usize), Refused>
+    ensures { In (Answers entered read_entry) text.entry at result }
 {
-    let token = tokens::token_at(tokens, at);
-    match token {
-        Seen::Token(k, p, x, next) => {
-            if k == kinds::NAME {
-                return mark(text, names, tokens, at);
-            }
-            if k == kinds::WHOLE {
-                return Entered::Of(Entry::Fixed(signed(x, false)), next);
-            }
-            if k == marks::PLUS as u64 {
-                return signed_entry(tokens, next, false);
-            }
-            if k == marks::MINUS as u64 {
-                return signed_entry(tokens, next, true);
-            }
-            Entered::Refused(rules::Refusal::Misplaced, p)
-        }
-        Seen::Refused(n, p) => Entered::Refused(n, p),
+    let token = tokens::token_at(text.tokens, at)?;
+    if token.kind == kinds::NAME {
+        let (i, next) = index(text, at)?;
+        return Ok((Entry::Marked(i), next));
     }
+    if token.kind == kinds::WHOLE {
+        return Ok((Entry::Fixed(signed(token.payload, false)), token.next));
+    }
+    if token.kind == marks::PLUS as u64 {
+        return signed_entry(text.tokens, token.next, false);
+    }
+    if token.kind == marks::MINUS as u64 {
+        return signed_entry(text.tokens, token.next, true);
+    }
+    refused!(Misplaced, token.place)
 }
 
 // An entry and the sign c behind it.
-fn item(text: &[u8], names: &[u64], tokens: &[u64], at: usize, c: u8) -> Entered
-    ensures { Answers entered (item_in c) text.now names.now tokens.now at result }
+fn item(text: Text<'_>, at: usize, c: u8) -> Result<(Entry, usize), Refused>
+    ensures { In (Answers entered (item_in c)) text.entry at result }
 {
-    let first = entry(text, names, tokens, at);
-    let Entered::Of(e, a) = first else {
-        return first;
-    };
-    let sign = tokens::expect(text, names, tokens, a, c);
-    match sign {
-        Move::At(b) => Entered::Of(e, b),
-        Move::Refused(n, p) => Entered::Refused(n, p),
-    }
+    let (first, sign) = entry(text, at)?;
+    let next = tokens::expect(text, sign, c)?;
+    Ok((first, next))
 }
 
 // The sign behind an entry with which `left` are due.
@@ -151,182 +85,100 @@ fn separator(left: usize) -> u8
 }
 
 // As many entries as the domain has indices, and the `]`.
-fn list(text: &[u8], names: &[u64], tokens: &[u64], at: usize, count: usize) -> Listed
-    ensures { Lists text.now names.now tokens.now at count result }
+fn list(text: Text<'_>, at: usize, count: usize) -> Result<(Entries, usize), Refused>
+    ensures { In Lists text.entry at count result }
 {
     let mut list = Entries::none();
     let mut a = at;
-    let mut left = count;
-    while 0 < left {
-        let c = separator(left);
-        let next = item(text, names, tokens, a, c);
-        match next {
-            Entered::Of(e, b) => {
-                list = list.with(e);
-                a = b;
-                left -= 1;
-            }
-            Entered::Refused(n, p) => {
-                return Listed::Refused(n, p);
-            }
-        }
+    for left in (0..count).rev() {
+        let (e, next) = item(text, a, separator(left + 1))?;
+        list = list.with(e);
+        a = next;
     }
-    Listed::Of(list, a)
-}
-
-// The comma or the `)` behind an index of an order.
-fn behind_index(tokens: &[u64], at: usize, i: usize) -> Turn
-    ensures { Says turned (behind_in i) tokens.now at result }
-{
-    let token = tokens::token_at(tokens, at);
-    match token {
-        Seen::Token(k, p, x, next) => {
-            if k == marks::COMMA as u64 {
-                return Turn::More(i, next);
-            }
-            if k == marks::RIGHT_PAREN as u64 {
-                return Turn::Last(i, next);
-            }
-            Turn::Refused(rules::Refusal::Misplaced, p)
-        }
-        Seen::Refused(n, p) => Turn::Refused(n, p),
-    }
-}
-
-fn order_item(text: &[u8], names: &[u64], tokens: &[u64], at: usize) -> Turn
-    ensures { Answers turned turn_in text.now names.now tokens.now at result }
-{
-    let name = index(text, names, tokens, at);
-    match name {
-        Indexed::Number(i, a) => behind_index(tokens, a, i),
-        Indexed::Refused(n, p) => Turn::Refused(n, p),
-    }
+    Ok((list, a))
 }
 
 // The indices of an order, and its `)`.
-fn order_list(text: &[u8], names: &[u64], tokens: &[u64], at: usize) -> Order
-    ensures { Ordered text.now names.now tokens.now at result }
+fn order_list(text: Text<'_>, at: usize) -> Result<(Few, usize), Refused>
+    ensures { In Ordered text.entry at result }
 {
     let mut list = Few::none();
     let mut a = at;
-    let mut left = rules::BYTE_LIMIT;
-    while 0 < left {
-        let turn = order_item(text, names, tokens, a);
-        match turn {
-            Turn::More(i, b) => {
-                list = list.with(i);
-                a = b;
-                left -= 1;
-            }
-            Turn::Last(i, b) => {
-                return Order::Of(list.with(i), b);
-            }
-            Turn::Refused(n, p) => {
-                return Order::Refused(n, p);
-            }
+    for _ in 0..rules::BYTE_LIMIT {
+        let (i, behind) = index(text, a)?;
+        list = list.with(i);
+        let token = tokens::token_at(text.tokens, behind)?;
+        if token.kind == marks::RIGHT_PAREN as u64 {
+            return Ok((list, token.next));
         }
+        if token.kind != marks::COMMA as u64 {
+            return refused!(Misplaced, token.place);
+        }
+        a = token.next;
     }
-    Order::Refused(rules::Refusal::Full, 0)
+    refused!(Full, 0)
 }
 
 // An order behind its `(`: a rearrangement of the marks.
 fn bracketed_order(
-    text: &[u8],
-    names: &[u64],
-    tokens: &[u64],
+    text: Text<'_>,
     at: usize,
     place: u64,
     marks: Few,
-) -> Order
-    ensures { Orders (bracketed_in place) text.now names.now tokens.now at marks result }
+) -> Result<(Few, usize), Refused>
+    ensures { In (Orders (bracketed_in place)) text.entry at marks result }
 {
-    let order = order_list(text, names, tokens, at);
-    let Order::Of(o, a) = order else {
-        return order;
-    };
-    if o.rearranges(marks) {
-        return order;
+    let (order, next) = order_list(text, at)?;
+    if !order.rearranges(marks) {
+        return refused!(BadIndex, place);
     }
-    Order::Refused(rules::Refusal::BadIndex, place)
+    Ok((order, next))
 }
 
 // An order where a `(` stands; without it, the marks left to right.
 fn optional_order(
-    text: &[u8],
-    names: &[u64],
-    tokens: &[u64],
+    text: Text<'_>,
     at: usize,
     place: u64,
     marks: Few,
-) -> Order
-    ensures { Orders (optional_in place) text.now names.now tokens.now at marks result }
+) -> Result<(Few, usize), Refused>
+    ensures { In (Orders (optional_in place)) text.entry at marks result }
 {
-    let token = tokens::token_at(tokens, at);
-    match token {
-        Seen::Token(k, p, x, next) => {
-            if k == marks::LEFT_PAREN as u64 {
-                return bracketed_order(text, names, tokens, next, place, marks);
-            }
-            Order::Of(marks, at)
-        }
-        Seen::Refused(n, p) => Order::Refused(n, p),
+    let token = tokens::token_at(text.tokens, at)?;
+    if token.kind == marks::LEFT_PAREN as u64 {
+        return bracketed_order(text, token.next, place, marks);
     }
+    Ok((marks, at))
 }
 
 // The marks tested, then the order.
-fn ordered_head(
-    text: &[u8],
-    names: &[u64],
-    tokens: &[u64],
-    at: usize,
-    place: u64,
-    entries: Entries,
-) -> Plan
-    ensures { Answers planned (order_in place (entries_of entries)) text.now names.now tokens.now at result }
+fn ordered_head(text: Text<'_>, at: usize, place: u64, entries: Entries) -> Result<Plan, Refused>
+    ensures { In (Answers planned (order_in place (entries_of entries))) text.entry at result }
 {
     let marks = entries.marks();
     if !marks.no_repeats() {
-        return Plan::Refused(rules::Refusal::BadIndex, place);
+        return refused!(BadIndex, place);
     }
-    let order = optional_order(text, names, tokens, at, place, marks);
-    match order {
-        Order::Of(o, a) => Plan::Runs(entries.positions(o), entries, a),
-        Order::Refused(n, p) => Plan::Refused(n, p),
-    }
+    let (order, next) = optional_order(text, at, place, marks)?;
+    Ok(Plan {
+        runs: entries.positions(order),
+        entries,
+        next,
+    })
 }
 
 // The entries, then the order.
-fn entries_head(
-    text: &[u8],
-    names: &[u64],
-    tokens: &[u64],
-    at: usize,
-    place: u64,
-    count: usize,
-) -> Plan
-    ensures { Heads (rest_in place count) text.now names.now tokens.now at count result }
+fn entries_head(text: Text<'_>, at: usize, place: u64, count: usize) -> Result<Plan, Refused>
+    ensures { In (Heads (rest_in place count)) text.entry at count result }
 {
-    let entries = list(text, names, tokens, at, count);
-    match entries {
-        Listed::Of(e, a) => ordered_head(text, names, tokens, a, place, e),
-        Listed::Refused(n, p) => Plan::Refused(n, p),
-    }
+    let (entries, next) = list(text, at, count)?;
+    ordered_head(text, next, place, entries)
 }
 
 // The head of a portion whose name stands at `place` and has `count` indices.
-pub fn head(text: &[u8], names: &[u64], tokens: &[u64], at: usize, place: u64, count: usize) -> Plan
-    ensures { Heads (head_in place count) text.now names.now tokens.now at count result }
+pub fn head(text: Text<'_>, at: usize, place: u64, count: usize) -> Result<Plan, Refused>
+    ensures { In (Heads (head_in place count)) text.entry at count result }
 {
-    let open = tokens::bracket(
-        text,
-        names,
-        tokens,
-        at,
-        rules::NESTING_LIMIT,
-        marks::LEFT_BRACKET,
-    );
-    match open {
-        Move::At(a) => entries_head(text, names, tokens, a, place, count),
-        Move::Refused(n, p) => Plan::Refused(n, p),
-    }
+    let open = tokens::bracket(text, at, rules::NESTING_LIMIT, marks::LEFT_BRACKET)?;
+    entries_head(text, open, place, count)
 }

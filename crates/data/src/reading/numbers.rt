@@ -4,13 +4,15 @@ ghost use Rattle.language.specs.Data.{with_minus};
 ghost use Rattle.data.specs.Reading.Readers.{Says, numbered, literal_in, number_in};
 
 use lexer::marks;
-use tokens::{Seen, kinds};
+use rules::{Refused, refused};
+use tokens::kinds;
 
 // A value, the place of its sign, and the position behind it.
 #[derive(Clone, Copy)]
-pub enum Numbered {
-    Of(value::Value, u64, usize),
-    Refused(rules::Refusal, u64),
+pub struct Numbered {
+    pub value: value::Value,
+    pub place: u64,
+    pub next: usize,
 }
 
 // The mantissa of a literal's payload, with its sign.
@@ -25,38 +27,30 @@ pub fn signed(x: u64, minus: bool) -> i64
 }
 
 // The literal behind a number's sign.
-fn literal(tokens: &[u64], at: usize, sign: u64, minus: bool) -> Numbered
+fn literal(tokens: &[u64], at: usize, sign: u64, minus: bool) -> Result<Numbered, Refused>
     ensures { Says numbered (literal_in sign minus) tokens.now at result }
 {
-    let token = tokens::token_at(tokens, at);
-    match token {
-        Seen::Token(k, p, x, next) => {
-            if (k == kinds::WHOLE) | (k == kinds::POINTED) {
-                let m = signed(x, minus);
-                let s = (x % 8) as usize;
-                Numbered::Of(value::Value { m, s }, sign, next)
-            } else {
-                Numbered::Refused(rules::Refusal::Misplaced, p)
-            }
-        }
-        Seen::Refused(n, p) => Numbered::Refused(n, p),
+    let token = tokens::token_at(tokens, at)?;
+    if (token.kind == kinds::WHOLE) | (token.kind == kinds::POINTED) {
+        let m = signed(token.payload, minus);
+        let s = (token.payload % 8) as usize;
+        return Ok(Numbered {
+            value: value::Value { m, s },
+            place: sign,
+            next: token.next,
+        });
     }
+    refused!(Misplaced, token.place)
 }
 
 // `+` or `-`, then a literal.
-pub fn number(tokens: &[u64], at: usize) -> Numbered
+pub fn number(tokens: &[u64], at: usize) -> Result<Numbered, Refused>
     ensures { Says numbered number_in tokens.now at result }
 {
-    let token = tokens::token_at(tokens, at);
-    match token {
-        Seen::Token(k, p, x, next) => {
-            let minus = k == marks::MINUS as u64;
-            if (k == marks::PLUS as u64) | minus {
-                literal(tokens, next, p, minus)
-            } else {
-                Numbered::Refused(rules::Refusal::Missing, p)
-            }
-        }
-        Seen::Refused(n, p) => Numbered::Refused(n, p),
+    let token = tokens::token_at(tokens, at)?;
+    let minus = token.kind == marks::MINUS as u64;
+    if (token.kind == marks::PLUS as u64) | minus {
+        return literal(tokens, token.next, token.place, minus);
     }
+    refused!(Missing, token.place)
 }

@@ -1,21 +1,20 @@
 -- `declarations::entries` meets its contract.
-use Rattle.declarations.proofs.ListLaws.{entries-start, entries-part, entries_none, entries-refused, entries-end, entries-on}
+use Rattle.std.proofs.lemmas.Bool.{not-true, not-false}
+use Rattle.std.proofs.lemmas.Result.{err_from_is_err_and}
+use Rattle.declarations.proofs.ListLaws.{entries-start, entries_none, entries-refused, entries-end, entries-on}
 use Rattle.declarations.proofs.entries.Goals as goal
 
-pub loop-left-init : goal.loop-left-init
-loop-left-init c = search entries-start depth 6
+pub loop-init : goal.loop-init
+loop-init c = search entries-start depth 6
 
-pub slice_bounds-read_row-end-in-loop-left : goal.slice_bounds-read_row-end-in-loop-left
-slice_bounds-read_row-end-in-loop-left c = search entries-part depth 6
+pub returns-in_err-row : goal.returns-in_err-row
+returns-in_err-row c = let p = err_from_is_err_and c.from_residual.result c.from_residual.ensures.1 in rw (p.1, p.2) (search (entries-refused, c.in_err-row.ensures) depth 9)
 
-pub returns-in_default : goal.returns-in_default
-returns-in_default c = search entries-refused depth 9
+pub returns-then-not-row : goal.returns-then-not-row
+returns-then-not-row c = search (entries-end, not-true, c.in_ok-row.ensures) depth 13
 
-pub returns-else-row : goal.returns-else-row
-returns-else-row c = search entries-end depth 13
-
-pub loop-left-preserved : goal.loop-left-preserved
-loop-left-preserved c = search entries-on depth 13
+pub loop-preserved : goal.loop-preserved
+loop-preserved c = search (entries-on, not-false, c.in_ok-row.ensures) depth 13
 
 pub returns : goal.returns
 returns c = search entries_none depth 6

@@ -1,12 +1,14 @@
 -- `declarations::index_number` meets its contract.
-use Rattle.declarations.proofs.IndexLaws.{number-wrong, number-other, number-yes}
+use Rattle.std.proofs.lemmas.Result.{err_from_is_err_and}
+use Rattle.tokens.proofs.Moved.{index-wrong, index-other}
+use Rattle.declarations.proofs.IndexLaws.{number-yes}
 use Rattle.declarations.proofs.index_number.Goals as goal
 
-pub returns-then-sort-eq-INDEX : goal.returns-then-sort-eq-INDEX
-returns-then-sort-eq-INDEX c = search number-yes depth 6
+pub returns-in_err-name : goal.returns-in_err-name
+returns-in_err-name c = let p = err_from_is_err_and c.from_residual.result c.from_residual.ensures.1 in rw (p.1, p.2) (search (index-wrong, c.in_err-name.was) depth 6)
 
-pub returns-else-sort-eq-INDEX : goal.returns-else-sort-eq-INDEX
-returns-else-sort-eq-INDEX c = search number-other depth 6
+pub returns-then-name-ne-INDEX : goal.returns-then-name-ne-INDEX
+returns-then-name-ne-INDEX c = search (index-other, c.in_ok-name.was) depth 7
 
-pub returns-in-Refused : goal.returns-in-Refused
-returns-in-Refused c = search number-wrong depth 6
+pub returns : goal.returns
+returns c = search (number-yes, c.in_ok-name.was) depth 7

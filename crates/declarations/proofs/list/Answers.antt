@@ -1,12 +1,13 @@
 -- `declarations::list` meets its contract.
+use Rattle.std.proofs.lemmas.Result.{err_from_is_err_and}
 use Rattle.declarations.proofs.ListLaws.{list-word, list-none, list-wrong}
 use Rattle.declarations.proofs.list.Goals as goal
 
-pub returns-then-k-sort : goal.returns-then-k-sort
-returns-then-k-sort c = search list-word depth 8
+pub returns-in_err-token : goal.returns-in_err-token
+returns-in_err-token c = let p = err_from_is_err_and c.from_residual.result c.from_residual.ensures.1 in rw (p.1, p.2) (search (list-wrong, c.in_err-token.was) depth 7)
 
-pub returns-else-k-sort : goal.returns-else-k-sort
-returns-else-k-sort c = search list-none depth 8
+pub returns-then-token-sort : goal.returns-then-token-sort
+returns-then-token-sort c = search (list-none, c.in_ok-token.was) depth 8
 
-pub returns-in-Refused : goal.returns-in-Refused
-returns-in-Refused c = search list-wrong depth 7
+pub returns : goal.returns
+returns c = search (list-word, c.in_ok-token.was) depth 8

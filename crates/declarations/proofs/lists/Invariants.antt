@@ -1,10 +1,6 @@
 -- `declarations::lists` meets its contract.
-use Prim.Native.Nat.{◌-◌}
 use Rattle.declarations.proofs.ListLaws.{ListsOn}
 use Rattle.declarations.proofs.lists.Given as goal
 
 abbrev pub invariant-loop-sort : goal.invariant-loop-sort
-invariant-loop-sort l = ListsOn l.text l.tokens l.initial.names l.at l.sort l.n l.a l.names
-
-abbrev pub decreases-loop-sort : goal.decreases-loop-sort
-decreases-loop-sort l = 6 - l.sort
+invariant-loop-sort l = ListsOn l.text l.tokens l.initial.names l.at l.sort l.n l.start l.names

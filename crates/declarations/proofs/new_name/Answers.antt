@@ -1,18 +1,19 @@
 -- `declarations::new_name` meets its contract.
+use Rattle.std.proofs.lemmas.Result.{err_from_is_err_and}
 use Rattle.declarations.proofs.RowLaws.{title-wrong, title-no-name, title-again, title-full, title-new}
 use Rattle.declarations.proofs.new_name.Goals as goal
 
-pub returns-in-Name : goal.returns-in-Name
-returns-in-Name c = search title-again depth 9
+pub returns-in_err-token : goal.returns-in_err-token
+returns-in_err-token c = let p = err_from_is_err_and c.from_residual.result c.from_residual.ensures.1 in rw (p.1, p.2) (search (title-wrong, c.in_err-token.was) depth 6)
 
-pub returns-then-names-lt-NAME_LIMIT : goal.returns-then-names-lt-NAME_LIMIT
-returns-then-names-lt-NAME_LIMIT c = search title-new depth 9
+pub returns-then-token-ne-NAME : goal.returns-then-token-ne-NAME
+returns-then-token-ne-NAME c = search (title-no-name, c.in_ok-token.was) depth 8
 
-pub returns-else-names-lt-NAME_LIMIT : goal.returns-else-names-lt-NAME_LIMIT
-returns-else-names-lt-NAME_LIMIT c = search title-full depth 10
+pub returns-in-Some : goal.returns-in-Some
+returns-in-Some c = search (title-again, c.in_ok-token.was) depth 9
 
-pub returns-else-k-eq-NAME : goal.returns-else-k-eq-NAME
-returns-else-k-eq-NAME c = search title-no-name depth 8
+pub returns-then-text-ge-NAME_LIMIT : goal.returns-then-text-ge-NAME_LIMIT
+returns-then-text-ge-NAME_LIMIT c = search (title-full, c.in_ok-token.was) depth 10
 
-pub returns-in-Refused : goal.returns-in-Refused
-returns-in-Refused c = search title-wrong depth 7
+pub returns : goal.returns
+returns c = search (title-new, c.in_ok-token.was) depth 10

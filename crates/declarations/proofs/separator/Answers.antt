@@ -1,15 +1,16 @@
 -- `declarations::separator` meets its contract.
+use Rattle.std.proofs.lemmas.Result.{err_from_is_err_and}
 use Rattle.declarations.proofs.RowLaws.{separator-comma, separator-end, separator-no, separator-wrong}
 use Rattle.declarations.proofs.separator.Goals as goal
 
-pub returns-then-k : goal.returns-then-k
-returns-then-k c = search separator-comma depth 7
+pub returns-in_err-token : goal.returns-in_err-token
+returns-in_err-token c = let p = err_from_is_err_and c.from_residual.result c.from_residual.ensures.1 in rw (p.1, p.2) (search (separator-wrong, c.in_err-token.was) depth 6)
 
-pub returns-then-k-2 : goal.returns-then-k-2
-returns-then-k-2 c = search separator-end depth 8
+pub returns-then-token : goal.returns-then-token
+returns-then-token c = search (separator-comma, c.in_ok-token.was) depth 8
 
-pub returns-else-k-2 : goal.returns-else-k-2
-returns-else-k-2 c = search separator-no depth 8
+pub returns-then-token-2 : goal.returns-then-token-2
+returns-then-token-2 c = search (separator-end, c.in_ok-token.was) depth 9
 
-pub returns-in-Refused : goal.returns-in-Refused
-returns-in-Refused c = search separator-wrong depth 6
+pub returns : goal.returns
+returns c = search (separator-no, c.in_ok-token.was) depth 9

@@ -1,12 +1,13 @@
 -- `domains::optional_domain` meets its contract.
+use Rattle.std.proofs.lemmas.Result.{err_from_is_err_and}
 use Rattle.domains.proofs.Laws.{optional-wrong, optional-some, optional-none}
 use Rattle.domains.proofs.optional_domain.Goals as goal
 
-pub returns-then-k : goal.returns-then-k
-returns-then-k c = search optional-some depth 8
+pub returns-in_err-token : goal.returns-in_err-token
+returns-in_err-token c = let p = err_from_is_err_and c.from_residual.result c.from_residual.ensures.1 in rw (p.1, p.2) (search (optional-wrong, c.in_err-token.was) depth 6)
 
-pub returns-else-k : goal.returns-else-k
-returns-else-k c = search optional-none depth 7
+pub returns-then-token : goal.returns-then-token
+returns-then-token c = search (optional-none, c.in_ok-token.was) depth 8
 
-pub returns-in-Refused : goal.returns-in-Refused
-returns-in-Refused c = search optional-wrong depth 6
+pub returns : goal.returns
+returns c = search (optional-some, c.in_ok-token.was) depth 8

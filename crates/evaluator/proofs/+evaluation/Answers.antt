@@ -1,5 +1,5 @@
 -- The cycle of evaluation: each function meets its contract. The level falls at a declared name, the nesting at a bracket.
-use native.Mathlib.Omega.{arith}
+use Rattle.std.proofs.lemmas.Result.{err_from_is_err_and}
 use Rattle.evaluator.proofs.Laws.{inside-full, inside-formula, part-refused, part-skip, subscript-refused, subscript-whole, limits-low, limits-high, limits-both, term-refused, term-rest, formula-sign, formula-term, formula-rest}
 use Rattle.evaluator.proofs.Entries.{bounds-wrong, bounds-high, bounds-both, entry-low, entry-bounds}
 use Rattle.evaluator.proofs.Sums.{sum_head, sum-limits, sum-run, sum_body}
@@ -14,221 +14,209 @@ use Rattle.evaluator.proofs.+evaluation.Goals as goal
 pub body-loop-j-init : goal.body-loop-j-init
 body-loop-j-init t c = search turns-start depth 5
 
-pub body-returns-in_default : goal.body-returns-in_default
-body-returns-in_default t c = search body_refused depth 9
+pub body-returns-in_err-w : goal.body-returns-in_err-w
+body-returns-in_err-w t c = let p = err_from_is_err_and c.from_residual.result c.from_residual.ensures.1 in rw (p.1, p.2, ← c.in_err-w.was) (search (body_refused, c.in_err-w.was) depth 9)
 
-pub body-returns-in_default-s : goal.body-returns-in_default-s
-body-returns-in_default-s t c = search body-unfit depth 11
-
-pub body-overflow_add-j : goal.body-overflow_add-j
-body-overflow_add-j t c = omega (arith, c.loop-j-test.true, c.ranges.n)
-
-pub body-loop-j-smaller : goal.body-loop-j-smaller
-body-loop-j-smaller t c = omega (arith, c.loop-j-test.true)
+pub body-returns-in_err-v : goal.body-returns-in_err-v
+body-returns-in_err-v t c = let p = err_from_is_err_and c.from_residual-in_err-v.result c.from_residual-in_err-v.ensures.1 in rw (p.1, p.2, ← c.in_err-v.was) (search (body-unfit, c.in_ok-w.was, c.in_err-v.was) depth 11)
 
 pub body-loop-j-preserved : goal.body-loop-j-preserved
-body-loop-j-preserved t c = search (turns-on, c.loop-j.invariant, c.loop-j-test.true) depth 11
+body-loop-j-preserved t c = search (turns-on, c.in_ok-w.was, c.in_ok-v.was, c.loop-j.invariant, c.loop-j-test.true) depth 11
 
 pub body-returns : goal.body-returns
 body-returns t c = search body_end depth 7
 
-pub both_limits-returns-in-Value-high : goal.both_limits-returns-in-Value-high
-both_limits-returns-in-Value-high t c = search limits-both depth 8
+pub both_limits-returns-in_err-v : goal.both_limits-returns-in_err-v
+both_limits-returns-in_err-v t c = let p = err_from_is_err_and c.from_residual.result c.from_residual.ensures.1 in rw (p.1, p.2) (search (limits-low, c.in_err-v.was) depth 7)
 
-pub both_limits-returns-in-Refused-high : goal.both_limits-returns-in-Refused-high
-both_limits-returns-in-Refused-high t c = search limits-high depth 7
+pub both_limits-returns-in_err-w : goal.both_limits-returns-in_err-w
+both_limits-returns-in_err-w t c = let p = err_from_is_err_and c.from_residual-in_err-w.result c.from_residual-in_err-w.ensures.1 in rw (p.1, p.2) (search (limits-high, c.in_ok-v.was, c.in_err-w.was) depth 8)
 
-pub both_limits-returns-in-Refused : goal.both_limits-returns-in-Refused
-both_limits-returns-in-Refused t c = search limits-low depth 6
+pub both_limits-returns : goal.both_limits-returns
+both_limits-returns t c = search (limits-both, c.in_ok-v.was, c.in_ok-w.was) depth 9
 
-pub bounds-returns-in-Value : goal.bounds-returns-in-Value
-bounds-returns-in-Value t c = search bounds-both depth 11
+pub bounds-returns-in_err-token : goal.bounds-returns-in_err-token
+bounds-returns-in_err-token t c = let p = err_from_is_err_and c.from_residual.result c.from_residual.ensures.1 in rw (p.1, p.2) (search (bounds-wrong, c.in_err-token.was) depth 7)
 
-pub bounds-returns-in-Refused-high : goal.bounds-returns-in-Refused-high
-bounds-returns-in-Refused-high t c = search bounds-high depth 9
+pub bounds-returns-in_err-w : goal.bounds-returns-in_err-w
+bounds-returns-in_err-w t c = let p = err_from_is_err_and c.from_residual-in_err-w.result c.from_residual-in_err-w.ensures.1 in rw (p.1, p.2) (search (bounds-high, c.in_ok-token.was, c.in_err-w.was) depth 10)
 
-pub bounds-returns-in-Refused : goal.bounds-returns-in-Refused
-bounds-returns-in-Refused t c = search bounds-wrong depth 6
+pub bounds-returns : goal.bounds-returns
+bounds-returns t c = search (bounds-both, c.in_ok-token.was, c.in_ok-w.was) depth 12
 
-pub datum-returns-in-Inside : goal.datum-returns-in-Inside
-datum-returns-in-Inside t c = search datum-known depth 8
+pub datum-returns-in_err-e : goal.datum-returns-in_err-e
+datum-returns-in_err-e t c = let p = err_from_is_err_and c.from_residual.result c.from_residual.ensures.1 in rw (p.1, p.2) (search (datum-subscripts, c.in_err-e.was) depth 7)
 
-pub datum-returns-in-Refused-test : goal.datum-returns-in-Refused-test
-datum-returns-in-Refused-test t c = search datum-outside depth 8
+pub datum-returns-in_err-within : goal.datum-returns-in_err-within
+datum-returns-in_err-within t c = let p = err_from_is_err_and c.from_residual-in_err-within.result c.from_residual-in_err-within.ensures.1 in rw (p.1, p.2) (search (datum-outside, c.in_ok-e.was, c.in_err-within.was) depth 9)
 
-pub datum-returns-in-Refused : goal.datum-returns-in-Refused
-datum-returns-in-Refused t c = search datum-subscripts depth 6
+pub datum-returns : goal.datum-returns
+datum-returns t c = search (datum-known, c.in_ok-e.was, c.in_ok-within.was) depth 9
 
-pub entry-returns-in-Value : goal.entry-returns-in-Value
-entry-returns-in-Value t c = search entry-bounds depth 7
+pub entry-returns-in_err-v : goal.entry-returns-in_err-v
+entry-returns-in_err-v t c = let p = err_from_is_err_and c.from_residual.result c.from_residual.ensures.1 in rw (p.1, p.2) (search (entry-low, c.in_err-v.was) depth 7)
 
-pub entry-returns-in-Refused : goal.entry-returns-in-Refused
-entry-returns-in-Refused t c = search entry-low depth 6
+pub entry-returns : goal.entry-returns
+entry-returns t c = search (entry-bounds, c.in_ok-v.was) depth 8
 
-pub factors-loop-left-init : goal.factors-loop-left-init
-factors-loop-left-init t c = search factors-start
+pub factors-loop-init : goal.factors-loop-init
+factors-loop-init t c = search factors-start depth 4
 
-pub factors-returns-in_default : goal.factors-returns-in_default
-factors-returns-in_default t c = search factors-refused depth 11
+pub factors-returns-in_err-token : goal.factors-returns-in_err-token
+factors-returns-in_err-token t c = let p = err_from_is_err_and c.from_residual.result c.from_residual.ensures.1 in rw (p.1, p.2) (search (factors-wrong, c.in_err-token.was) depth 9)
 
-pub factors-returns-in_default-m : goal.factors-returns-in_default-m
-factors-returns-in_default-m t c = search factors-unfit depth 12
+pub factors-returns-then-token : goal.factors-returns-then-token
+factors-returns-then-token t c = search (factors-end, c.in_ok-token.was) depth 10
 
-pub factors-returns-else-k : goal.factors-returns-else-k
-factors-returns-else-k t c = search factors-end depth 9
+pub factors-returns-in_err-w : goal.factors-returns-in_err-w
+factors-returns-in_err-w t c = let p = err_from_is_err_and c.from_residual-in_err-w.result c.from_residual-in_err-w.ensures.1 in rw (p.1, p.2, ← c.in_err-w.was) (search (factors-refused, c.in_ok-token.was, c.in_err-w.was) depth 12)
 
-pub factors-returns-in-Refused : goal.factors-returns-in-Refused
-factors-returns-in-Refused t c = search factors-wrong depth 8
+pub factors-returns-in_err-u : goal.factors-returns-in_err-u
+factors-returns-in_err-u t c = let p = err_from_is_err_and c.from_residual-in_err-u.result c.from_residual-in_err-u.ensures.1 in rw (p.1, p.2, ← c.in_err-u.was) (search (factors-unfit, c.in_ok-token.was, c.in_ok-w.was, c.in_err-u.was) depth 13)
 
-pub factors-loop-left-preserved : goal.factors-loop-left-preserved
-factors-loop-left-preserved t c = search factors-on depth 12
+pub factors-loop-preserved : goal.factors-loop-preserved
+factors-loop-preserved t c = search (factors-on, c.in_ok-token.was, c.in_ok-w.was, c.in_ok-u.was) depth 13
 
 pub factors-returns : goal.factors-returns
 factors-returns t c = search factors-none depth 6
 
-pub formula-returns-in_default : goal.formula-returns-in_default
-formula-returns-in_default t c = search formula-term depth 8
+pub formula-returns-in_err-minus : goal.formula-returns-in_err-minus
+formula-returns-in_err-minus t c = let p = err_from_is_err_and c.from_residual.result c.from_residual.ensures.1 in rw (p.1, p.2) (search (formula-sign, c.in_err-minus.was) depth 7)
 
-pub formula-returns-in-Value : goal.formula-returns-in-Value
-formula-returns-in-Value t c = search formula-rest depth 10
+pub formula-returns-in_err-v : goal.formula-returns-in_err-v
+formula-returns-in_err-v t c = let p = err_from_is_err_and c.from_residual-in_err-v.result c.from_residual-in_err-v.ensures.1 in rw (p.1, p.2, ← c.in_err-v.was) (search (formula-term, c.in_ok-minus.was, c.in_err-v.was) depth 9)
 
-pub formula-returns-in-Refused : goal.formula-returns-in-Refused
-formula-returns-in-Refused t c = search formula-sign depth 6
+pub formula-returns : goal.formula-returns
+formula-returns t c = search (formula-rest, c.in_ok-minus.was, c.in_ok-v.was) depth 11
 
-pub inside-returns-then-nest-eq0 : goal.inside-returns-then-nest-eq0
-inside-returns-then-nest-eq0 t c = search inside-full
+pub inside-returns-then-cx-eq0 : goal.inside-returns-then-cx-eq0
+inside-returns-then-cx-eq0 t c = search inside-full depth 5
 
 pub inside-returns : goal.inside-returns
 inside-returns t c = search inside-formula depth 6
 
-pub named-returns-then-cx-i : goal.named-returns-then-cx-i
-named-returns-then-cx-i t c = search named-late depth 6
-
-pub named-returns-then-sort-eq-INDEX : goal.named-returns-then-sort-eq-INDEX
-named-returns-then-sort-eq-INDEX t c = search named-index depth 8
-
 pub named-returns-in_default : goal.named-returns-in_default
-named-returns-in_default t c = search named-refused depth 9
+named-returns-in_default t c = search named-unknown depth 6
 
-pub named-returns-then-sort-eq-FORMULA : goal.named-returns-then-sort-eq-FORMULA
-named-returns-then-sort-eq-FORMULA t c = search named-formula depth 9
+pub named-returns-then-cx-listed : goal.named-returns-then-cx-listed
+named-returns-then-cx-listed t c = search named-late depth 7
 
-pub named-returns-then-sort : goal.named-returns-then-sort
-named-returns-then-sort t c = search named-datum depth 9
+pub named-returns-then-listed-eq-INDEX : goal.named-returns-then-listed-eq-INDEX
+named-returns-then-listed-eq-INDEX t c = search named-index depth 9
 
-pub named-returns-else-sort : goal.named-returns-else-sort
-named-returns-else-sort t c = search named_other depth 9
+pub named-returns-in_err-v : goal.named-returns-in_err-v
+named-returns-in_err-v t c = let p = err_from_is_err_and c.from_residual.result c.from_residual.ensures.1 in rw (p.1, p.2, ← c.in_err-v.was) (search (named-refused, c.in_err-v.was) depth 10)
 
-pub named-returns-in-Nothing : goal.named-returns-in-Nothing
-named-returns-in-Nothing t c = search named-unknown depth 5
+pub named-returns-then-listed-eq-FORMULA : goal.named-returns-then-listed-eq-FORMULA
+named-returns-then-listed-eq-FORMULA t c = search (named-formula, c.in_ok-v.was) depth 10
 
-pub part-returns-in-Value : goal.part-returns-in-Value
-part-returns-in-Value t c = search part-single depth 7
+pub named-returns-then-listed : goal.named-returns-then-listed
+named-returns-then-listed t c = search named-datum depth 10
 
-pub part-returns-in_default : goal.part-returns-in_default
-part-returns-in_default t c = search part-refused depth 6
+pub named-returns : goal.named-returns
+named-returns t c = search named_other depth 10
+
+pub part-returns-in-Some : goal.part-returns-in-Some
+part-returns-in-Some t c = search part-single depth 7
+
+pub part-returns-in_err-v : goal.part-returns-in_err-v
+part-returns-in_err-v t c = let p = err_from_is_err_and c.from_residual.result c.from_residual.ensures.1 in rw (p.1, p.2, ← c.in_err-v.was) (search (part-refused, c.in_err-v.was) depth 7)
 
 pub part-returns : goal.part-returns
-part-returns t c = search part-skip depth 7
+part-returns t c = search (part-skip, c.in_ok-v.was) depth 8
 
-pub primary-returns-then-k : goal.primary-returns-then-k
-primary-returns-then-k t c = search primary-sum depth 8
+pub primary-returns-in_err-token : goal.primary-returns-in_err-token
+primary-returns-in_err-token t c = let p = err_from_is_err_and c.from_residual.result c.from_residual.ensures.1 in rw (p.1, p.2) (search (primary-wrong, c.in_err-token.was) depth 7)
 
-pub primary-returns-then-k-2 : goal.primary-returns-then-k-2
-primary-returns-then-k-2 t c = search primary-part depth 8
+pub primary-returns-then-token : goal.primary-returns-then-token
+primary-returns-then-token t c = search (primary-sum, c.in_ok-token.was) depth 9
 
-pub primary-returns-then-k-eq-NAME : goal.primary-returns-then-k-eq-NAME
-primary-returns-then-k-eq-NAME t c = search primary-name depth 9
+pub primary-returns-then-token-2 : goal.primary-returns-then-token-2
+primary-returns-then-token-2 t c = search (primary-part, c.in_ok-token.was) depth 9
 
-pub primary-returns-then-k-3 : goal.primary-returns-then-k-3
-primary-returns-then-k-3 t c = search primary-literal depth 8
+pub primary-returns-then-token-eq-NAME : goal.primary-returns-then-token-eq-NAME
+primary-returns-then-token-eq-NAME t c = search (primary-name, c.in_ok-token.was) depth 10
 
-pub primary-returns-else-k-3 : goal.primary-returns-else-k-3
-primary-returns-else-k-3 t c = search primary-other depth 10
+pub primary-returns-then-token-3 : goal.primary-returns-then-token-3
+primary-returns-then-token-3 t c = search (primary-literal, c.in_ok-token.was) depth 9
 
-pub primary-returns-in-Refused : goal.primary-returns-in-Refused
-primary-returns-in-Refused t c = search primary-wrong depth 6
+pub primary-returns : goal.primary-returns
+primary-returns t c = search (primary-other, c.in_ok-token.was) depth 11
 
-pub subscript-returns-in_default : goal.subscript-returns-in_default
-subscript-returns-in_default t c = search subscript-refused depth 6
+pub subscript-returns-in_err-v : goal.subscript-returns-in_err-v
+subscript-returns-in_err-v t c = let p = err_from_is_err_and c.from_residual.result c.from_residual.ensures.1 in rw (p.1, p.2, ← c.in_err-v.was) (search (subscript-refused, c.in_err-v.was) depth 7)
 
 pub subscript-returns : goal.subscript-returns
-subscript-returns t c = search subscript-whole depth 7
+subscript-returns t c = search (subscript-whole, c.in_ok-v.was) depth 8
 
 pub subscripts-returns-then-count-eq0 : goal.subscripts-returns-then-count-eq0
 subscripts-returns-then-count-eq0 t c = search subscripts-point depth 6
 
-pub subscripts-loop-left-init : goal.subscripts-loop-left-init
-subscripts-loop-left-init t c = search numbers-start depth 7
+pub subscripts-loop-init : goal.subscripts-loop-init
+subscripts-loop-init t c = search numbers-start depth 7
 
-pub subscripts-returns-in-Refused : goal.subscripts-returns-in-Refused
-subscripts-returns-in-Refused t c = search numbers-refused depth 8
+pub subscripts-returns-in_err-v : goal.subscripts-returns-in_err-v
+subscripts-returns-in_err-v t c = let p = err_from_is_err_and c.from_residual.result c.from_residual.ensures.1 in rw (p.1, p.2) (search (numbers-refused, c.in_err-v.was) depth 9)
 
-pub subscripts-loop-left-preserved : goal.subscripts-loop-left-preserved
-subscripts-loop-left-preserved t c = search numbers_on depth 9
+pub subscripts-loop-preserved : goal.subscripts-loop-preserved
+subscripts-loop-preserved t c = search (numbers_on, c.in_ok-v.was) depth 10
 
 pub subscripts-returns : goal.subscripts-returns
 subscripts-returns t c = search numbers-end depth 6
 
-pub sum-returns-in-Count : goal.sum-returns-in-Count
-sum-returns-in-Count t c = search sum_body depth 10
+pub sum-returns-in_err-i : goal.sum-returns-in_err-i
+sum-returns-in_err-i t c = let p = err_from_is_err_and c.from_residual.result c.from_residual.ensures.1 in rw (p.1, p.2) (search (sum_head, c.in_err-i.was) depth 7)
 
-pub sum-returns-in-Refused-run : goal.sum-returns-in-Refused-run
-sum-returns-in-Refused-run t c = search sum-run depth 10
+pub sum-returns-in_err-limits : goal.sum-returns-in_err-limits
+sum-returns-in_err-limits t c = let p = err_from_is_err_and c.from_residual-in_err-limits.result c.from_residual-in_err-limits.ensures.1 in rw (p.1, p.2) (search (sum-limits, c.in_ok-i.was, c.in_err-limits.was) depth 9)
 
-pub sum-returns-in-Refused-both : goal.sum-returns-in-Refused-both
-sum-returns-in-Refused-both t c = search sum-limits depth 8
+pub sum-returns-in_err-n : goal.sum-returns-in_err-n
+sum-returns-in_err-n t c = let p = err_from_is_err_and c.from_residual-in_err-n.result c.from_residual-in_err-n.ensures.1 in rw (p.1, p.2) (search (sum-run, c.in_ok-i.was, c.in_ok-limits.was, c.in_err-n.was) depth 11)
 
-pub sum-returns-in-Refused : goal.sum-returns-in-Refused
-sum-returns-in-Refused t c = search sum_head depth 6
+pub sum-returns : goal.sum-returns
+sum-returns t c = search (sum_body, c.in_ok-i.was, c.in_ok-limits.was, c.in_ok-n.was) depth 11
 
-pub summands-loop-left-init : goal.summands-loop-left-init
-summands-loop-left-init t c = search summands-start
+pub summands-loop-init : goal.summands-loop-init
+summands-loop-init t c = search summands-start depth 4
 
-pub summands-returns-in_default : goal.summands-returns-in_default
-summands-returns-in_default t c = search summands-refused depth 11
+pub summands-returns-in_err-token : goal.summands-returns-in_err-token
+summands-returns-in_err-token t c = let p = err_from_is_err_and c.from_residual.result c.from_residual.ensures.1 in rw (p.1, p.2) (search (summands-wrong, c.in_err-token.was) depth 9)
 
-pub summands-returns-in_default-s : goal.summands-returns-in_default-s
-summands-returns-in_default-s t c = search summands-unfit depth 12
+pub summands-returns-then-not-token-minus : goal.summands-returns-then-not-token-minus
+summands-returns-then-not-token-minus t c = search (summands-end, c.in_ok-token.was) depth 10
 
-pub summands-returns-else-k-minus : goal.summands-returns-else-k-minus
-summands-returns-else-k-minus t c = search summands-end depth 9
+pub summands-returns-in_err-w : goal.summands-returns-in_err-w
+summands-returns-in_err-w t c = let p = err_from_is_err_and c.from_residual-in_err-w.result c.from_residual-in_err-w.ensures.1 in rw (p.1, p.2, ← c.in_err-w.was) (search (summands-refused, c.in_ok-token.was, c.in_err-w.was) depth 12)
 
-pub summands-returns-in-Refused : goal.summands-returns-in-Refused
-summands-returns-in-Refused t c = search summands-wrong depth 8
+pub summands-returns-in_err-u : goal.summands-returns-in_err-u
+summands-returns-in_err-u t c = let p = err_from_is_err_and c.from_residual-in_err-u.result c.from_residual-in_err-u.ensures.1 in rw (p.1, p.2, ← c.in_err-u.was) (search (summands-unfit, c.in_ok-token.was, c.in_ok-w.was, c.in_err-u.was) depth 13)
 
-pub summands-loop-left-preserved : goal.summands-loop-left-preserved
-summands-loop-left-preserved t c = search summands-on depth 12
+pub summands-loop-preserved : goal.summands-loop-preserved
+summands-loop-preserved t c = search (summands-on, c.in_ok-token.was, c.in_ok-w.was, c.in_ok-u.was) depth 13
 
 pub summands-returns : goal.summands-returns
 summands-returns t c = search summands-none depth 6
 
-pub term-returns-in_default : goal.term-returns-in_default
-term-returns-in_default t c = search term-refused depth 6
+pub term-returns-in_err-v : goal.term-returns-in_err-v
+term-returns-in_err-v t c = let p = err_from_is_err_and c.from_residual.result c.from_residual.ensures.1 in rw (p.1, p.2, ← c.in_err-v.was) (search (term-refused, c.in_err-v.was) depth 7)
 
 pub term-returns : goal.term-returns
-term-returns t c = search term-rest depth 7
+term-returns t c = search (term-rest, c.in_ok-v.was) depth 8
 
-pub within-returns-in-Test : goal.within-returns-in-Test
-within-returns-in-Test t c = search within-tried depth 8
+pub within-returns-in-Some : goal.within-returns-in-Some
+within-returns-in-Some t c = search within-tried depth 8
 
 pub within-loop-j-init : goal.within-loop-j-init
 within-loop-j-init t c = search within-start depth 6
 
-pub within-returns-in-Refused-test : goal.within-returns-in-Refused-test
-within-returns-in-Refused-test t c = search within-outside depth 10
+pub within-returns-in_err-bounds : goal.within-returns-in_err-bounds
+within-returns-in_err-bounds t c = let p = err_from_is_err_and c.from_residual.result c.from_residual.ensures.1 in rw (p.1, p.2) (search (within-entry, c.in_err-bounds.was) depth 10)
 
-pub within-returns-in-Refused : goal.within-returns-in-Refused
-within-returns-in-Refused t c = search within-entry depth 9
-
-pub within-overflow_add-j : goal.within-overflow_add-j
-within-overflow_add-j t c = omega (arith, c.loop-j-test.true, c.length-n.type_inv)
-
-pub within-loop-j-smaller : goal.within-loop-j-smaller
-within-loop-j-smaller t c = omega (arith, c.loop-j-test.true)
+pub within-returns-in_err-scope : goal.within-returns-in_err-scope
+within-returns-in_err-scope t c = let p = err_from_is_err_and c.from_residual-in_err-scope.result c.from_residual-in_err-scope.ensures.1 in rw (p.1, p.2) (search (within-outside, c.in_ok-bounds.was, c.in_err-scope.was) depth 11)
 
 pub within-loop-j-preserved : goal.within-loop-j-preserved
-within-loop-j-preserved t c = search (within_on, c.loop-j.invariant, c.loop-j-test.true, c.length-n.ensures) depth 10
+within-loop-j-preserved t c = search (within_on, c.in_ok-bounds.was, c.in_ok-scope.was, c.loop-j.invariant, c.loop-j-test.true, c.length-n.ensures) depth 11
 
 pub within-returns : goal.within-returns
 within-returns t c = search within_end depth 7

@@ -1,5 +1,6 @@
 -- Laws of the steps on values: what each answers, and that it is what the definition says of values.
-use Rattle.std.specs.Prelude.{Option, Some, None}
+use Rattle.std.specs.Prelude.{Err, Ok, Result, Option, Some, None}
+use Rattle.rules.specs.declared.Refused.{Refused}
 use mathlib.Core.Path.{◌≡◌, refl, ◌∙◌, ap}
 use mathlib.Core.Bool.{Bool, true, false, cond}
 use mathlib.Core.List.{List}
@@ -23,13 +24,9 @@ use Rattle.store.specs.Packed.{unpacked}
 use Rattle.store.proofs.Halving.{found_word, finds-sorted}
 use Rattle.language.specs.Scope.{bound_to}
 use Rattle.evaluator.specs.declared.steps.scope.Scope.{Scope as Held}
-use Rattle.evaluator.specs.declared.steps.scope.Bound.{Bound}
-use Rattle.evaluator.specs.declared.steps.scope.Bound.TheVariants as bound
-use Rattle.evaluator.specs.declared.steps.values.Answer.{Answer}
-use Rattle.evaluator.specs.declared.steps.values.Answer.TheVariants as answer
 use Rattle.evaluator.specs.declared.steps.values.Limits.{Limits}
 use Rattle.evaluator.specs.declared.steps.values.Bounds.{Bounds}
-use Rattle.evaluator.specs.Steps.Scopes.{bindings_of, bound_option}
+use Rattle.evaluator.specs.Steps.Scopes.{bindings_of}
 use Rattle.evaluator.specs.Steps.Values.{fitted_at, signed_value, whole_by, whole_answer, bound_by, bound_answer, word_answer, known_answer, KnownEarly}
 
 -- ---- values
@@ -38,15 +35,15 @@ pub literal-is : (x : ℕ) → Fits w64 x → ◌≡◌ {A = Value} (record { m 
 literal-is x h = rw (to_z_pos w64 {n = x / 8} (omega (arith, h.fits))) refl
 
 module _ (p a : ℕ) (f : Option Value) where
-  pub fitted-value : (v : Value) → f ≡ Some v → answer.Value v a ≡ fitted_at p a f
+  pub fitted-value : (v : Value) → f ≡ Some v → Ok (v, a) ≡ fitted_at p a f
   unfolding fitted_at
   fitted-value v e = rw e refl
 
-  pub fitted-not : f ≡ None → answer.Refused Unfit p ≡ fitted_at p a f
+  pub fitted-not : f ≡ None → Err (record { refusal = Unfit; place = p }) ≡ fitted_at p a f
   unfolding fitted_at
   fitted-not e = rw e refl
 
-  pub fitted-same : (g : Option Value) (r : Answer) → r ≡ fitted_at p a g → g ≡ f → r ≡ fitted_at p a f
+  pub fitted-same : (g : Option Value) (r : Result (Value × ℕ) Refused) → r ≡ fitted_at p a g → g ≡ f → r ≡ fitted_at p a f
   fitted-same g r e h = e ∙ ap (fitted_at p a) h
 
 pub signed-minus : (b : Bool) (v w : Value) → b ≡ true → w ≡ cond (in_range v) (negate v) v → w ≡ signed_value b v
@@ -57,27 +54,27 @@ pub signed-plus : (b : Bool) (v : Value) → b ≡ false → v ≡ signed_value 
 unfolding signed_value
 signed-plus b v e = rw e refl
 
-pub sum_same : (p a : ℕ) (b : Bool) (v w u : Value) (g : Option Value) (r : Answer) → u ≡ signed_value b w → g ≡ if_in_range v u (sum_of v u) → r ≡ fitted_at p a g
+pub sum_same : (p a : ℕ) (b : Bool) (v w u : Value) (g : Option Value) (r : Result (Value × ℕ) Refused) → u ≡ signed_value b w → g ≡ if_in_range v u (sum_of v u) → r ≡ fitted_at p a g
     → r ≡ fitted_at p a (if_in_range v (signed_value b w) (sum_of v (signed_value b w)))
 sum_same p a b v w u g r e f h = h ∙ ap (fitted_at p a) (f ∙ ap (λ u. if_in_range v u (sum_of v u)) e)
 
 -- ---- whole numbers
 
 module _ (p a : ℕ) (v : Value) (w : Option ℤ) (h : w ≡ whole_of v) where
-  pub whole-yes : (k : ℤ) → w ≡ Some k → answer.Value v a ≡ whole_answer p a v
+  pub whole-yes : (k : ℤ) → w ≡ Some k → Ok (v, a) ≡ whole_answer p a v
   unfolding whole_answer whole_by
   whole-yes k e = rw (← h, e) refl
 
-  pub whole-no : w ≡ None → answer.Refused NotWhole p ≡ whole_answer p a v
+  pub whole-no : w ≡ None → Err (record { refusal = NotWhole; place = p }) ≡ whole_answer p a v
   unfolding whole_answer whole_by
   whole-no e = rw (← h, e) refl
 
-module _ (p a i : ℕ) (s : Held) (b : Bound) (h : bound_option b ≡ bound_to i (bindings_of s)) where
-  pub bound-no : b ≡ bound.Nothing → answer.Refused BadIndex p ≡ bound_answer p a s i
+module _ (p a i : ℕ) (s : Held) (b : Option ℤ) (h : b ≡ bound_to i (bindings_of s)) where
+  pub bound-no : b ≡ None → Err (record { refusal = BadIndex; place = p }) ≡ bound_answer p a s i
   unfolding bound_answer bound_by
   bound-no e = rw (← h, e) refl
 
-  pub bound-yes : (k : ℤ) (v : Value) → b ≡ bound.To k → mag k < 2 ^ 63 → v ≡ of_whole (to_z w64 (of_z w64 k)) → answer.Value v a ≡ bound_answer p a s i
+  pub bound-yes : (k : ℤ) (v : Value) → b ≡ Some k → mag k < 2 ^ 63 → v ≡ of_whole (to_z w64 (of_z w64 k)) → Ok (v, a) ≡ bound_answer p a s i
   unfolding bound_answer bound_by
   bound-yes k v e m g = rw (g, back m, ← h, e) refl
 
@@ -95,15 +92,15 @@ bounds-are i q v w l e = rw e refl
 -- ---- data
 
 module _ (ds : List ℕ) (p a : ℕ) (f : Option ℕ) where
-  pub datum-no : f ≡ None → answer.Refused Missing p ≡ word_answer p a (word_in ds f)
+  pub datum-no : f ≡ None → Err (record { refusal = Missing; place = p }) ≡ word_answer p a (word_in ds f)
   unfolding word_answer word_in
   datum-no e = rw e
 
-  pub datum-yes : (j w : ℕ) (v : Value) → f ≡ Some j → w ≡ word_at ds j → v ≡ unpacked w → answer.Value v a ≡ word_answer p a (word_in ds f)
+  pub datum-yes : (j w : ℕ) (v : Value) → f ≡ Some j → w ≡ word_at ds j → v ≡ unpacked w → Ok (v, a) ≡ word_answer p a (word_in ds f)
   unfolding word_answer word_in
   datum-yes j w v e x y = rw (e, y, x)
 
-module _ (ds : List ℕ) (rows i p a : ℕ) (ks : List ℤ) (k : Key) (f : Option ℕ) (h : key_number k ≡ key_of i ks) (r : Answer) (d : r ≡ word_answer p a (word_in ds f)) where
+module _ (ds : List ℕ) (rows i p a : ℕ) (ks : List ℤ) (k : Key) (f : Option ℕ) (h : key_number k ≡ key_of i ks) (r : Result (Value × ℕ) Refused) (d : r ≡ word_answer p a (word_in ds f)) where
   pub known_is : f ≡ found_row ds rows (key_number k) → r ≡ known_answer ds rows i ks p a
   unfolding known_answer
   known_is g = d ∙ ap (λ f. word_answer p a (word_in ds f)) g ∙ ap (λ n. word_answer p a (word_in ds (found_row ds rows n))) h

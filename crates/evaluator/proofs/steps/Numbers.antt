@@ -1,5 +1,6 @@
 -- Laws of names by their numbers: the table resolved, rows, and what a token's number says of the names.
-use Rattle.std.specs.Prelude.{Option, Some, None, slice_get}
+use Rattle.std.specs.Prelude.{Err, Ok, Result, Option, Some, None, slice_get}
+use Rattle.rules.specs.declared.Refused.{Refused}
 use mathlib.Core.Path.{◌≡◌, refl, sym, ◌∙◌, ap, subst}
 use mathlib.Core.Bool.{Bool, true, false, cond}
 use mathlib.Core.List.{List, [], ◌∷◌, map}
@@ -8,38 +9,32 @@ use native.Mathlib.Omega.{arith}
 use borrow.Author.Tests.{lt-ltb, le-ltb, eq-eqb, ne_eqb, eqb-true, ltb-true, ltb-false}
 use lib.Dec.{eqb, ltb}
 use lib.ListN.{length, length-set, get_or, set, drop, take, length-map, get_or-eq_default}
-use Rattle.rules.specs.declared.Refusal.{Refusal}
 use Rattle.rules.specs.Limits.{name_limit}
 use Rattle.lexer.specs.Text.{Token, same_bytes}
 use Rattle.lexer.specs.Text
 use Rattle.language.specs.Syntax.{Name, Sort}
 use Rattle.language.specs.Reader.{Used, find}
 use Rattle.tokens.specs.declared.Found.{Found}
-use Rattle.tokens.specs.declared.Found.TheVariants as found
 use Rattle.tokens.specs.declared.Seen.{Seen}
-use Rattle.tokens.specs.declared.Seen.TheVariants as seen
 use Rattle.tokens.specs.Stored.{kind_part, place_part, payload_part, name_bytes, spelling, kind_of, token, view, from, Sees, Looks, look_up, Shaped, Named}
 use Rattle.tokens.proofs.Tables.{view-here, view-end, declared, not-declared}
 use Rattle.tokens.proofs.Moved.{next-is}
 use Rattle.onepass.specs.Walk.{used_number, name_number, walk_head}
 use Rattle.evaluator.specs.declared.steps.names.Listed.{Listed}
-use Rattle.evaluator.specs.declared.steps.names.Listed.TheVariants as listed
-use Rattle.evaluator.specs.declared.steps.names.Headed.{Headed}
-use Rattle.evaluator.specs.declared.steps.names.Headed.TheVariants.{Index, Refused}
 use Rattle.evaluator.specs.Steps.Passing.{Skips}
 use Rattle.evaluator.specs.Steps.Names.{number_part, number_found, word_spelling, Resolved, number_kept, resolved_word, Resolves, row_word, listed_of, number_below, index_number, HeadAt, Opens, Heads}
 
 -- ---- a number in a word
 
-pub kept-name : (f : Found) (i k c : ℕ) → f ≡ found.Name i k c → i < 64 → (i + 1 ≡ number_kept f) × (i + 1 ≤ 64)
+pub kept-name : (f : Option Found) (w : Found) → f ≡ Some w → w.number < 64 → (w.number + 1 ≡ number_kept f) × (w.number + 1 ≤ 64)
 unfolding number_kept name_limit
-kept-name f i k c e h = let n : i + 1 ≡ suc i = omega arith in (rw (e, lt-ltb i 64 h) n, omega arith)
+kept-name f z e h = let n : z.number + 1 ≡ suc z.number = omega arith in (rw (e, lt-ltb z.number 64 h) n, omega arith)
 
-pub kept-beyond : (f : Found) (i k c : ℕ) → f ≡ found.Name i k c → 64 ≤ i → (0 ≡ number_kept f) × (0 ≤ 64)
+pub kept-beyond : (f : Option Found) (w : Found) → f ≡ Some w → 64 ≤ w.number → (0 ≡ number_kept f) × (0 ≤ 64)
 unfolding number_kept name_limit
-kept-beyond f i k c e h = (rw (e, le-ltb i 64 h), omega arith)
+kept-beyond f z e h = (rw (e, le-ltb z.number 64 h), omega arith)
 
-pub kept-nothing : (f : Found) → f ≡ found.Nothing → (0 ≡ number_kept f) × (0 ≤ 64)
+pub kept-nothing : (f : Option Found) → f ≡ None → (0 ≡ number_kept f) × (0 ≤ 64)
 unfolding number_kept
 kept-nothing f e = (rw e, omega arith)
 
@@ -48,20 +43,20 @@ module _ (s ns : List ℕ) (w : ℕ) where
   unfolding resolved_word
   word-other h = rw (ne_eqb (kind_part w) 1 h)
 
-  pub word-name : (kind_part w ≡ 1) → (f : Found) → f ≡ look_up s (word_spelling s w) ns 0 → (n : ℕ) → n ≡ number_kept f
+  pub word-name : (kind_part w ≡ 1) → (f : Option Found) → f ≡ look_up s (word_spelling s w) ns 0 → (n : ℕ) → n ≡ number_kept f
       → w - payload_part w + name_bytes (payload_part w) + n * 16 ≡ resolved_word s ns w
   unfolding resolved_word
   word-name h f e n d = rw (eq-eqb (kind_part w) 1 h, ← e, d)
 
 -- parts of a word with a number
-kept_small : (f : Found) → number_kept f ≤ 64
+kept_small : (f : Option Found) → number_kept f ≤ 64
 unfolding number_kept name_limit
-kept_small (found.Name i k c) = go (ltb i 64) refl
+kept_small (Some x) = go (ltb x.number 64) refl
   where
-    go : (b : Bool) → ltb i 64 ≡ b → cond b (suc i) 0 ≤ 64
-    go true e = omega (arith, ltb-true i 64 e)
+    go : (b : Bool) → ltb x.number 64 ≡ b → cond b (suc x.number) 0 ≤ 64
+    go true e = omega (arith, ltb-true x.number 64 e)
     go false e = omega arith
-kept_small found.Nothing = omega arith
+kept_small None = omega arith
 
 module _ (w n : ℕ) (h : n ≤ 64) where
   new-kind : kind_part (w - payload_part w + name_bytes (payload_part w) + n * 16) ≡ kind_part w
@@ -112,27 +107,27 @@ get_d_map f (w ∷ l) zero h = refl
 get_d_map f (w ∷ l) (suc at) h = get_d_map f l at (omega arith)
 
 -- a number that the table tells is below the number of its rows
-told_below : (s l ns : List ℕ) (i j k c : ℕ) → look_up s l ns i ≡ found.Name j k c → j * 5 < i * 5 + length ns
+told_below : (s l ns : List ℕ) (i : ℕ) (w : Found) → look_up s l ns i ≡ Some w → w.number * 5 < i * 5 + length ns
 unfolding look_up
-told_below s l [] i j k c e = absurd (let z : ◌≡◌ {A = ℕ} 0 1 = cc in omega arith)
-told_below s l (a ∷ []) i j k c e = absurd (let z : ◌≡◌ {A = ℕ} 0 1 = cc in omega arith)
-told_below s l (a ∷ b ∷ []) i j k c e = absurd (let z : ◌≡◌ {A = ℕ} 0 1 = cc in omega arith)
-told_below s l (a ∷ b ∷ d ∷ []) i j k c e = absurd (let z : ◌≡◌ {A = ℕ} 0 1 = cc in omega arith)
-told_below s l (a ∷ b ∷ d ∷ f ∷ []) i j k c e = absurd (let z : ◌≡◌ {A = ℕ} 0 1 = cc in omega arith)
-told_below s l (a ∷ b ∷ d ∷ f ∷ q ∷ ns) i j k c e = go (same_bytes l (spelling s a b)) (told_below s l ns (suc i) j k c) e
+told_below s l [] i w e = absurd (let z : ◌≡◌ {A = ℕ} 0 1 = cc in omega arith)
+told_below s l (a ∷ []) i w e = absurd (let z : ◌≡◌ {A = ℕ} 0 1 = cc in omega arith)
+told_below s l (a ∷ b ∷ []) i w e = absurd (let z : ◌≡◌ {A = ℕ} 0 1 = cc in omega arith)
+told_below s l (a ∷ b ∷ d ∷ []) i w e = absurd (let z : ◌≡◌ {A = ℕ} 0 1 = cc in omega arith)
+told_below s l (a ∷ b ∷ d ∷ f ∷ []) i w e = absurd (let z : ◌≡◌ {A = ℕ} 0 1 = cc in omega arith)
+told_below s l (a ∷ b ∷ d ∷ f ∷ q ∷ ns) i z e = go (same_bytes l (spelling s a b)) (told_below s l ns (suc i) z) e
   where
-    go : (u : Bool) → (look_up s l ns (suc i) ≡ found.Name j k c → j * 5 < suc i * 5 + length ns)
-        → (elim u as (λ _. Found) [ true ↦ found.Name i d f | false ↦ look_up s l ns (suc i) ]) ≡ found.Name j k c → j * 5 < i * 5 + length (a ∷ b ∷ d ∷ f ∷ q ∷ ns)
-    go true g e = let n : i ≡ j = cc in omega arith
+    go : (u : Bool) → (look_up s l ns (suc i) ≡ Some z → z.number * 5 < suc i * 5 + length ns)
+        → (elim u as (λ _. Option Found) [ true ↦ Some (record { number = i; sort = d; count = f }) | false ↦ look_up s l ns (suc i) ]) ≡ Some z → z.number * 5 < i * 5 + length (a ∷ b ∷ d ∷ f ∷ q ∷ ns)
+    go true g e = let y : ◌≡◌ {A = Found} (record { number = i; sort = d; count = f }) z = cc in omega (arith, ap (λ (w : Found). w.number) y)
     go false g e = omega (arith, g e)
 
 kept-found : (s l ns : List ℕ) → length ns ≤ name_limit * 5 → number_kept (look_up s l ns 0) ≡ number_found (look_up s l ns 0)
 unfolding number_kept name_limit
 kept-found s l ns h = go (look_up s l ns 0) refl
   where
-    go : (f : Found) → look_up s l ns 0 ≡ f → number_kept f ≡ number_found f
-    go (found.Name i k c) e = rw (lt-ltb i 64 (omega (arith, told_below s l ns 0 i k c e)))
-    go found.Nothing e = refl
+    go : (f : Option Found) → look_up s l ns 0 ≡ f → number_kept f ≡ number_found f
+    go (Some x) e = rw (lt-ltb x.number 64 (omega (arith, told_below s l ns 0 x e)))
+    go None e = refl
 
 word_number : (s ns : List ℕ) (w : ℕ) → length ns ≤ name_limit * 5 → kind_part (resolved_word s ns w) ≡ 1
     → number_part (resolved_word s ns w) ≡ number_found (look_up s (word_spelling s (resolved_word s ns w)) ns 0)
@@ -189,13 +184,13 @@ pub record Resolving (s ns ts : List ℕ) (i : ℕ) (us : List ℕ) : Type 0 whe
 pub resolving-start : (s ns ts : List ℕ) → Resolving s ns ts 0 ts
 resolving-start s ns ts = record { left = refl; size = refl }
 
-pub resolving-more : (s ns ts us : List ℕ) (i w : ℕ) → Resolving s ns ts i us → i < length us → w ≡ resolved_word s ns (get_or us i 0) → Resolving s ns ts (i + 1) (set us i w)
+pub resolving-more : (s ns ts us : List ℕ) (i w : ℕ) → Resolving s ns ts i us → i < length ts → w ≡ resolved_word s ns (get_or us i 0) → Resolving s ns ts (i + 1) (set us i w)
 resolving-more s ns ts us i w r h e =
     let n : i + 1 ≡ suc i = omega arith in
-    record { left = rw (n, e) (sym (map_from-step (resolved_word s ns) i us h) ∙ r.left); size = simp length-set r.size }
+    record { left = rw (n, e) (sym (map_from-step (resolved_word s ns) i us (omega (arith, r.size))) ∙ r.left); size = simp length-set r.size }
 
-pub resolving-end : (s ns ts us : List ℕ) (i : ℕ) → Resolving s ns ts i us → length us ≤ i → us ≡ map (resolved_word s ns) ts
-resolving-end s ns ts us i r h = sym (map_from-end (resolved_word s ns) i us h) ∙ r.left
+pub resolving-end : (s ns ts us : List ℕ) (i : ℕ) → Resolving s ns ts i us → length ts ≤ i → us ≡ map (resolved_word s ns) ts
+resolving-end s ns ts us i r h = sym (map_from-end (resolved_word s ns) i us (omega (arith, r.size))) ∙ r.left
 
 -- ---- rows
 
@@ -217,11 +212,11 @@ pub row-wide : (ns : List ℕ) (i f : ℕ) → length ns ≤ f → 0 ≡ row_wor
 row-wide ns i f h = row-past ns i f (omega arith)
 
 module _ (ns : List ℕ) (n x : ℕ) (h : n ≡ x) where
-  pub listed-none : n ≡ 0 → listed.Nothing ≡ listed_of ns x
+  pub listed-none : n ≡ 0 → None ≡ listed_of ns x
   unfolding listed_of
   listed-none e = rw (← h, e) refl
 
-  pub listed-name : (n ≡ 0 → ⊥) → (k c q : ℕ) → k ≡ row_word ns (n - 1) 2 → c ≡ row_word ns (n - 1) 3 → q ≡ row_word ns (n - 1) 4 → listed.Name (n - 1) k c q ≡ listed_of ns x
+  pub listed-name : (n ≡ 0 → ⊥) → (k c q : ℕ) → k ≡ row_word ns (n - 1) 2 → c ≡ row_word ns (n - 1) 3 → q ≡ row_word ns (n - 1) 4 → Some (record { number = (n - 1); sort = k; count = c; start = q }) ≡ listed_of ns x
   unfolding listed_of
   listed-name z k c q e f g = let d : suc (n - 1) ≡ x = omega arith in rw (← d, e, f, g) refl
 
@@ -361,16 +356,16 @@ module _ (s l ns : List ℕ) (names : List Name) (p : ℕ) (d : Named s ns names
   told_none : 0 ≡ number_found (look_up s l ns 0) → (level : ℕ) → find l (take level names) 0 p ≡ None
   told_none e level = go (look_up s l ns 0) refl e
     where
-      go : (f : Found) → look_up s l ns 0 ≡ f → 0 ≡ number_found f → find l (take level names) 0 p ≡ None
-      go (found.Name i k c) h e = absurd (omega arith)
-      go found.Nothing h e = found_none l p names 0 level (not-declared s l ns names 0 p d h)
+      go : (f : Option Found) → look_up s l ns 0 ≡ f → 0 ≡ number_found f → find l (take level names) 0 p ≡ None
+      go (Some x) h e = absurd (omega arith)
+      go None h e = found_none l p names 0 level (not-declared s l ns names 0 p d h)
 
   told-known : (i : ℕ) → suc i ≡ number_found (look_up s l ns 0) → Known l names p i
   told-known i e = go (look_up s l ns 0) refl e
     where
-      go : (f : Found) → look_up s l ns 0 ≡ f → suc i ≡ number_found f → Known l names p i
-      go (found.Name j k c) h e =
-          let u = declared s l ns names 0 p j k c d h in
+      go : (f : Option Found) → look_up s l ns 0 ≡ f → suc i ≡ number_found f → Known l names p i
+      go (Some x) h e =
+          let u = declared s l ns names 0 p x d h in
           let n : u.used.number ≡ i = omega (arith, u.numbered) in
           let r = found-numbered l p names 0 u.used u.stands in
           let m : i ≡ r.ahead = omega (arith, r.numbered) in
@@ -381,7 +376,7 @@ module _ (s l ns : List ℕ) (names : List Name) (p : ℕ) (d : Named s ns names
             found = λ level b. found_first l p names 0 level u.used u.stands (omega arith) ∙ ap Some g;
             late = λ level b. found-late l p names 0 level u.used u.stands (omega arith);
           }
-      go found.Nothing h e = absurd (omega arith)
+      go None h e = absurd (omega arith)
 
 kind-name : (s : List ℕ) (k p x : ℕ) (l : List ℕ) → kind_of s k p x ≡ Text.name l → (k ≡ 1) × (spelling s p (name_bytes x) ≡ l)
 unfolding kind_of
@@ -394,51 +389,51 @@ kind-name s (suc (suc (suc (suc (suc zero))))) p x l e = absurd (let z : ◌≡�
 kind-name s (suc (suc (suc (suc (suc (suc k)))))) p x l e = absurd (let z : ◌≡◌ {A = ℕ} 0 1 = cc in omega arith)
 
 -- the word of a token that was seen
-seen-word : (s ts : List ℕ) (at k p x a : ℕ) → Sees s ts at (seen.Token k p x a)
-    → (at < length ts) × (token s k p x ≡ token s (kind_part (get_or ts at 0)) (place_part (get_or ts at 0)) (payload_part (get_or ts at 0)))
+seen-word : (s ts : List ℕ) (at : ℕ) (w : Seen) → Sees s ts at (Ok w)
+    → (at < length ts) × (token s w.kind w.place w.payload ≡ token s (kind_part (get_or ts at 0)) (place_part (get_or ts at 0)) (payload_part (get_or ts at 0)))
 unfolding from
-seen-word s ts at k p x a h = go (ltb at (length ts)) refl
+seen-word s ts at w h = go (ltb at (length ts)) refl
   where
-    go : (b : Bool) → ltb at (length ts) ≡ b → (at < length ts) × (token s k p x ≡ token s (kind_part (get_or ts at 0)) (place_part (get_or ts at 0)) (payload_part (get_or ts at 0)))
+    go : (b : Bool) → ltb at (length ts) ≡ b → (at < length ts) × (token s w.kind w.place w.payload ≡ token s (kind_part (get_or ts at 0)) (place_part (get_or ts at 0)) (payload_part (get_or ts at 0)))
     go true e = let b = ltb-true at (length ts) e in let v = view-here s ts at b in (b, cc h.1)
     go false e = absurd (let v = view-end s ts at (ltb-false at (length ts) e) in let z : ◌≡◌ {A = ℕ} 0 1 = cc h.1 in omega arith)
 
 module _ (s ns ts : List ℕ) (names : List Name) (d : Named s ns names) (r : Resolved s ns ts) where
   -- of a name token
-  module _ (at k p x a : ℕ) (t : Seen) (h : Looks ts at t) (e : t ≡ seen.Token k p x a) (one : k ≡ 1) (v : Listed) (g : v ≡ listed_of ns (number_part (get_or ts at 0))) where
-    spelled : number_part (get_or ts at 0) ≡ number_found (look_up s (spelling s p (name_bytes x)) ns 0)
+  module _ (at : ℕ) (y : Seen) (t : Result Seen Refused) (h : Looks ts at t) (e : t ≡ Ok y) (one : y.kind ≡ 1) (v : Option Listed) (g : v ≡ listed_of ns (number_part (get_or ts at 0))) where
+    spelled : number_part (get_or ts at 0) ≡ number_found (look_up s (spelling s y.place (name_bytes y.payload)) ns 0)
     unfolding token kind_of
     spelled =
         let w = get_or ts at 0 in
-        let (b, f) = seen-word s ts at k p x a (subst (Sees s ts at) e (h.sees s)) in
-        let q : p ≡ place_part w = ap (λ (t : Token). t.place) f in
-        let n = kind-name s (kind_part w) (place_part w) (payload_part w) (spelling s p (name_bytes x)) (sym (ap (λ (t : Token). t.kind) f) ∙ rw one refl) in
+        let (b, f) = seen-word s ts at y (subst (Sees s ts at) e (h.sees s)) in
+        let q : y.place ≡ place_part w = ap (λ (t : Token). t.place) f in
+        let n = kind-name s (kind_part w) (place_part w) (payload_part w) (spelling s y.place (name_bytes y.payload)) (sym (ap (λ (t : Token). t.kind) f) ∙ rw one refl) in
         r.numbers at b n.0 ∙ ap (λ l. number_found (look_up s l ns 0)) n.1
 
-    pub unknown : v ≡ listed.Nothing → (level : ℕ) → find (spelling s p (name_bytes x)) (take level names) 0 p ≡ None
+    pub unknown : v ≡ None → (level : ℕ) → find (spelling s y.place (name_bytes y.payload)) (take level names) 0 y.place ≡ None
     unfolding listed_of
     unknown f level = go (number_part (get_or ts at 0)) spelled (sym g ∙ f)
       where
-        go : (n : ℕ) → n ≡ number_found (look_up s (spelling s p (name_bytes x)) ns 0) → listed_of ns n ≡ listed.Nothing → find (spelling s p (name_bytes x)) (take level names) 0 p ≡ None
-        go zero n f = told_none s (spelling s p (name_bytes x)) ns names p d n level
+        go : (n : ℕ) → n ≡ number_found (look_up s (spelling s y.place (name_bytes y.payload)) ns 0) → listed_of ns n ≡ None → find (spelling s y.place (name_bytes y.payload)) (take level names) 0 y.place ≡ None
+        go zero n f = told_none s (spelling s y.place (name_bytes y.payload)) ns names y.place d n level
         go (suc i) n f = absurd (let z : ◌≡◌ {A = ℕ} 0 1 = cc in omega arith)
 
-    pub known : (i j c q : ℕ) → v ≡ listed.Name i j c q → Known (spelling s p (name_bytes x)) names p i
+    pub known : (w : Listed) → v ≡ Some w → Known (spelling s y.place (name_bytes y.payload)) names y.place w.number
     unfolding listed_of
-    known i j c q f = go (number_part (get_or ts at 0)) spelled (sym g ∙ f)
+    known w f = go (number_part (get_or ts at 0)) spelled (sym g ∙ f)
       where
-        go : (n : ℕ) → n ≡ number_found (look_up s (spelling s p (name_bytes x)) ns 0) → listed_of ns n ≡ listed.Name i j c q → Known (spelling s p (name_bytes x)) names p i
+        go : (n : ℕ) → n ≡ number_found (look_up s (spelling s y.place (name_bytes y.payload)) ns 0) → listed_of ns n ≡ Some w → Known (spelling s y.place (name_bytes y.payload)) names y.place w.number
         go zero n f = absurd (let z : ◌≡◌ {A = ℕ} 0 1 = cc in omega arith)
-        go (suc m) n f = let e : m ≡ i = cc in subst (Known (spelling s p (name_bytes x)) names p) e (told-known s (spelling s p (name_bytes x)) ns names p d m n)
+        go (suc m) n f = let z : ◌≡◌ {A = Listed} (record { number = m; sort = row_word ns m 2; count = row_word ns m 3; start = row_word ns m 4 }) w = cc in let e : m ≡ w.number = ap (λ (w : Listed). w.number) z in subst (Known (spelling s y.place (name_bytes y.payload)) names y.place) e (told-known s (spelling s y.place (name_bytes y.payload)) ns names y.place d m n)
 
     -- its row
-    pub row-of : (i j c q : ℕ) → v ≡ listed.Name i j c q → (j ≡ row_word ns i 2) × (c ≡ row_word ns i 3) × (q ≡ row_word ns i 4)
+    pub row-of : (w : Listed) → v ≡ Some w → (w.sort ≡ row_word ns w.number 2) × (w.count ≡ row_word ns w.number 3) × (w.start ≡ row_word ns w.number 4)
     unfolding listed_of
-    row-of i j c q f = go (number_part (get_or ts at 0)) (sym g ∙ f)
+    row-of w f = go (number_part (get_or ts at 0)) (sym g ∙ f)
       where
-        go : (n : ℕ) → listed_of ns n ≡ listed.Name i j c q → (j ≡ row_word ns i 2) × (c ≡ row_word ns i 3) × (q ≡ row_word ns i 4)
+        go : (n : ℕ) → listed_of ns n ≡ Some w → (w.sort ≡ row_word ns w.number 2) × (w.count ≡ row_word ns w.number 3) × (w.start ≡ row_word ns w.number 4)
         go zero f = absurd (let z : ◌≡◌ {A = ℕ} 0 1 = cc in omega arith)
-        go (suc m) f = let e : m ≡ i = cc in rw (← e) (cc, cc, cc)
+        go (suc m) f = let y : ◌≡◌ {A = Listed} (record { number = m; sort = row_word ns m 2; count = row_word ns m 3; start = row_word ns m 4 }) w = cc in subst (λ (w : Listed). (w.sort ≡ row_word ns w.number 2) × (w.count ≡ row_word ns w.number 3) × (w.start ≡ row_word ns w.number 4)) y (refl, refl, refl)
 
   -- an index's number, of any token
   word-index : (level w : ℕ) → (kind_part w ≡ 1 → number_part w ≡ number_found (look_up s (word_spelling s w) ns 0))
@@ -464,29 +459,29 @@ module _ (s ns ts : List ℕ) (names : List Name) (d : Named s ns names) (r : Re
       go (suc (suc (suc (suc (suc zero))))) h = refl
       go (suc (suc (suc (suc (suc (suc k)))))) h = rw (ne_eqb (suc (suc (suc (suc (suc (suc k)))))) 1 (λ e. omega arith)) refl
 
-  pub index_of : (level at k p x a : ℕ) → Sees s ts at (seen.Token k p x a) → name_number (take level names) (token s k p x).kind ≡ index_number level (get_or ts at 0)
+  pub index_of : (level at : ℕ) (w : Seen) → Sees s ts at (Ok w) → name_number (take level names) (token s w.kind w.place w.payload).kind ≡ index_number level (get_or ts at 0)
   unfolding token
-  index_of level at k p x a h =
-      let (b, f) = seen-word s ts at k p x a h in
+  index_of level at z h =
+      let (b, f) = seen-word s ts at z h in
       ap (λ (t : Token). name_number (take level names) t.kind) f ∙ word-index level (get_or ts at 0) (r.numbers at b)
 
 -- ---- `(`, an index and a comma
 
-module _ (ts : List ℕ) (level at a : ℕ) (t : Seen) (f : Skips ts at a) (h : Looks ts a t) where
-  pub heads-wrong : (n : Refusal) (p : ℕ) → t ≡ seen.Refused n p → Opens ts level at (Refused n p)
-  heads-wrong n p e = record { behind = a; skips = f; token = t; looks = h; answer = rw e (refl, refl) }
+module _ (ts : List ℕ) (level at a : ℕ) (t : Result Seen Refused) (f : Skips ts at a) (h : Looks ts a t) where
+  pub heads-wrong : (e : Refused) → t ≡ Err e → Opens ts level at (Err e)
+  heads-wrong z e = record { behind = a; skips = f; token = t; looks = h; answer = rw e (refl, refl) }
 
-  pub heads-index : (k p x b c i : ℕ) → t ≡ seen.Token k p x b → i ≡ index_number level (get_or ts a 0) → Skips ts b c → Opens ts level at (Index i c)
-  heads-index k p x b c i e j g = record { behind = a; skips = f; token = t; looks = h; answer = rw e (j, g) }
+  pub heads-index : (w : Seen) (c i : ℕ) → t ≡ Ok w → i ≡ index_number level (get_or ts a 0) → Skips ts w.next c → Opens ts level at (Ok (i, c))
+  heads-index z c i e j g = record { behind = a; skips = f; token = t; looks = h; answer = rw e (j, g) }
 
 -- of resolved tokens
-pub heads-of : (ts : List ℕ) (level at : ℕ) (r : Headed) → Opens ts level at r → Heads ts level at r
+pub heads-of : (ts : List ℕ) (level at : ℕ) (r : Result (ℕ × ℕ) Refused) → Opens ts level at r → Heads ts level at r
 unfolding walk_head
 heads-of ts level at r o = go o.behind o.token r o.skips o.looks o.answer
   where
-    go : (a : ℕ) (t : Seen) (r : Headed) → Skips ts at a → Looks ts a t → HeadAt ts level a t r → Heads ts level at r
-    go a (seen.Token k p x b) (Index i c) f h g =
-        record { is = λ s ns names d r. rw (f.is s, next-is s ts a k p x b (h.sees s), g.1.is s, index_of s ns ts names d r level a k p x b (h.sees s), g.0) refl }
-    go a (seen.Token k p x b) (Refused m q) f h g = absurd g
-    go a (seen.Refused m p) (Index i c) f h g = absurd g
-    go a (seen.Refused m p) (Refused n q) f h g = record { is = λ s ns names d r. rw (f.is s, (h.sees s).nexts, g.0, g.1) refl }
+    go : (a : ℕ) (t : Result Seen Refused) (r : Result (ℕ × ℕ) Refused) → Skips ts at a → Looks ts a t → HeadAt ts level a t r → Heads ts level at r
+    go a (Ok t) (Ok (i, c)) f h g =
+        record { is = λ s ns names d r. rw (f.is s, next-is s ts a t (h.sees s), g.1.is s, index_of s ns ts names d r level a t (h.sees s), g.0) refl }
+    go a (Ok t) (Err e) f h g = absurd g
+    go a (Err e) (Ok (i, c)) f h g = absurd g
+    go a (Err e) (Err w) f h g = record { is = λ s ns names d r. rw (f.is s, (h.sees s).nexts, g.0, g.1) refl }

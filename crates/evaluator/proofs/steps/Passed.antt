@@ -1,4 +1,6 @@
 -- Laws of what is passed over: one token, tokens up to a bracket's end, an optional sign.
+use Rattle.std.specs.Prelude.{Err, Ok, Result}
+use Rattle.rules.specs.declared.Refused.{Refused}
 use mathlib.Core.Path.{◌≡◌, refl, sym, ◌∙◌, ap, subst}
 use mathlib.Core.Bool.{Bool, true, false, ◌||◌}
 use mathlib.Core.List.{List, [], ◌∷◌}
@@ -6,20 +8,16 @@ use Prim.Native.Nat.{ℕ, zero, suc, ◌+◌, ◌-◌, ◌<◌, ◌≤◌}
 use native.Mathlib.Omega.{arith}
 use lib.Dec.{eqb}
 use lib.ListN.{length, get_or}
-use Rattle.rules.specs.declared.Refusal.{Refusal}
 use Rattle.lexer.specs.Text.{Token}
 use Rattle.lexer.specs.Marks.{minus_sign}
 use Rattle.language.specs.Outcome.{done}
 use Rattle.language.specs.Reader.{Reader, follow, ◌>>=◌, give, next, is_mark}
 use Rattle.language.specs.Formulas.{is_sum, Signed, read_sign}
 use Rattle.tokens.specs.declared.Seen.{Seen}
-use Rattle.tokens.specs.declared.Seen.TheVariants as seen
 use Rattle.tokens.specs.Stored.{kind_part, place_part, payload_part, token, from, Sees, Looks}
 use Rattle.tokens.proofs.Tables.{mark-of, mark-same, view-here, view-end}
 use Rattle.tokens.proofs.Moved.{next-is, look_is}
 use Rattle.onepass.specs.Walk.{skip, opens_bracket, closes_bracket, behind_bracket}
-use Rattle.evaluator.specs.declared.steps.passing.Lead.{Lead}
-use Rattle.evaluator.specs.declared.steps.passing.Lead.TheVariants.{Sign, Refused}
 use Rattle.evaluator.specs.Steps.Passing.{Skips, Ends, Led, Leads}
 
 -- a sign's number
@@ -38,9 +36,9 @@ unfolding from skip
 skips-one ts at h = record { is = λ s. rw (view-here s ts at h) refl }
 
 -- a token that was seen
-pub skips-seen : (ts : List ℕ) (at k p x a : ℕ) (t : Seen) → Looks ts at t → t ≡ seen.Token k p x a → Skips ts at a
+pub skips-seen : (ts : List ℕ) (at : ℕ) (w : Seen) (t : Result Seen Refused) → Looks ts at t → t ≡ Ok w → Skips ts at w.next
 unfolding skip
-skips-seen ts at k p x a t h e = record { is = λ s. rw (subst (Sees s ts at) e (h.sees s)).1 refl }
+skips-seen ts at z t h e = record { is = λ s. rw (subst (Sees s ts at) e (h.sees s)).1 refl }
 
 -- ---- up to a bracket's end
 
@@ -67,9 +65,9 @@ bracket-step t l false false (suc d) e f = rw (e, f, behind_bracket) refl
 pub open-start : (ts : List ℕ) (at : ℕ) → Open ts at at 0
 open-start ts at = record { same = λ s. refl; few = omega arith }
 
-pub open-end : (ts : List ℕ) (at a d : ℕ) → length ts ≤ a → Open ts at a d → Ends ts at a
+pub open-end : (ts : List ℕ) (at a d b : ℕ) → length ts ≤ a → Open ts at a d → length ts ≤ b → Ends ts at b
 unfolding from behind_bracket
-open-end ts at a d h o = record { is = λ s. o.same s ∙ rw (view-end s ts a h) (go d) }
+open-end ts at a d b h o k = record { is = λ s. o.same s ∙ rw (view-end s ts a h, view-end s ts b k) (go d) }
   where
     go : (d : ℕ) → behind_bracket d [] ≡ []
     go zero = refl
@@ -114,10 +112,10 @@ module _ (ts : List ℕ) (at a d : ℕ) (h : a < length ts) (o : Open ts at a d)
 
 -- ---- an optional sign
 
-module _ (ts : List ℕ) (at : ℕ) (t : Seen) (h : Looks ts at t) where
-  pub leads-wrong : (n : Refusal) (p : ℕ) → t ≡ seen.Refused n p → Leads ts at (Refused n p)
+module _ (ts : List ℕ) (at : ℕ) (t : Result Seen Refused) (h : Looks ts at t) where
+  pub leads-wrong : (e : Refused) → t ≡ Err e → Leads ts at (Err e)
   unfolding read_sign
-  leads-wrong n p e = record { led = λ s. let u = subst (Sees s ts at) e (h.sees s) in rw u.looks (refl, refl) }
+  leads-wrong z e = record { led = λ s. let u = subst (Sees s ts at) e (h.sees s) in rw u.looks (refl, refl) }
 
   signed : Bool → Token → Reader Signed
   signed b x = elim b as (λ _. Reader Signed) [
@@ -125,22 +123,22 @@ module _ (ts : List ℕ) (at : ℕ) (t : Seen) (h : Looks ts at t) where
     | false ↦ give (record { written = false; negative = false })
   ]
 
-  leads-by : (k p x a : ℕ) (b : Bool) (r : Lead) → t ≡ seen.Token k p x a → (eqb k 43 || eqb k 45) ≡ b
-      → ((s : List ℕ) → next (from s ts at) ≡ done (record { what = token s k p x; rest = from s ts a }) → Led (signed b (token s k p x) (from s ts at)) s ts r) → Leads ts at r
+  leads-by : (w : Seen) (b : Bool) (r : Result (Bool × ℕ) Refused) → t ≡ Ok w → (eqb w.kind 43 || eqb w.kind 45) ≡ b
+      → ((s : List ℕ) → next (from s ts at) ≡ done (record { what = token s w.kind w.place w.payload; rest = from s ts w.next }) → Led (signed b (token s w.kind w.place w.payload) (from s ts at)) s ts r) → Leads ts at r
   unfolding read_sign signed
-  leads-by k p x a b r e i g =
+  leads-by z b r e i g =
       record {
         led = λ s.
             let v = subst (Sees s ts at) e (h.sees s) in
-            let j : is_sum (token s k p x) ≡ b = rw (is-mark s k p x 43 (omega arith), is-mark s k p x 45 (omega arith)) i in
-            subst (λ o. Led (follow o (λ t. signed (is_sum t) t)) s ts r) (sym (look_is s ts at k p x a v))
-            (subst (λ b. Led (signed b (token s k p x) (from s ts at)) s ts r) (sym j) (g s (next-is s ts at k p x a v)));
+            let j : is_sum (token s z.kind z.place z.payload) ≡ b = rw (is-mark s z.kind z.place z.payload 43 (omega arith), is-mark s z.kind z.place z.payload 45 (omega arith)) i in
+            subst (λ o. Led (follow o (λ t. signed (is_sum t) t)) s ts r) (sym (look_is s ts at z v))
+            (subst (λ b. Led (signed b (token s z.kind z.place z.payload) (from s ts at)) s ts r) (sym j) (g s (next-is s ts at z v)));
       }
 
-  pub leads-sign : (k p x a : ℕ) → t ≡ seen.Token k p x a → (eqb k 43 || eqb k 45) ≡ true → Leads ts at (Sign (eqb k 45) a)
+  pub leads-sign : (w : Seen) → t ≡ Ok w → (eqb w.kind 43 || eqb w.kind 45) ≡ true → Leads ts at (Ok ((eqb w.kind 45), w.next))
   unfolding signed
-  leads-sign k p x a e i = leads-by k p x a true (Sign (eqb k 45) a) e i (λ s n. rw n (is-mark s k p x 45 (omega arith), refl))
+  leads-sign z e i = leads-by z true (Ok ((eqb z.kind 45), z.next)) e i (λ s n. rw n (is-mark s z.kind z.place z.payload 45 (omega arith), refl))
 
-  pub leads-none : (k p x a : ℕ) → t ≡ seen.Token k p x a → (eqb k 43 || eqb k 45) ≡ false → Leads ts at (Sign false at)
+  pub leads-none : (w : Seen) → t ≡ Ok w → (eqb w.kind 43 || eqb w.kind 45) ≡ false → Leads ts at (Ok (false, at))
   unfolding signed
-  leads-none k p x a e i = leads-by k p x a false (Sign false at) e i (λ s n. (refl, refl))
+  leads-none z e i = leads-by z false (Ok (false, at)) e i (λ s n. (refl, refl))

@@ -1,4 +1,6 @@
 -- Laws of runs: bounds, lengths, the numbers of a run, and the domain test of one number.
+use Rattle.std.specs.Prelude.{Err, Ok, Result}
+use Rattle.rules.specs.declared.Refused.{Refused}
 use mathlib.Core.Path.{◌≡◌, refl, sym, ◌∙◌, ap, subst}
 use mathlib.Core.Bool.{Bool, true, false, cond, ◌&&◌, not}
 use mathlib.Core.List.{List}
@@ -23,9 +25,6 @@ use Rattle.language.specs.Evaluation.{is_none, length_of, fresh, run_of}
 use Rattle.evaluator.specs.declared.steps.scope.Scope.{Scope as Held}
 use Rattle.evaluator.specs.declared.steps.values.Limits.{Limits}
 use Rattle.evaluator.specs.declared.steps.values.Bounds.{Bounds}
-use Rattle.evaluator.specs.declared.steps.values.Runs.{Runs}
-use Rattle.evaluator.specs.declared.steps.values.Runs.TheVariants as runs
-use Rattle.evaluator.specs.declared.steps.values.Tested.TheVariants as tested
 use Rattle.evaluator.specs.Steps.Scopes.{bindings_of, bound_more, scope_of}
 use Rattle.evaluator.specs.Steps.Values.{inside_limits, limits_in, SmallLimits, SmallSpan, count_of, run_answer, RunIs, number_in, Tests}
 
@@ -184,26 +183,26 @@ module _ (l : Limits) where
 -- ---- the run of an index
 
 module _ (l : Limits) (i p n : ℕ) (s : Held) (h : n ≡ count_of l) where
-  pub run_long : 256 < n → runs.Refused NotWhole p ≡ run_answer l i s p
+  pub run_long : 256 < n → Err (record { refusal = NotWhole; place = p }) ≡ run_answer l i s p
   unfolding run_answer run_limit
   run_long e = rw (← h, lt-leb n 256 e) refl
 
   module _ (e : n ≤ 256) (b : Bool) (g : b ≡ (is_none (bound_to i (bindings_of s)) && ltb (length (bindings_of s)) index_limit)) where
-    pub run-bound : not b ≡ true → runs.Refused BadIndex p ≡ run_answer l i s p
+    pub run-bound : not b ≡ true → Err (record { refusal = BadIndex; place = p }) ≡ run_answer l i s p
     unfolding run_answer run_limit
     run-bound f = rw (← h, le-leb n 256 e, ← g, not-true b f) refl
 
-    pub run-count : not b ≡ false → runs.Count n ≡ run_answer l i s p
+    pub run-count : not b ≡ false → Ok n ≡ run_answer l i s p
     unfolding run_answer run_limit
     run-count f = rw (← h, le-leb n 256 e, ← g, not-false b f) refl
 
 -- what the answer says
-pub run_is : (l : Limits) (i : ℕ) (s : Held) (p : ℕ) (r : Runs) → r ≡ run_answer l i s p → RunIs l i s p r
+pub run_is : (l : Limits) (i : ℕ) (s : Held) (p : ℕ) (r : Result ℕ Refused) → r ≡ run_answer l i s p → RunIs l i s p r
 unfolding run_answer run_of fresh scope_of
 run_is l i s p r h = rw h (go (leb (count_of l) run_limit) refl (is_none (bound_to i (bindings_of s)) && ltb (length (bindings_of s)) index_limit) refl)
   where
     go : (x : Bool) → leb (count_of l) run_limit ≡ x → (y : Bool) → (is_none (bound_to i (bindings_of s)) && ltb (length (bindings_of s)) index_limit) ≡ y
-        → RunIs l i s p (cond x (cond y (runs.Count (count_of l)) (runs.Refused BadIndex p)) (runs.Refused NotWhole p))
+        → RunIs l i s p (cond x (cond y (Ok (count_of l)) (Err (record { refusal = BadIndex; place = p }))) (Err (record { refusal = NotWhole; place = p })))
     go false e y d = record {
       is = λ m known. rw (← (count_small l m), e) refl;
       count = λ m k f. absurd (let z : ◌≡◌ {A = ℕ} 0 1 = cc in omega arith);
@@ -281,7 +280,7 @@ module _ (l : Limits) (k : ℤ) (m : mag k < 2 ^ 63) (f : mag l.lower < 2 ^ 63) 
   lies-above h g = let d = not-lt-le k l.lower (rw (back {z = k} m, back {z = l.lower} f) at h) in rw (back {z = k} m, back {z = l.upper} g, d) refl
 
 module _ (s : Held) (ks : List ℤ) (j : ℕ) (b : Bounds) (p : ℕ) (k : ℤ) (e : k ≡ get_or ks j (pos 0)) (m : mag k < 2 ^ 63) (f : mag b.limits.lower < 2 ^ 63) where
-  pub test_low : lt_z (seen k) (seen b.limits.lower) ≡ true → Tests s ks j b p (tested.Refused Outside p)
+  pub test_low : lt_z (seen k) (seen b.limits.lower) ≡ true → Tests s ks j b p (Err (record { refusal = Outside; place = p }))
   test_low h =
       let d = lt_not_le k b.limits.lower (rw (back {z = k} m, back {z = b.limits.lower} f) at h) in
       record { is = rw (← e) (rw d refl, refl, refl) }
@@ -290,12 +289,12 @@ module _ (s : Held) (ks : List ℤ) (j : ℕ) (b : Bounds) (p : ℕ) (k : ℤ) (
     above : le_z b.limits.lower k ≡ true
     above = not-lt-le k b.limits.lower (rw (back {z = k} m, back {z = b.limits.lower} f) at n)
 
-    pub test-high : lt_z (seen b.limits.upper) (seen k) ≡ true → Tests s ks j b p (tested.Refused Outside p)
+    pub test-high : lt_z (seen b.limits.upper) (seen k) ≡ true → Tests s ks j b p (Err (record { refusal = Outside; place = p }))
     test-high h =
         let d = lt_not_le b.limits.upper k (rw (back {z = k} m, back {z = b.limits.upper} g) at h) in
         record { is = rw (← e) (rw (above, d) refl, refl, refl) }
 
-    pub test-inside : lt_z (seen b.limits.upper) (seen k) ≡ false → (t : Held) → bindings_of t ≡ bound_more b.number (seen k) (bindings_of s) → Tests s ks j b p (tested.Inside t)
+    pub test-inside : lt_z (seen b.limits.upper) (seen k) ≡ false → (t : Held) → bindings_of t ≡ bound_more b.number (seen k) (bindings_of s) → Tests s ks j b p (Ok t)
     test-inside h t q =
         let d = not-lt-le b.limits.upper k (rw (back {z = k} m, back {z = b.limits.upper} g) at h) in
         record { is = rw (← e) (rw (above, d) refl, q ∙ rw (back {z = k} m) refl) }

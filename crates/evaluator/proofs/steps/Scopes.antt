@@ -18,9 +18,7 @@ use Rattle.value.proofs.Integers.{back}
 use Rattle.language.specs.Scope.{Binding, bind, unbound, bound_to}
 use Rattle.language.specs.Evaluation.{is_none}
 use Rattle.evaluator.specs.declared.steps.scope.Scope.{Scope as Held}
-use Rattle.evaluator.specs.declared.steps.scope.Bound.{Bound}
-use Rattle.evaluator.specs.declared.steps.scope.Bound.TheVariants.{To, Nothing}
-use Rattle.evaluator.specs.Steps.Scopes.{binding, bound_if, bindings_of, bound_more, bound_option, scope_of, AllSmall, Small}
+use Rattle.evaluator.specs.Steps.Scopes.{binding, bound_if, bindings_of, bound_more, scope_of, AllSmall, Small}
 
 -- ---- nothing bound
 
@@ -127,11 +125,11 @@ room-left s = go s.count refl
     go (suc (suc (suc zero))) e = rw e
     go (suc (suc (suc (suc n)))) e = rw (four s (omega arith), le-ltb s.count 4 (omega arith))
 
-module _ (s : Held) (i : ℕ) (b : Bound) (h : bound_option b ≡ bound_to i (bindings_of s)) where
-  pub takes-not : (k : ℤ) → b ≡ To k → false ≡ (is_none (bound_to i (bindings_of s)) && ltb (length (bindings_of s)) index_limit)
+module _ (s : Held) (i : ℕ) (b : Option ℤ) (h : b ≡ bound_to i (bindings_of s)) where
+  pub takes-not : (k : ℤ) → b ≡ Some k → false ≡ (is_none (bound_to i (bindings_of s)) && ltb (length (bindings_of s)) index_limit)
   takes-not k e = rw (← h, e)
 
-  pub takes-room : b ≡ Nothing → ltb s.count 4 ≡ (is_none (bound_to i (bindings_of s)) && ltb (length (bindings_of s)) index_limit)
+  pub takes-room : b ≡ None → ltb s.count 4 ≡ (is_none (bound_to i (bindings_of s)) && ltb (length (bindings_of s)) index_limit)
   unfolding index_limit
   takes-room e = rw (← h, e) (sym (room-left s))
 

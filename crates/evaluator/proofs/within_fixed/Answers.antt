@@ -6,10 +6,10 @@ pub loop-j-init : goal.loop-j-init
 loop-j-init c = search fixed-start depth 6
 
 pub returns-then-not-lies : goal.returns-then-not-lies
-returns-then-not-lies c = search fixed-outside depth 14
+returns-then-not-lies c = search (fixed-outside, c.in_ok-limits.was) depth 14
 
 pub loop-j-preserved : goal.loop-j-preserved
-loop-j-preserved c = search fixed_on depth 14
+loop-j-preserved c = search (fixed_on, c.in_ok-limits.was) depth 14
 
 pub returns : goal.returns
 returns c = search fixed-end depth 8

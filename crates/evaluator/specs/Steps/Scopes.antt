@@ -1,11 +1,9 @@
 -- A scope as the code holds it, and the bindings of the definition.
-use Rattle.std.specs.Prelude.{Bool, true, false, cond, List, [], ◌∷◌, ℕ, ◌≤◌, ltb, length, ℤ, nat_abs, Option, Some, None}
+use Rattle.std.specs.Prelude.{Bool, true, false, cond, List, [], ◌∷◌, ℕ, ◌≤◌, ltb, length, ℤ, nat_abs, Option}
 use Rattle.rules.specs.Limits.{mantissa_limit, index_limit}
 use Rattle.value.specs.declared.Value.{Value}
 use Rattle.language.specs.Scope.{Binding, Scope}
 use Rattle.evaluator.specs.declared.steps.scope.Scope.{Scope as Held}
-use Rattle.evaluator.specs.declared.steps.scope.Bound.{Bound}
-use Rattle.evaluator.specs.declared.steps.scope.Bound.TheVariants.{To, Nothing}
 
 abbrev pub binding : ℕ → ℤ → Binding
 binding i k = record { name = i; at = k }
@@ -26,10 +24,6 @@ bindings_of s =
 -- one index more, where there is room for it
 unfoldable pub bound_more : ℕ → ℤ → List Binding → List Binding
 bound_more i k l = cond (ltb (length l) index_limit) (binding i k ∷ l) l
-
-abbrev pub bound_option : Bound → Option ℤ
-bound_option (To k) = Some k
-bound_option Nothing = None
 
 -- the scope of the definition
 unfoldable pub scope_of : (ℕ → List ℤ → Option Value) → Held → Scope

@@ -3,35 +3,29 @@
 ghost use Rattle.std.specs.Prelude.{◌≡◌, map, ◌≤◌, get_or};
 ghost use Rattle.evaluator.specs.Steps.Names.{number_kept, resolved_word, number_part, row_word, listed_of, index_number, Opens};
 
-use tokens::{Found, Seen, kinds};
+use rules::Refused;
+use tokens::{Found, kinds};
 
 // A name that the table tells of: its number, sort, number of indices, and the position of what was declared.
 #[derive(Clone, Copy)]
-pub enum Listed {
-    Name(usize, u64, u64, usize),
-    Nothing,
-}
-
-// An index's number, and the position behind the comma.
-#[derive(Clone, Copy)]
-pub enum Headed {
-    Index(usize, usize),
-    Refused(rules::Refusal, u64),
+pub struct Listed {
+    pub number: usize,
+    pub sort: u64,
+    pub count: u64,
+    pub start: usize,
 }
 
 // The number that a token holds for what the table tells of its name.
-fn held_number(name: Found) -> u64
+fn held_number(name: Option<Found>) -> u64
     ensures { (result ≡ number_kept name) × (result ≤ 64) }
 {
-    match name {
-        Found::Name(i, sort, count) => {
-            if i < rules::NAME_LIMIT {
-                return i as u64 + 1;
-            }
-            0
-        }
-        Found::Nothing => 0,
+    let Some(found) = name else {
+        return 0;
+    };
+    if rules::NAME_LIMIT <= found.number {
+        return 0;
     }
+    found.number as u64 + 1
 }
 
 // A token's word, with the number if it is a name.
@@ -53,10 +47,8 @@ fn resolved(text: &[u8], names: &[u64], w: u64) -> u64
 pub fn resolve(text: &[u8], names: &[u64], tokens: &mut [u64])
     ensures { tokens.new ≡ map (resolved_word text.now names.now) tokens.old }
 {
-    let mut i = 0;
-    while i < tokens.len() {
-        tokens[i] = resolved(text, names, tokens[i]);
-        i += 1;
+    for word in tokens.iter_mut() {
+        *word = resolved(text, names, *word);
     }
 }
 
@@ -88,18 +80,23 @@ pub fn word_of(names: &[u64], i: usize, f: usize) -> u64
 }
 
 // The name at a position.
-pub fn name_at(names: &[u64], tokens: &[u64], at: usize) -> Listed
+pub fn name_at(names: &[u64], tokens: &[u64], at: usize) -> Option<Listed>
     ensures { result ≡ listed_of names.now (number_part (get_or tokens.now at 0)) }
 {
     let n = number_at(tokens, at);
     if n == 0 {
-        return Listed::Nothing;
+        return None;
     }
     let i = (n - 1) as usize;
     let sort = word_of(names, i, 2);
     let count = word_of(names, i, 3);
     let start = word_of(names, i, 4) as usize;
-    Listed::Name(i, sort, count, start)
+    Some(Listed {
+        number: i,
+        sort,
+        count,
+        start,
+    })
 }
 
 // The number of the name at a position, 0 where no visible name stands there.
@@ -124,17 +121,12 @@ pub fn index_number(tokens: &[u64], level: usize, at: usize) -> usize
 }
 
 // `(`, an index and a comma, after `SUM` or `S`.
-pub fn head(tokens: &[u64], level: usize, at: usize) -> Headed
+pub fn head(tokens: &[u64], level: usize, at: usize) -> Result<(usize, usize), Refused>
     ensures { Opens tokens.now level at result }
 {
-    let a = super::passing::skip(tokens, at);
-    let token = tokens::token_at(tokens, a);
-    match token {
-        Seen::Token(k, p, x, b) => {
-            let i = index_number(tokens, level, a);
-            let next = super::passing::skip(tokens, b);
-            Headed::Index(i, next)
-        }
-        Seen::Refused(n, p) => Headed::Refused(n, p),
-    }
+    let index = super::passing::skip(tokens, at);
+    let token = tokens::token_at(tokens, index)?;
+    let number = index_number(tokens, level, index);
+    let next = super::passing::skip(tokens, token.next);
+    Ok((number, next))
 }

@@ -2,14 +2,7 @@
 ghost use Rattle.evaluator.specs.Steps.Passing.{Skips, Ends, Leads};
 
 use lexer::marks;
-use tokens::Seen;
-
-// Whether a minus stands there, and the position behind the optional sign.
-#[derive(Clone, Copy)]
-pub enum Lead {
-    Sign(bool, usize),
-    Refused(rules::Refusal, u64),
-}
+use rules::Refused;
 
 // The position behind one token; behind the last one it stays.
 pub fn skip(tokens: &[u64], at: usize) -> usize
@@ -25,38 +18,33 @@ pub fn skip(tokens: &[u64], at: usize) -> usize
 pub fn behind_bracket(tokens: &[u64], at: usize) -> usize
     ensures { Ends tokens.now at result }
 {
-    let mut a = at;
     let mut depth: usize = 0;
-    while a < tokens.len() {
-        let k = tokens[a] / tokens::KIND_UNIT;
-        a += 1;
+    for i in at..tokens.len() {
+        let k = tokens[i] / tokens::KIND_UNIT;
         if (k == marks::LEFT_PAREN as u64) | (k == marks::LEFT_BRACKET as u64) {
             depth += 1;
             continue;
         }
-        if (k == marks::RIGHT_PAREN as u64) | (k == marks::RIGHT_BRACKET as u64) {
-            if depth == 0 {
-                return a;
-            }
-            depth -= 1;
+        let closes = (k == marks::RIGHT_PAREN as u64) | (k == marks::RIGHT_BRACKET as u64);
+        if !closes {
+            continue;
         }
+        if depth == 0 {
+            return i + 1;
+        }
+        depth -= 1;
     }
-    a
+    at.max(tokens.len())
 }
 
 // An optional `+` or `-`.
-pub fn sign(tokens: &[u64], at: usize) -> Lead
+pub fn sign(tokens: &[u64], at: usize) -> Result<(bool, usize), Refused>
     ensures { Leads tokens.now at result }
 {
-    let token = tokens::token_at(tokens, at);
-    match token {
-        Seen::Token(k, p, x, next) => {
-            let minus = k == marks::MINUS as u64;
-            if (k == marks::PLUS as u64) | minus {
-                return Lead::Sign(minus, next);
-            }
-            Lead::Sign(false, at)
-        }
-        Seen::Refused(n, p) => Lead::Refused(n, p),
+    let token = tokens::token_at(tokens, at)?;
+    let minus = token.kind == marks::MINUS as u64;
+    if (token.kind == marks::PLUS as u64) | minus {
+        return Ok((minus, token.next));
     }
+    Ok((false, at))
 }

@@ -3,7 +3,7 @@ ghost use Rattle.std.specs.Prelude.{◌≡◌, ◌&&◌, [], ltb, length};
 ghost use Rattle.rules.specs.Limits.{index_limit};
 ghost use Rattle.language.specs.Scope.{bound_to};
 ghost use Rattle.language.specs.Evaluation.{is_none};
-ghost use Rattle.evaluator.specs.Steps.Scopes.{bindings_of, bound_more, bound_option};
+ghost use Rattle.evaluator.specs.Steps.Scopes.{bindings_of, bound_more};
 
 // The first `count` of four indices by their numbers, each with its whole number; the last one was bound last.
 #[derive(Clone, Copy)]
@@ -17,13 +17,6 @@ pub struct Scope {
     pub b: i64,
     pub c: i64,
     pub d: i64,
-}
-
-// What an index is bound to.
-#[derive(Clone, Copy)]
-pub enum Bound {
-    To(i64),
-    Nothing,
 }
 
 impl Scope {
@@ -77,23 +70,23 @@ impl Scope {
         }
     }
 
-    pub fn bound_to(self, i: usize) -> Bound
-        ensures { bound_option result ≡ bound_to i (bindings_of self) }
+    pub fn bound_to(self, i: usize) -> Option<i64>
+        ensures { result ≡ bound_to i (bindings_of self) }
     {
         let n = self.count;
         if (3 < n) & (i == self.fourth) {
-            return Bound::To(self.d);
+            return Some(self.d);
         }
         if (2 < n) & (i == self.third) {
-            return Bound::To(self.c);
+            return Some(self.c);
         }
         if (1 < n) & (i == self.second) {
-            return Bound::To(self.b);
+            return Some(self.b);
         }
         if (0 < n) & (i == self.first) {
-            return Bound::To(self.a);
+            return Some(self.a);
         }
-        Bound::Nothing
+        None
     }
 
     // May the index be bound? It is not, and fewer than four are.
@@ -101,8 +94,8 @@ impl Scope {
         ensures { result ≡ (is_none (bound_to i (bindings_of self)) && ltb (length (bindings_of self)) index_limit) }
     {
         match self.bound_to(i) {
-            Bound::To(_) => false,
-            Bound::Nothing => self.count < rules::INDEX_LIMIT,
+            Some(_) => false,
+            None => self.count < rules::INDEX_LIMIT,
         }
     }
 }

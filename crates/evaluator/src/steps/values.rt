@@ -8,16 +8,10 @@ ghost use Rattle.evaluator.specs.Steps.Scopes.{bindings_of, bound_more};
 ghost use Rattle.evaluator.specs.Steps.Values.{fitted_at, signed_value, whole_answer, bound_answer, SmallSpan, count_of, run_answer, number_in, inside_limits, Tests, word_answer, known_answer, KnownEarly};
 ghost use Rattle.store.specs.Table.{word_in};
 
-use super::scope::{Bound, Scope};
+use super::scope::Scope;
+use rules::{Refused, refused};
 use store::Element;
 use value::Value;
-
-// A value and the position behind it, or a refusal and its place.
-#[derive(Clone, Copy)]
-pub enum Answer {
-    Value(Value, usize),
-    Refused(rules::Refusal, u64),
-}
 
 // The two limits of a run.
 #[derive(Clone, Copy)]
@@ -32,20 +26,6 @@ pub struct Bounds {
     pub number: usize,
     pub place: u64,
     pub limits: Limits,
-}
-
-// How many numbers a run has.
-#[derive(Clone, Copy)]
-pub enum Runs {
-    Count(usize),
-    Refused(rules::Refusal, u64),
-}
-
-// A number inside its limits is bound; else a refusal.
-#[derive(Clone, Copy)]
-pub enum Tested {
-    Inside(Scope),
-    Refused(rules::Refusal, u64),
 }
 
 // ---- values
@@ -66,12 +46,12 @@ pub fn literal(x: u64) -> Value
     }
 }
 
-fn fitted(f: Option<Value>, p: u64, at: usize) -> Answer
+fn fitted(f: Option<Value>, p: u64, at: usize) -> Result<(Value, usize), Refused>
     ensures { result ≡ fitted_at p at f }
 {
     match f {
-        Some(v) => Answer::Value(v, at),
-        None => Answer::Refused(rules::Refusal::Unfit, p),
+        Some(v) => Ok((v, at)),
+        None => refused!(Unfit, p),
     }
 }
 
@@ -85,14 +65,14 @@ pub fn signed(minus: bool, v: Value) -> Value
 }
 
 // A product whose sign stands at p.
-pub fn product(v: Value, w: Value, p: u64, at: usize) -> Answer
+pub fn product(v: Value, w: Value, p: u64, at: usize) -> Result<(Value, usize), Refused>
     ensures { result ≡ fitted_at p at (if_in_range v w (product_of v w)) }
 {
     fitted(value::mul(v, w), p, at)
 }
 
 // A sum or a difference, refused at p.
-pub fn sum(minus: bool, v: Value, w: Value, p: u64, at: usize) -> Answer
+pub fn sum(minus: bool, v: Value, w: Value, p: u64, at: usize) -> Result<(Value, usize), Refused>
     ensures { result ≡ fitted_at p at (if_in_range v (signed_value minus w) (sum_of v (signed_value minus w))) }
 {
     let u = signed(minus, w);
@@ -102,22 +82,22 @@ pub fn sum(minus: bool, v: Value, w: Value, p: u64, at: usize) -> Answer
 // ---- whole numbers
 
 // A value that must be whole.
-pub fn whole(v: Value, p: u64, at: usize) -> Answer
+pub fn whole(v: Value, p: u64, at: usize) -> Result<(Value, usize), Refused>
     ensures { result ≡ whole_answer p at v }
 {
     match value::whole_of(v) {
-        Some(_) => Answer::Value(v, at),
-        None => Answer::Refused(rules::Refusal::NotWhole, p),
+        Some(_) => Ok((v, at)),
+        None => refused!(NotWhole, p),
     }
 }
 
 // The value of an index that is read at p.
-pub fn index_value(sc: Scope, i: usize, p: u64, at: usize) -> Answer
+pub fn index_value(sc: Scope, i: usize, p: u64, at: usize) -> Result<(Value, usize), Refused>
     ensures { result ≡ bound_answer p at sc i }
 {
     match sc.bound_to(i) {
-        Bound::To(k) => Answer::Value(value::of_whole(k), at),
-        Bound::Nothing => Answer::Refused(rules::Refusal::BadIndex, p),
+        Some(k) => Ok((value::of_whole(k), at)),
+        None => refused!(BadIndex, p),
     }
 }
 
@@ -188,17 +168,17 @@ fn length_of(l: Limits) -> usize
 }
 
 // The run of an index from its lower to its upper limit, at p: its length, then whether the index may be bound.
-pub fn run(sc: Scope, l: Limits, i: usize, p: u64) -> Runs
+pub fn run(sc: Scope, l: Limits, i: usize, p: u64) -> Result<usize, Refused>
     ensures { result ≡ run_answer l i sc p }
 {
     let n = length_of(l);
     if rules::RUN_LIMIT < n {
-        return Runs::Refused(rules::Refusal::NotWhole, p);
+        return refused!(NotWhole, p);
     }
     if !sc.takes(i) {
-        return Runs::Refused(rules::Refusal::BadIndex, p);
+        return refused!(BadIndex, p);
     }
-    Runs::Count(n)
+    Ok(n)
 }
 
 // The j-th number of a run from a on, counted from 0.
@@ -242,34 +222,41 @@ pub fn lies(k: i64, l: Limits) -> bool
 }
 
 // Does the j-th subscript lie between the limits? Then it is bound; else the name read at p is refused.
-pub fn test(sc: Scope, e: Element, j: usize, b: Bounds, p: u64) -> Tested
+pub fn test(sc: Scope, e: Element, j: usize, b: Bounds, p: u64) -> Result<Scope, Refused>
     ensures { Tests sc (list_of e) j b p result }
 {
     let k = e.at(j);
     let l = b.limits;
     if k < l.lower {
-        return Tested::Refused(rules::Refusal::Outside, p);
+        return refused!(Outside, p);
     }
     if l.upper < k {
-        return Tested::Refused(rules::Refusal::Outside, p);
+        return refused!(Outside, p);
     }
-    Tested::Inside(sc.bind(b.number, k))
+    Ok(sc.bind(b.number, k))
 }
 
 // ---- data
 
 // The datum in the row that was found, or the refusal at p.
-fn datum(table: &[u64], found: Option<usize>, p: u64, at: usize) -> Answer
+fn datum(table: &[u64], found: Option<usize>, p: u64, at: usize) -> Result<(Value, usize), Refused>
     ensures { result ≡ word_answer p at (word_in table.now found) }
 {
     match found {
-        Some(j) => Answer::Value(store::unpack(store::word_at(table, j)), at),
-        None => Answer::Refused(rules::Refusal::Missing, p),
+        Some(j) => Ok((store::unpack(store::word_at(table, j)), at)),
+        None => refused!(Missing, p),
     }
 }
 
 // The datum of a name and an element, read at p. The table is searched by halving, sorted or not.
-pub fn known(table: &[u64], rows: usize, i: usize, e: Element, p: u64, at: usize) -> Answer
+pub fn known(
+    table: &[u64],
+    rows: usize,
+    i: usize,
+    e: Element,
+    p: u64,
+    at: usize,
+) -> Result<(Value, usize), Refused>
     ensures { result ≡ known_answer table.now rows i (list_of e) p at }
 {
     let key = store::key_of(i, e);
@@ -277,7 +264,14 @@ pub fn known(table: &[u64], rows: usize, i: usize, e: Element, p: u64, at: usize
 }
 
 // The same in a sorted table, for a datum that is likely to have one of the first rows, as one without subscripts is.
-pub fn known_early(table: &[u64], rows: usize, i: usize, e: Element, p: u64, at: usize) -> Answer
+pub fn known_early(
+    table: &[u64],
+    rows: usize,
+    i: usize,
+    e: Element,
+    p: u64,
+    at: usize,
+) -> Result<(Value, usize), Refused>
     ensures { KnownEarly table.now rows i (list_of e) p at result }
 {
     let key = store::key_of(i, e);

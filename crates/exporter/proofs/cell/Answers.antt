@@ -9,19 +9,14 @@ use Rattle.exporter.proofs.cell.Goals as goal
 
 pub returns-then-z-eq0 : goal.returns-then-z-eq0
 returns-then-z-eq0 c =
-    let s = c in
-    (cell-none _ _ _ _ _ _ (sym (back s.ranges.z.sfits) ∙ ap (to_z w64) c.if-z-eq0.true), omega arith)
+    (cell-none _ _ _ _ _ _ (sym (back c.ranges.z.sfits) ∙ ap (to_z w64) c.if-z-eq0.true), omega arith)
 
 pub returns-then-is_zero : goal.returns-then-is_zero
 returns-then-is_zero c =
-    let t = c in
-    let h = rw (back t.ranges.z.sfits) at t.value_of-v.ensures in
+    let h = rw (back c.ranges.z.sfits) at c.value_of-v.ensures in
     (cell-zero _ _ _ _ _ _ _ _ h c.is_zero.ensures c.if-is_zero.true, omega arith)
 
 pub returns : goal.returns
 returns c =
-    let w = c in
-    let i = w in
-    let t = i in
-    let h = rw (back t.ranges.z.sfits) at t.value_of-v.ensures in
-    (cell-lines _ _ _ _ _ _ _ _ _ _ h i.is_zero.ensures i.if-is_zero.false w.cell_lines.ensures.0, omega arith)
+    let h = rw (back c.ranges.z.sfits) at c.value_of-v.ensures in
+    (cell-lines _ _ _ _ _ _ _ _ _ _ h c.is_zero.ensures c.if-is_zero.false c.cell_lines.ensures.0, omega arith)

@@ -6,10 +6,8 @@ use Rattle.exporter.proofs.put_value.Goals as goal
 
 pub overflow_add-result : goal.overflow_add-result
 overflow_add-result c =
-    let d = c in
-    omega (arith, d.print.ensures.next, shown-most d.args.v)
+    omega (arith, c.print.ensures.next, shown-most c.args.v)
 
 pub returns : goal.returns
 returns c =
-    let d = c in
-    (search written_from depth 8, omega (arith, d.print.ensures.next, shown-most d.args.v))
+    (search written_from depth 8, omega (arith, c.print.ensures.next, shown-most c.args.v))

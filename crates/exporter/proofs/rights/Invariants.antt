@@ -1,14 +1,9 @@
 -- `exporter::rights` meets its contract.
-use mathlib.Core.Path.{◌≡◌}
 use Prim.Native.Nat.{◌+◌, ◌-◌, ◌*◌, ◌≤◌}
-use lib.ListN.{length}
 use Rattle.listing.proofs.Writing.{Left}
 use Rattle.exporter.specs.Texts.{text_from, right_text}
 use Rattle.exporter.proofs.rights.Given as goal
 
 abbrev pub invariant-loop-i : goal.invariant-loop-i
 invariant-loop-i l =
-    (l.i ≤ l.n) × (l.next ≤ l.at + 256 * l.i) × (length l.out ≡ length l.initial.out) × Left l.initial.out l.at (text_from (right_text l.slots l.less) l.n 0) l.out l.next (text_from (right_text l.slots l.less) (l.n - l.i) l.i)
-
-abbrev pub decreases-loop-i : goal.decreases-loop-i
-decreases-loop-i l = l.n - l.i
+    (l.next ≤ l.at + 256 * l.i) × Left l.initial.out l.at (text_from (right_text l.t.slots.now l.t.less) l.t.n 0) l.out l.next (text_from (right_text l.t.slots.now l.t.less) (l.t.n - l.i) l.i)

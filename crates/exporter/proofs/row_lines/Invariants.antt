@@ -1,14 +1,9 @@
 -- `exporter::row_lines` meets its contract.
-use mathlib.Core.Path.{◌≡◌}
 use Prim.Native.Nat.{◌+◌, ◌-◌, ◌*◌, ◌≤◌}
-use lib.ListN.{length}
 use Rattle.listing.proofs.Writing.{Left}
 use Rattle.exporter.specs.Texts.{text_from, row_text}
 use Rattle.exporter.proofs.row_lines.Given as goal
 
 abbrev pub invariant-loop-i : goal.invariant-loop-i
 invariant-loop-i l =
-    (l.i ≤ l.n) × (l.next ≤ l.at + 128 * l.i) × (length l.out ≡ length l.initial.out) × Left l.initial.out l.at (text_from (row_text l.slots l.less) l.n 0) l.out l.next (text_from (row_text l.slots l.less) (l.n - l.i) l.i)
-
-abbrev pub decreases-loop-i : goal.decreases-loop-i
-decreases-loop-i l = l.n - l.i
+    (l.next ≤ l.at + 128 * l.i) × Left l.initial.out l.at (text_from (row_text l.t.slots.now l.t.less) l.t.n 0) l.out l.next (text_from (row_text l.t.slots.now l.t.less) (l.t.n - l.i) l.i)

@@ -1,6 +1,7 @@
 -- The cycle of formulas: each function meets its contract.
 use Prim.Native.Nat.{◌+◌, ◌*◌}
 use Rattle.formulas.proofs.Loops.{FactorsOn, SummandsOn, EntriesOn}
+use Rattle.tokens.specs.Text.{In}
 use Rattle.formulas.proofs.+formulas.Given as goal
 
 abbrev pub decreases-factors : goal.decreases-factors
@@ -36,20 +37,11 @@ decreases-summands l = 10 * l.nest + 7
 abbrev pub decreases-term : goal.decreases-term
 decreases-term l = 10 * l.nest + 6
 
-abbrev pub invariant-factors-loop-left : goal.invariant-factors-loop-left
-invariant-factors-loop-left l = FactorsOn l.text l.names l.tokens l.nest l.at l.left l.a
+abbrev pub invariant-factors-loop : goal.invariant-factors-loop
+invariant-factors-loop l = In FactorsOn l.text l.nest l.at l.counter l.a
 
-abbrev pub decreases-factors-loop-left : goal.decreases-factors-loop-left
-decreases-factors-loop-left l = l.left
+abbrev pub invariant-subscripts-loop : goal.invariant-subscripts-loop
+invariant-subscripts-loop l = In EntriesOn l.text l.nest l.count l.at l.counter l.a
 
-abbrev pub invariant-subscripts-loop-left : goal.invariant-subscripts-loop-left
-invariant-subscripts-loop-left l = EntriesOn l.text l.names l.tokens l.nest l.count l.at l.left l.a
-
-abbrev pub decreases-subscripts-loop-left : goal.decreases-subscripts-loop-left
-decreases-subscripts-loop-left l = l.left
-
-abbrev pub invariant-summands-loop-left : goal.invariant-summands-loop-left
-invariant-summands-loop-left l = SummandsOn l.text l.names l.tokens l.nest l.at l.left l.a
-
-abbrev pub decreases-summands-loop-left : goal.decreases-summands-loop-left
-decreases-summands-loop-left l = l.left
+abbrev pub invariant-summands-loop : goal.invariant-summands-loop
+invariant-summands-loop l = In SummandsOn l.text l.nest l.at l.counter l.a

@@ -5,14 +5,14 @@ use Rattle.gatherer.proofs.variable_at.Goals as goal
 pub returns-then-k-ne-NAME : goal.returns-then-k-ne-NAME
 returns-then-k-ne-NAME c = search at_mark_lem depth 5
 
-pub returns-then-level-i : goal.returns-then-level-i
-returns-then-level-i c = search at-late depth 8
+pub returns-in_err-name : goal.returns-in_err-name
+returns-in_err-name c = rw c.from_residual.ensures (search (at-unknown, c.in_err-name.was) depth 7)
 
-pub returns-then-sort : goal.returns-then-sort
-returns-then-sort c = search at-variable depth 9
+pub returns-then-level-name : goal.returns-then-level-name
+returns-then-level-name c = search (at-late, c.in_ok-name.was) depth 8
 
-pub returns-else-sort : goal.returns-else-sort
-returns-else-sort c = search at_other depth 9
+pub returns-then-name : goal.returns-then-name
+returns-then-name c = search (at-variable, c.in_ok-name.was) depth 9
 
-pub returns-in-Nothing : goal.returns-in-Nothing
-returns-in-Nothing c = search at-unknown depth 7
+pub returns : goal.returns
+returns c = search (at_other, c.in_ok-name.was) depth 9

@@ -8,5 +8,5 @@ returns-then-out-n c = search give-long depth 8
 pub returns-else-out-n : goal.returns-else-out-n
 returns-else-out-n c = search give-printed depth 8
 
-pub returns-in-Refused : goal.returns-in-Refused
-returns-in-Refused c = search give-refused depth 8
+pub returns-in-Err : goal.returns-in-Err
+returns-in-Err c = search give-refused depth 8

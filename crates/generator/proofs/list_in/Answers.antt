@@ -1,9 +1,10 @@
 -- `generator::list_in` meets its contract.
+use Rattle.std.proofs.lemmas.Result.{err_from_is_err_and}
 use Rattle.generator.proofs.Listings.{print-refused, print-done}
 use Rattle.generator.proofs.list_in.Goals as goal
 
-pub returns-in-Of : goal.returns-in-Of
-returns-in-Of c = search print-done depth 8
+pub returns-in_err-problem : goal.returns-in_err-problem
+returns-in_err-problem c = let p = err_from_is_err_and c.from_residual.result c.from_residual.ensures.1 in rw (p.1, p.2) (search (print-refused, c.in_err-problem.was) depth 8)
 
-pub returns-in-Refused : goal.returns-in-Refused
-returns-in-Refused c = search print-refused depth 8
+pub returns : goal.returns
+returns c = search (print-done, c.in_ok-problem.was) depth 8

@@ -2,8 +2,8 @@
 use Rattle.model.proofs.Laws.{rows-part, tokens-part}
 use Rattle.generator.proofs.part.Goals as goal
 
-pub slice_bounds-list-end : goal.slice_bounds-list-end
-slice_bounds-list-end c = search rows-part depth 5
+pub slice_bounds-filled-end : goal.slice_bounds-filled-end
+slice_bounds-filled-end c = search rows-part depth 5
 
-pub slice_bounds-list-end-2 : goal.slice_bounds-list-end-2
-slice_bounds-list-end-2 c = search tokens-part depth 5
+pub slice_bounds-filled-end-2 : goal.slice_bounds-filled-end-2
+slice_bounds-filled-end-2 c = search tokens-part depth 5

@@ -5,8 +5,8 @@ use Rattle.importer.proofs.floor_at.Goals as goal
 pub returns-then-not-has_floor : goal.returns-then-not-has_floor
 returns-then-not-has_floor c = search floor-absent depth 9
 
-pub returns-in-Value : goal.returns-in-Value
-returns-in-Value c = search floor-found depth 11
+pub returns-in_err-v : goal.returns-in_err-v
+returns-in_err-v c = rw c.from_residual.ensures (search (floor-missing, c.in_err-v.was) depth 10)
 
-pub returns-in-Nothing : goal.returns-in-Nothing
-returns-in-Nothing c = search floor-missing depth 10
+pub returns : goal.returns
+returns c = search (floor-found, c.in_ok-v.was) depth 11

@@ -4,14 +4,14 @@ use Rattle.importer.proofs.Rows.{open_none, open-other, open-all}
 use Rattle.importer.proofs.Stripping.{move-inside}
 use Rattle.importer.proofs.opening.Goals as goal
 
+pub returns-in_err-at : goal.returns-in_err-at
+returns-in_err-at c = rw c.from_residual.ensures (search (open_none, c.in_err-at.was) depth 10)
+
 pub less_rows-less-requires : goal.less_rows-less-requires
-less_rows-less-requires c = (search move-inside depth 6, omega arith)
+less_rows-less-requires c = (search (move-inside, c.in_ok-at.was) depth 6, omega arith)
 
-pub returns-in-At-strip : goal.returns-in-At-strip
-returns-in-At-strip c = search open-all depth 13
+pub returns-in_err-next : goal.returns-in_err-next
+returns-in_err-next c = rw c.from_residual-in_err-next.ensures (search (open-other, c.in_ok-at.was, c.in_err-next.was) depth 13)
 
-pub returns-in-Nothing-strip : goal.returns-in-Nothing-strip
-returns-in-Nothing-strip c = search open-other depth 13
-
-pub returns-in-Nothing : goal.returns-in-Nothing
-returns-in-Nothing c = search open_none depth 8
+pub returns : goal.returns
+returns c = search (open-all, c.in_ok-at.was, c.in_ok-next.was) depth 13

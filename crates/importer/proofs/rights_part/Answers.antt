@@ -4,11 +4,11 @@ use Rattle.importer.proofs.Sides.{rights-none, rights-some}
 use Rattle.importer.proofs.Stripping.{move-inside}
 use Rattle.importer.proofs.rights_part.Goals as goal
 
+pub returns-in_err-next : goal.returns-in_err-next
+returns-in_err-next c = rw c.from_residual.ensures (search (rights-none, c.in_err-next.was) depth 9)
+
 pub rights-requires : goal.rights-requires
-rights-requires c = (search move-inside depth 6, omega arith, omega arith)
+rights-requires c = (search (move-inside, c.in_ok-next.was) depth 6, omega arith, omega arith)
 
-pub returns-in-At : goal.returns-in-At
-returns-in-At c = search rights-some depth 12
-
-pub returns-in-Nothing : goal.returns-in-Nothing
-returns-in-Nothing c = search rights-none depth 9
+pub returns : goal.returns
+returns c = search (rights-some, c.in_ok-next.was) depth 12

@@ -3,23 +3,23 @@ use native.Mathlib.Omega.{arith}
 use Rattle.importer.proofs.Whole.{sheet-none, sheet-inside, sheet-few, sheet-bad, sheet-place, sheet-long, sheet-never, sheet-all}
 use Rattle.importer.proofs.sheet.Goals as goal
 
-pub returns-in_default : goal.returns-in_default
-returns-in_default c = search sheet-none depth 10
+pub returns-in_err-passed : goal.returns-in_err-passed
+returns-in_err-passed c = rw c.from_residual.ensures (search (sheet-none, c.in_err-passed.was) depth 10)
 
 pub ending-requires : goal.ending-requires
-ending-requires c = (search sheet-inside depth 14, omega arith, search sheet-few depth 14)
+ending-requires c = (search (sheet-inside, c.in_ok-passed.was) depth 14, omega arith, search (sheet-few, c.in_ok-passed.was) depth 14)
 
-pub returns-in_default-ending : goal.returns-in_default-ending
-returns-in_default-ending c = search sheet-bad depth 16
+pub returns-in_err-end : goal.returns-in_err-end
+returns-in_err-end c = rw c.from_residual-in_err-end.ensures (search (sheet-bad, c.in_ok-passed.was, c.in_err-end.was) depth 16)
 
 pub returns-then-end-text : goal.returns-then-end-text
-returns-then-end-text c = search sheet-long depth 18
+returns-then-end-text c = search (sheet-long, c.in_ok-passed.was, c.in_ok-end.was) depth 18
 
 pub matrix-requires-2 : goal.matrix-requires-2
-matrix-requires-2 c = (omega arith, omega arith, search sheet-place depth 20)
+matrix-requires-2 c = (omega arith, omega arith, search (sheet-place, c.in_ok-passed.was, c.in_ok-end.was) depth 20)
 
-pub returns-in-To-matrix : goal.returns-in-To-matrix
-returns-in-To-matrix c = search sheet-all depth 24
+pub returns-in_err-written : goal.returns-in_err-written
+returns-in_err-written c = rw c.from_residual-in_err-written.ensures (search (sheet-never, c.in_ok-passed.was, c.in_ok-end.was, c.in_err-written.was) depth 22)
 
-pub returns-in-Nothing : goal.returns-in-Nothing
-returns-in-Nothing c = search sheet-never depth 22
+pub returns : goal.returns
+returns c = search (sheet-all, c.in_ok-passed.was, c.in_ok-end.was, c.in_ok-written.was) depth 24

@@ -1,15 +1,22 @@
 -- `importer::signed` meets its contract.
-use Rattle.importer.proofs.Values.{signed-empty, signed-plain, minus-big, minus-fits}
+use mathlib.Core.List.{[], ◌∷◌}
+use Rattle.std.proofs.lemmas.Bool.Decides.{Decides-eqb}
+use Rattle.std.proofs.lemmas.Option.{MatchOption-at_some, MatchOption-at_none}
+use Rattle.std.proofs.lemmas.Slice.Eq.{strip_prefix_is}
+use Rattle.importer.proofs.Values.{signed-plain, minus-big, minus-fits}
 use Rattle.importer.proofs.signed.Goals as goal
 
-pub returns-then-t-eq0 : goal.returns-then-t-eq0
-returns-then-t-eq0 c = search signed-empty depth 6
+pub returns-in_default : goal.returns-in_default
+returns-in_default c =
+    let p = strip_prefix_is Decides-eqb c.args.t.now (45 ∷ []) c.strip_prefix.result c.strip_prefix.ensures.cases in
+    signed-plain _ _ (MatchOption-at_none _ _ c.in_default.is p) c.literal.ensures
 
-pub returns-then-t-ne45 : goal.returns-then-t-ne45
-returns-then-t-ne45 c = search signed-plain depth 6
+pub returns-in_err-v : goal.returns-in_err-v
+returns-in_err-v c =
+    let p = strip_prefix_is Decides-eqb c.args.t.now (45 ∷ []) c.strip_prefix.result c.strip_prefix.ensures.cases in
+    rw c.from_residual.ensures (minus-big _ _ (MatchOption-at_some _ _ c.in-Some.digits c.in-Some.is p) _ c.literal-2.ensures c.in_err-v.was)
 
-pub returns-in-Some : goal.returns-in-Some
-returns-in-Some c = search minus-fits depth 9
-
-pub returns-in-None : goal.returns-in-None
-returns-in-None c = search minus-big depth 8
+pub returns : goal.returns
+returns c =
+    let p = strip_prefix_is Decides-eqb c.args.t.now (45 ∷ []) c.strip_prefix.result c.strip_prefix.ensures.cases in
+    minus-fits _ _ (MatchOption-at_some _ _ c.in-Some.digits c.in-Some.is p) _ c.literal-2.ensures _ _ c.in_ok-v.was c.negated.ensures

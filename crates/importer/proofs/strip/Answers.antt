@@ -1,18 +1,14 @@
 -- `importer::strip` meets its contract.
-use Rattle.importer.proofs.Stripping.{strip-first, strip-out, strip-other, strip-more, strip-end}
+use native.Mathlib.Omega.{arith}
+use mathlib.Core.Path.{refl}
+use Rattle.importer.proofs.Stripping.{strip-none, strip-fits, strip-some}
 use Rattle.importer.proofs.strip.Goals as goal
 
-pub loop-i-init : goal.loop-i-init
-loop-i-init c = search strip-first
+pub overflow_add-result : goal.overflow_add-result
+overflow_add-result c = omega (arith, strip-fits _ _ _ _ c.starts_with.ensures.value c.requires (c.if-starts_with.ensures.bound refl))
 
-pub returns-then-end-next : goal.returns-then-end-next
-returns-then-end-next c = search strip-out depth 7
-
-pub returns-then-text-next : goal.returns-then-text-next
-returns-then-text-next c = search strip-other depth 7
-
-pub loop-i-preserved : goal.loop-i-preserved
-loop-i-preserved c = search strip-more depth 7
+pub returns-then-starts_with : goal.returns-then-starts_with
+returns-then-starts_with c = strip-some _ _ _ _ c.starts_with.ensures.value c.if-starts_with.true (strip-fits _ _ _ _ c.starts_with.ensures.value c.requires (c.if-starts_with.ensures.bound refl))
 
 pub returns : goal.returns
-returns c = search strip-end depth 7
+returns c = search (strip-none, c.starts_with.ensures.value) depth 8

@@ -2,11 +2,11 @@
 use Rattle.importer.proofs.Sides.{upper-absent, upper-none, upper-some}
 use Rattle.importer.proofs.upper_at.Goals as goal
 
-pub returns-in-At : goal.returns-in-At
-returns-in-At c = search upper-absent depth 9
+pub returns-in-Some : goal.returns-in-Some
+returns-in-Some c = search upper-absent depth 9
 
-pub returns-in-Value : goal.returns-in-Value
-returns-in-Value c = search upper-some depth 11
+pub returns-in_err-v : goal.returns-in_err-v
+returns-in_err-v c = rw c.from_residual.ensures (search (upper-none, c.in_err-v.was) depth 10)
 
-pub returns-in-Nothing-line_value : goal.returns-in-Nothing-line_value
-returns-in-Nothing-line_value c = search upper-none depth 10
+pub returns : goal.returns
+returns c = search (upper-some, c.in_ok-v.was) depth 11

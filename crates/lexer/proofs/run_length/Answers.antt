@@ -1,15 +1,12 @@
 -- `lexer::run_length` meets its contract.
-use Rattle.lexer.proofs.Runs.{run-first, run_more, run-stop, run_out}
+use Rattle.lexer.proofs.Runs.{run_more, run-stop, run_out}
 use Rattle.lexer.proofs.run_length.Goals as goal
 
-pub loop-i-init : goal.loop-i-init
-loop-i-init c = run-first _ _ _
-
-pub returns-then-not-more : goal.returns-then-not-more
-returns-then-not-more c = search run-stop depth 7
+pub returns-then-not-test-clause-run : goal.returns-then-not-test-clause-run
+returns-then-not-test-clause-run g c = λ k d. run-stop _ _ _ _ _ (c.loop-i.invariant k d) c.loop-i-test.true (d _ _ c.test.ensures) c.if-not-test.true
 
 pub loop-i-preserved : goal.loop-i-preserved
-loop-i-preserved c = search run_more depth 7
+loop-i-preserved g c = λ k d. run_more _ _ _ _ _ (c.loop-i.invariant k d) c.loop-i-test.true (d _ _ c.test.ensures) c.if-not-test.false
 
-pub returns : goal.returns
-returns c = search run_out depth 5
+pub returns-clause-run : goal.returns-clause-run
+returns-clause-run g c = λ k d. run_out _ _ _ _ _ (c.loop-i.invariant k d) c.loop-i.auto.i-end c.loop-i-test.false c.saturating_sub.ensures

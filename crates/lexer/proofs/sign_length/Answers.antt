@@ -2,8 +2,8 @@
 use Rattle.lexer.proofs.Powers.{sign-some, sign-none}
 use Rattle.lexer.proofs.sign_length.Goals as goal
 
-pub returns-then-sign : goal.returns-then-sign
-returns-then-sign c = search sign-some depth 6
+pub returns-then-b : goal.returns-then-b
+returns-then-b c = search sign-some depth 6
 
-pub returns-else-sign : goal.returns-else-sign
-returns-else-sign c = search sign-none depth 6
+pub returns-else-b : goal.returns-else-b
+returns-else-b c = search sign-none depth 6

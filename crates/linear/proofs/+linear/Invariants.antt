@@ -1,6 +1,7 @@
 -- The cycle of terms, forms and sigmas: each function meets its contract.
 use Prim.Native.Nat.{◌+◌, ◌*◌}
 use Rattle.linear.proofs.Laws.{TermOn, TermsOn}
+use Rattle.tokens.specs.Text.{In}
 use Rattle.linear.proofs.+linear.Given as goal
 
 abbrev pub decreases-body : goal.decreases-body
@@ -18,14 +19,8 @@ decreases-term l = 5 * l.nest + 1
 abbrev pub decreases-terms : goal.decreases-terms
 decreases-terms l = 5 * l.nest + 2
 
-abbrev pub invariant-term-loop-left : goal.invariant-term-loop-left
-invariant-term-loop-left l = TermOn l.sigmas l.text l.names l.tokens l.nest l.at l.left l.a
+abbrev pub invariant-term-loop : goal.invariant-term-loop
+invariant-term-loop l = In (TermOn l.sigmas) l.text l.nest l.at l.counter l.a
 
-abbrev pub decreases-term-loop-left : goal.decreases-term-loop-left
-decreases-term-loop-left l = l.left
-
-abbrev pub invariant-terms-loop-left : goal.invariant-terms-loop-left
-invariant-terms-loop-left l = TermsOn l.sigmas l.text l.names l.tokens l.nest l.at l.left l.a
-
-abbrev pub decreases-terms-loop-left : goal.decreases-terms-loop-left
-decreases-terms-loop-left l = l.left
+abbrev pub invariant-terms-loop : goal.invariant-terms-loop
+invariant-terms-loop l = In (TermsOn l.sigmas) l.text l.nest l.at l.counter l.a

@@ -2,14 +2,14 @@
 use Rattle.linear.proofs.Laws.{variable-name, variable-other, variable-unknown, variable-mark}
 use Rattle.linear.proofs.variable.Goals as goal
 
-pub returns-then-sort : goal.returns-then-sort
-returns-then-sort c = search variable-name depth 8
+pub returns-then-k-ne-NAME : goal.returns-then-k-ne-NAME
+returns-then-k-ne-NAME c = search variable-mark depth 6
 
-pub returns-else-sort : goal.returns-else-sort
-returns-else-sort c = search variable-other depth 8
+pub returns-in_err-name : goal.returns-in_err-name
+returns-in_err-name c = rw c.from_residual.ensures (search (variable-unknown, c.in_err-name.was) depth 8)
 
-pub returns-in-Nothing : goal.returns-in-Nothing
-returns-in-Nothing c = search variable-unknown depth 7
+pub returns-then-name : goal.returns-then-name
+returns-then-name c = search (variable-name, c.in_ok-name.was) depth 8
 
-pub returns-else-k-eq-NAME : goal.returns-else-k-eq-NAME
-returns-else-k-eq-NAME c = search variable-mark depth 6
+pub returns : goal.returns
+returns c = search (variable-other, c.in_ok-name.was) depth 8

@@ -5,10 +5,8 @@ use Rattle.listing.proofs.idle_field.Goals as goal
 
 pub returns-then-idle : goal.returns-then-idle
 returns-then-idle c =
-    let d = c in
-    (rw (idle-yes _ d.if-idle.true) d.text_field.ensures.0, omega (arith, d.text_field.ensures.0.next))
+    (rw (idle-yes _ c.if-idle.true) c.text_field.ensures.0, omega (arith, c.text_field.ensures.0.next))
 
 pub returns : goal.returns
 returns c =
-    let d = c in
-    (rw (idle-no _ d.if-idle.false) d.text_field-2.ensures.0, omega (arith, d.text_field-2.ensures.0.next))
+    (rw (idle-no _ c.if-idle.false) c.text_field-2.ensures.0, omega (arith, c.text_field-2.ensures.0.next))

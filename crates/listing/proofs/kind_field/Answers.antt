@@ -2,4 +2,4 @@
 use Rattle.listing.proofs.kind_field.Goals as goal
 
 pub returns : goal.returns
-returns c = let d = c in (rw d.kind_letter.ensures at d.letter_field.ensures.0, d.letter_field.ensures.1)
+returns c = (rw c.kind_letter.ensures at c.letter_field.ensures.0, c.letter_field.ensures.1)

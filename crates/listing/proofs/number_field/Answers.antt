@@ -5,10 +5,8 @@ use Rattle.listing.proofs.number_field.Goals as goal
 
 pub returns-then-n-le-MANTISSA_LIMIT : goal.returns-then-n-le-MANTISSA_LIMIT
 returns-then-n-le-MANTISSA_LIMIT c =
-    let d = c in
-    (rw (natural-read _ d.if-n-le-MANTISSA_LIMIT.true) at d.whole_field.ensures.0, d.whole_field.ensures.1)
+    (rw (natural-read _ c.if-n-le-MANTISSA_LIMIT.true) at c.whole_field.ensures.0, c.whole_field.ensures.1)
 
 pub returns : goal.returns
 returns c =
-    let d = c in
-    (rw (natural-none _ d.if-n-le-MANTISSA_LIMIT.false) d.put.ensures, omega (arith, d.put.ensures.next))
+    (rw (natural-none _ c.if-n-le-MANTISSA_LIMIT.false) c.put.ensures, omega (arith, c.put.ensures.next))

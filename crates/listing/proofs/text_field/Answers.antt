@@ -5,6 +5,4 @@ use Rattle.listing.proofs.text_field.Goals as goal
 
 pub returns : goal.returns
 returns c =
-    let d = c in
-    let p = d in
-    (tab-then p.put-next.ensures d.put_text.ensures, omega (arith, p.put-next.ensures.next, d.put_text.ensures.next))
+    (tab-then c.put-next.ensures c.put_text.ensures, omega (arith, c.put-next.ensures.next, c.put_text.ensures.next))

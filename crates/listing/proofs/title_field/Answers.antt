@@ -5,7 +5,5 @@ use Rattle.listing.proofs.title_field.Goals as goal
 
 pub returns : goal.returns
 returns c =
-    let d = c in
-    let p = d in
-    let e = p.part.ensures in
-    (rw (cut-is _ _ e) d.text_field.ensures.0, omega (arith, d.text_field.ensures.0.next, cut_most _ p.args.t.now e))
+    let e = c.part.ensures in
+    (rw (cut-is _ _ e) c.text_field.ensures.0, omega (arith, c.text_field.ensures.0.next, cut_most _ c.args.t.now e))

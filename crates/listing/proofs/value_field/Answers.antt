@@ -6,15 +6,10 @@ use Rattle.listing.proofs.value_field.Goals as goal
 
 pub overflow_add-result : goal.overflow_add-result
 overflow_add-result c =
-    let d = c in
-    let p = d in
-    omega (arith, p.put-next.ensures.next, d.print.ensures.next, shown-most p.args.v)
+    omega (arith, c.put-next.ensures.next, c.print.ensures.next, shown-most c.args.v)
 
 pub returns : goal.returns
-returns c =
-    let d = c in
-    let f = d in
-    let p = f in (
-      tab-then p.put-next.ensures (written_from _ _ _ _ _ _ f.rest_from-from.ensures d.print.ensures),
-      omega (arith, p.put-next.ensures.next, d.print.ensures.next, shown-most p.args.v),
-    )
+returns c = (
+  tab-then c.put-next.ensures (written_from _ _ _ _ _ _ c.rest_from-from.ensures c.print.ensures),
+  omega (arith, c.put-next.ensures.next, c.print.ensures.next, shown-most c.args.v),
+)

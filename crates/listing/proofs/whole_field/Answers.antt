@@ -5,7 +5,5 @@ use Rattle.listing.proofs.whole_field.Goals as goal
 
 pub returns : goal.returns
 returns c =
-    let d = c in
-    let w = d in
-    let e = rw (to_z-of_z w.ranges.k) at w.of_whole.ensures in
-    (rw (whole_is _ _ e) at d.value_field.ensures.0, d.value_field.ensures.1)
+    let e = rw (to_z-of_z c.ranges.k) at c.of_whole.ensures in
+    (rw (whole_is _ _ e) at c.value_field.ensures.0, c.value_field.ensures.1)

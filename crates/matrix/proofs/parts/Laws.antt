@@ -1,4 +1,6 @@
 -- Laws over plain variables that answer the code's needs.
+use Rattle.std.specs.Prelude.{Err, Ok, Result}
+use Rattle.rules.specs.declared.Refused.{Refused}
 use mathlib.Core.Path.{◌≡◌, refl, sym, ◌∙◌, ap, subst}
 use mathlib.Core.Bool.{Bool, not}
 use mathlib.Core.List.{List}
@@ -6,7 +8,6 @@ use Prim.Native.Nat.{ℕ}
 use native.Mathlib.Omega.{arith}
 use lib.Dec.{eqb}
 use lib.ListN.{get_or}
-use Rattle.rules.specs.declared.Refusal.{Refusal}
 use Rattle.rules.specs.Limits.{nesting_limit, index_limit}
 use Rattle.lexer.specs.Text.{Token}
 use Rattle.language.proofs.Outcome.{refused-done}
@@ -17,7 +18,6 @@ use Rattle.language.specs.Numbering.{flips, is_equal}
 use Rattle.onepass.proofs.Steps.{after_read, same-what}
 use Rattle.onepass.proofs.WalkedDomain.{entries-read}
 use Rattle.tokens.specs.declared.Seen.{Seen}
-use Rattle.tokens.specs.declared.Seen.TheVariants as seen
 use Rattle.tokens.specs.Stored.{token, from, size, Sees, Looks, Stands}
 use Rattle.tokens.proofs.Moved.{next-is}
 use Rattle.evaluator.specs.Tables.{DomainAt}
@@ -29,42 +29,42 @@ use Rattle.matrix.specs.Parts.Parts.{PlaceIs, FirstIs, PartsAre}
 
 -- ---- places
 
-module _ (ts : List ℕ) (at : ℕ) (t : Seen) (l : Looks ts at t) where
-  pub place_is : (k p x b : ℕ) → t ≡ seen.Token k p x b → PlaceIs ts at p
+module _ (ts : List ℕ) (at : ℕ) (t : Result Seen Refused) (l : Looks ts at t) where
+  pub place_is : (w : Seen) → t ≡ Ok w → PlaceIs ts at w.place
   unfolding read_string token
-  place_is k p x b i =
+  place_is w i =
       record {
         is = λ s u st.
             after_read (next (from s ts at)) _ _ st.reads λ v m h e.
             after_read (demand (string_of v.kind) v.place m) _ _ e λ y n g e.
-            ap (λ (z : Titled). z.place) (sym (same-what e)) ∙ ap (λ (z : Token). z.place) (same-what (sym h ∙ next-is s ts at k p x b (subst (Sees s ts at) i (l.sees s))));
+            ap (λ (z : Titled). z.place) (sym (same-what e)) ∙ ap (λ (z : Token). z.place) (same-what (sym h ∙ next-is s ts at w (subst (Sees s ts at) i (l.sees s))));
       }
 
-  pub place-wrong : (n : Refusal) (p : ℕ) → t ≡ seen.Refused n p → PlaceIs ts at p
+  pub place-wrong : (e : Refused) → t ≡ Err e → PlaceIs ts at e.place
   unfolding read_string
-  place-wrong n p i =
+  place-wrong z i =
       record {
         is = λ s u st. after_read (next (from s ts at)) _ _ st.reads λ v m h e. absurd (refused-done (sym (subst (Sees s ts at) i (l.sees s)).nexts ∙ h));
       }
 
 -- ---- a domain
 
-module _ (ts : List ℕ) (at : ℕ) (t : Seen) (l : Looks ts at t) where
-  pub first-wrong : (i : Refusal) (p : ℕ) → t ≡ seen.Refused i p → (r : ℕ) → FirstIs ts at r
-  first-wrong i p j r = record { is = λ s names d st. absurd (domain-wrong s ts at t l names d st i p j) }
+module _ (ts : List ℕ) (at : ℕ) (t : Result Seen Refused) (l : Looks ts at t) where
+  pub first-wrong : (e : Refused) → t ≡ Err e → (r : ℕ) → FirstIs ts at r
+  first-wrong z j r = record { is = λ s names d st. absurd (domain-wrong s ts at t l names d st z j) }
 
-  pub first-none : (k p x q : ℕ) → t ≡ seen.Token k p x q → (k ≡ 40 → ⊥) → FirstIs ts at at
+  pub first-none : (w : Seen) → t ≡ Ok w → (w.kind ≡ 40 → ⊥) → FirstIs ts at at
   unfolding size
-  first-none k p x q j f =
-      record { is = λ s names d st. subst (λ z. DomainAt s ts names z at) (domain-none s ts at t l names d st k p x q j f) (record { rest = from s ts at; reads = refl; few = omega arith }) }
+  first-none w j f =
+      record { is = λ s names d st. subst (λ z. DomainAt s ts names z at) (domain-none s ts at t l names d st w j f) (record { rest = from s ts at; reads = refl; few = omega arith }) }
 
-  pub first_some : (k p x q : ℕ) → t ≡ seen.Token k p x q → k ≡ 40 → FirstIs ts at q
+  pub first_some : (w : Seen) → t ≡ Ok w → w.kind ≡ 40 → FirstIs ts at w.next
   unfolding index_limit
-  first_some k p x q j f =
+  first_some w j f =
       record {
         is = λ s names d st.
-            let z = domain-some s ts at t l names d st k p x q j f in
-            record { rest = z.rest; reads = entries-read names 3 (from s ts q) d z.rest z.reads; few = few-entries names 3 (from s ts q) d z.rest z.reads };
+            let z = domain-some s ts at t l names d st w j f in
+            record { rest = z.rest; reads = entries-read names 3 (from s ts w.next) d z.rest z.reads; few = few-entries names 3 (from s ts w.next) d z.rest z.reads };
       }
 
 -- ---- relations

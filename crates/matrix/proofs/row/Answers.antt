@@ -1,4 +1,5 @@
 -- `matrix::row` meets its contract.
+use Rattle.std.proofs.lemmas.Result.{err_from_is_err_and}
 use Rattle.matrix.proofs.Adding.{slot-low, row-refused, row-full, row_written}
 use native.Mathlib.Omega.{arith}
 use Rattle.matrix.proofs.row.Goals as goal
@@ -15,11 +16,11 @@ offset_bounds-counts-a c = omega (arith, slot-low _ _ _ _ c.next_slot-slot.ensur
 pub slice_bounds-row_at-end : goal.slice_bounds-row_at-end
 slice_bounds-row_at-end c = omega (arith, slot-low _ _ _ _ c.next_slot-slot.ensures)
 
+pub returns-in_err-v : goal.returns-in_err-v
+returns-in_err-v c = let p = err_from_is_err_and c.from_residual.result c.from_residual.ensures.1 in rw (p.1, p.2) (search (row-refused, c.in_err-v.was) depth 12)
+
 pub returns-then-not-has_room : goal.returns-then-not-has_room
-returns-then-not-has_room c = search row-full depth 15
+returns-then-not-has_room c = search (row-full, c.in_ok-v.was) depth 15
 
-pub returns-else-not-has_room : goal.returns-else-not-has_room
-returns-else-not-has_room c = search row_written depth 17
-
-pub returns-in-Refused : goal.returns-in-Refused
-returns-in-Refused c = search row-refused depth 12
+pub returns : goal.returns
+returns c = search (row_written, c.in_ok-v.was) depth 17

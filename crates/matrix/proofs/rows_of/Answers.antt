@@ -1,22 +1,29 @@
 -- `matrix::rows_of` meets its contract.
-use Rattle.elements.proofs.Loops.{next-less}
-use Rattle.matrix.proofs.Looping.{rows_start, rows-done, rows-stopped, rows-refused, rows_more}
+use Rattle.std.proofs.lemmas.Result.{err_from_is_err_and}
+use Rattle.matrix.proofs.Looping.{step-falls, rows_start, rows-unstarted, rows-done, rows-stopped, rows-refused, rows_more}
 use Rattle.matrix.proofs.rows_of.Goals as goal
 
-pub loop-step-init : goal.loop-step-init
-loop-step-init c = search rows_start depth 7
+pub returns-in_err-step : goal.returns-in_err-step
+returns-in_err-step c = let p = err_from_is_err_and c.from_residual.result c.from_residual.ensures.1 in rw (p.1, p.2) (search (rows-unstarted, c.in_err-step.was) depth 5)
 
-pub returns-in_default : goal.returns-in_default
-returns-in_default c = search rows-refused depth 10
+pub loop-step-init : goal.loop-step-init
+loop-step-init c = search (rows_start, c.in_ok-step.was) depth 7
+
+pub returns-in_err-f : goal.returns-in_err-f
+returns-in_err-f c =
+    let p = err_from_is_err_and c.from_residual-in_err-f.result c.from_residual-in_err-f.ensures.1 in
+    rw (p.1, p.2) (search (rows-refused, c.in_err-f.was) depth 10)
+
+pub returns-in_err-step-2 : goal.returns-in_err-step-2
+returns-in_err-step-2 c =
+    let p = err_from_is_err_and c.from_residual-in_err-step-2.result c.from_residual-in_err-step-2.ensures.1 in
+    rw (p.1, p.2) (search (rows-stopped, c.in_ok-f.was, c.in_err-step-2.was) depth 10)
 
 pub loop-step-smaller : goal.loop-step-smaller
-loop-step-smaller c = search next-less depth 5
+loop-step-smaller c = step-falls _ _ _ _ _ _ c.loop-step.step c.in_ok-step-2.step _ c.in-Some.is c.next.ensures (search c.in_ok-step-2.was)
 
 pub loop-step-preserved : goal.loop-step-preserved
-loop-step-preserved c = search rows_more depth 12
+loop-step-preserved c = search (rows_more, c.in_ok-f.was, c.in_ok-step-2.was) depth 12
 
-pub returns-in-Done : goal.returns-in-Done
-returns-in-Done c = search rows-done depth 5
-
-pub returns-in-Refused : goal.returns-in-Refused
-returns-in-Refused c = search rows-stopped depth 5
+pub returns : goal.returns
+returns c = search rows-done depth 5

@@ -1,11 +1,12 @@
 -- Laws over plain variables for a bound: the variable's number, the right side and the floor.
+use Rattle.std.specs.Prelude.{Err, None, Ok, Option, Result, Some}
+use Rattle.rules.specs.declared.Refused.{Refused}
 use mathlib.Core.Path.{◌≡◌, refl, sym, ◌∙◌, ap, subst}
 use mathlib.Core.Bool.{Bool, true, false, ◌&&◌, cond}
 use mathlib.Core.List.{List}
 use Prim.Native.Nat.{ℕ}
 use native.Mathlib.Omega.{arith}
 use lib.Dec.{eqb}
-use Rattle.rules.specs.declared.Refusal.{Refusal}
 use Rattle.rules.specs.declared.Refusal.TheVariants.{Misplaced}
 use Rattle.rules.specs.Limits.{nesting_limit}
 use Rattle.value.specs.declared.Value.{Value}
@@ -22,24 +23,17 @@ use Rattle.onepass.specs.WalkLinear.{walk_number}
 use Rattle.onepass.proofs.Steps.{same-what, same_rest, what-as}
 use Rattle.onepass.proofs.WalkedLinear.{Bare, bare-walk}
 use Rattle.tokens.specs.declared.Seen.{Seen}
-use Rattle.tokens.specs.declared.Seen.TheVariants as seen
 use Rattle.tokens.specs.Stored.{token, kind_of, Sees, Looks}
 use Rattle.tokens.proofs.Moved.{next-is}
 use Rattle.tokens.proofs.Tables.{false-true}
 use Rattle.evaluator.specs.declared.steps.scope.Scope.{Scope}
 use Rattle.evaluator.specs.declared.steps.names.Listed.{Listed}
-use Rattle.evaluator.specs.declared.steps.names.Listed.TheVariants as listed
 use Rattle.evaluator.specs.Steps.Scopes.{Small}
 use Rattle.evaluator.specs.Cycle.{seen_by, under, tokens_at}
 use Rattle.constraints.specs.Rows.{is_bare, has_floor}
-use Rattle.gatherer.specs.declared.Numbered.{Numbered}
-use Rattle.gatherer.specs.declared.Numbered.TheVariants as numbered
 use Rattle.gatherer.specs.Cycle.{Model, number_outcome, NumberIs, Heads, variable_seen, Begins}
 use Rattle.gatherer.proofs.Numbers.{begins-of}
 use Rattle.matrix.specs.declared.sides.Bounded.{Bounded}
-use Rattle.matrix.specs.declared.sides.Bounded.TheVariants as bounded
-use Rattle.matrix.specs.declared.sides.Ends.{Ends}
-use Rattle.matrix.specs.declared.sides.Ends.TheVariants as ends
 use Rattle.matrix.specs.Sides.Answers.{LeftAt, EndsAt, ends_of, EndsFound, EndsAre, NumberOf, fact_with, BoundFound, BoundIs}
 use Rattle.constraints.proofs.SideLaws.{bare-side}
 use Rattle.matrix.proofs.sides.EndLaws.{with_floor, bare_ends}
@@ -68,56 +62,56 @@ module _ (ns ts ds : List ℕ) (given : ℕ) (xs : List ℕ) (total level : ℕ)
       let (plain, one) = bare-side a.linear.signed a.linear.form i d fs p a.side in
       bare-walk w.variables (seen_by w.world level) i d fs p nesting_limit (tokens_at w.world at) a.linear a.stands.rest a.stands.reads plain one
 
-  module _ (at : ℕ) (t : Seen) (h : Looks ts at t) where
-    pub of-wrong : (m : Refusal) (p : ℕ) → t ≡ seen.Refused m p → NumberOf ns ts ds given xs total level sc at (numbered.Refused m p)
-    of-wrong m p e =
+  module _ (at : ℕ) (t : Result Seen Refused) (h : Looks ts at t) where
+    pub of-wrong : (e : Refused) → t ≡ Err e → NumberOf ns ts ds given xs total level sc at (Err e)
+    of-wrong y e =
         record {
           is = λ w g i d fs q a. absurd (refused-done (sym (subst (Sees w.world.text ts at) e (h.sees w.world.text)).nexts ∙ (side-at w at i d fs q a).stands));
           below = λ w j a z. absurd (let z : ◌≡◌ {A = ℕ} 0 1 = cc in omega arith);
         }
 
-    module _ (k p x a : ℕ) (e : t ≡ seen.Token k p x a) (l : Listed) (b : l ≡ variable_seen ns ts level at k) where
+    module _ (here : Seen) (e : t ≡ Ok here) (l : Option Listed) (b : l ≡ variable_seen ns ts level at here.kind) where
       -- the token is the side's
-      record Stood (w : Model ns ts ds given xs total) (i : ℕ) (d : Spans) (fs : Formulas) (q : ℕ) (y : Listed) : Type 0 where
+      record Stood (w : Model ns ts ds given xs total) (i : ℕ) (d : Spans) (fs : Formulas) (q : ℕ) (y : Option Listed) : Type 0 where
         pub rest : List Token
-        pub place : p ≡ q
-        pub walks : walk_number w.variables (seen_by w.world level) nesting_limit i d q (under w.world sc) (tokens_at w.world a) ≡ as_read (variable_at w.variables i d fs q (under w.world sc)) rest
+        pub place : here.place ≡ q
+        pub walks : walk_number w.variables (seen_by w.world level) nesting_limit i d q (under w.world sc) (tokens_at w.world here.next) ≡ as_read (variable_at w.variables i d fs q (under w.world sc)) rest
         pub heads : Heads w.world (a_variable i d) y
 
-      stood : (w : Model ns ts ds given xs total) (i : ℕ) (d : Spans) (fs : Formulas) (q : ℕ) → LeftAt w level at (bare i d fs q) → (y : Listed) → l ≡ y → Stood w i d fs q y
+      stood : (w : Model ns ts ds given xs total) (i : ℕ) (d : Spans) (fs : Formulas) (q : ℕ) → LeftAt w level at (bare i d fs q) → (y : Option Listed) → l ≡ y → Stood w i d fs q y
       unfolding token
       stood w i d fs q z y f =
           let u = side-at w at i d fs q z in
           let s = w.world.text in
-          let same = sym (next-is s ts at k p x a (subst (Sees s ts at) e (h.sees s))) ∙ u.stands in
+          let same = sym (next-is s ts at here (subst (Sees s ts at) e (h.sees s))) ∙ u.stands in
           record {
             rest = z.stands.rest;
             place = ap (λ (t : Token). t.place) (same-what same) ∙ u.at;
             walks = ap (walk_number w.variables (seen_by w.world level) nesting_limit i d q (under w.world sc)) (same_rest same) ∙ u.walks (under w.world sc);
-            heads = subst (λ o. Heads w.world o y) (no-mark (seen_by w.world level) (kind_of s k p x) i d (ap (λ (t : Token). head_by (seen_by w.world level) true t.kind) (same-what same) ∙ u.begins))
-                ((subst (Begins ns ts level at k) f (begins-of ns ts level at k l b)).heads p x a (subst (Looks ts at) e h) false refl ds given w.world);
+            heads = subst (λ o. Heads w.world o y) (no-mark (seen_by w.world level) (kind_of s here.kind here.place here.payload) i d (ap (λ (t : Token). head_by (seen_by w.world level) true t.kind) (same-what same) ∙ u.begins))
+                ((subst (Begins ns ts level at here.kind) f (begins-of ns ts level at here.kind l b)).heads here.place here.payload here.next (subst (Looks ts at) e h) false refl ds given w.world);
           }
 
-      pub of-nothing : l ≡ listed.Nothing → NumberOf ns ts ds given xs total level sc at (numbered.Refused Misplaced p)
+      pub of-nothing : l ≡ None → NumberOf ns ts ds given xs total level sc at (Err (record { refusal = Misplaced; place = here.place }))
       of-nothing f =
           record {
             is = λ w g i d fs q z. absurd (let y = (stood w i d fs q z _ f).heads in let z : ◌≡◌ {A = ℕ} 0 1 = cc in omega arith);
             below = λ w j a z. absurd (let z : ◌≡◌ {A = ℕ} 0 1 = cc in omega arith);
           }
 
-      pub of_number : (ι j c q : ℕ) → l ≡ listed.Name ι j c q → (y : Numbered) → NumberIs 12 ι c q p ns ts ds given xs total level sc a y → NumberOf ns ts ds given xs total level sc at y
+      pub of_number : (w : Listed) → l ≡ Some w → (y : Result (ℕ × ℕ) Refused) → NumberIs 12 w.number w.count w.start here.place ns ts ds given xs total level sc here.next y → NumberOf ns ts ds given xs total level sc at y
       unfolding nesting_limit
-      of_number ι j c q f y o =
+      of_number one f y o =
           record {
             is = λ w g i d fs r z.
                 let u = stood w i d fs r z _ f in
                 let (v, known) = u.heads in
                 let (same, declared) = known in
-                let vi : i ≡ ι = cc in
+                let vi : i ≡ one.number = cc in
                 let vd : d ≡ v = cc in
-                let n = sym u.walks ∙ ap (λ i. walk_number w.variables (seen_by w.world level) 12 i d r (under w.world sc) (tokens_at w.world a)) vi
-                ∙ ap (λ d. walk_number w.variables (seen_by w.world level) 12 ι d r (under w.world sc) (tokens_at w.world a)) vd
-                ∙ ap (λ r. walk_number w.variables (seen_by w.world level) 12 ι v r (under w.world sc) (tokens_at w.world a)) (sym u.place)
+                let n = sym u.walks ∙ ap (λ i. walk_number w.variables (seen_by w.world level) 12 i d r (under w.world sc) (tokens_at w.world here.next)) vi
+                ∙ ap (λ d. walk_number w.variables (seen_by w.world level) 12 one.number d r (under w.world sc) (tokens_at w.world here.next)) vd
+                ∙ ap (λ r. walk_number w.variables (seen_by w.world level) 12 one.number v r (under w.world sc) (tokens_at w.world here.next)) (sym u.place)
                 ∙ o.is w g v declared in
                 sym (what-as (variable_at w.variables i d fs r (under w.world sc)) u.rest) ∙ ap what_of n;
             below = o.below;
@@ -125,9 +119,9 @@ module _ (ns ts ds : List ℕ) (given : ℕ) (xs : List ℕ) (total level : ℕ)
 
   -- ---- a bound
 
-  module _ (left right : ℕ) (floor : Bool) (y : Numbered) (h : NumberOf ns ts ds given xs total level sc left y) where
+  module _ (left right : ℕ) (floor : Bool) (y : Result (ℕ × ℕ) Refused) (h : NumberOf ns ts ds given xs total level sc left y) where
     -- by the variable's number
-    by_number_lem : (z : Numbered) → y ≡ z → (r : Bounded)
+    by_number_lem : (z : Result (ℕ × ℕ) Refused) → y ≡ z → (r : Result Bounded Refused)
         → ((w : Model ns ts ds given xs total) → Small sc → (i : ℕ) (d : Spans) (fs : Formulas) (p : ℕ)
         → variable_at w.variables i d fs p (under w.world sc) ≡ what_of (number_outcome w.world.text ts z) → (g : Formula) (e : Relation) → has_floor e ≡ floor → EndsAt w.world level right g e
         → BoundFound total (fact_with w.variables (bare i d fs p) e g (under w.world sc)) r)
@@ -139,20 +133,20 @@ module _ (ns ts ds : List ℕ) (given : ℕ) (xs : List ℕ) (total level : ℕ)
         go w s (form x) b a g o t u = absurd (false-true b)
         go w s (bare i d fs p) b a g o t u = f w s i d fs p (h.is w s i d fs p a ∙ ap (λ z. what_of (number_outcome w.world.text ts z)) e) g o t u
 
-    pub bound-number : (m : Refusal) (p : ℕ) → y ≡ numbered.Refused m p → BoundIs floor ns ts ds given xs total level sc left right (bounded.Refused m p)
+    pub bound-number : (e : Refused) → y ≡ Err e → BoundIs floor ns ts ds given xs total level sc left right (Err e)
     unfolding fact_with fact_of
-    bound-number m p e = by_number_lem _ e (bounded.Refused m p) (λ w s i d fs q n g o t u. rw n refl)
+    bound-number z e = by_number_lem _ e (Err z) (λ w s i d fs q n g o t u. rw n refl)
 
-    module _ (j a : ℕ) (e : y ≡ numbered.Number j a) (v : Ends) (f : EndsAre floor ns ts ds given level sc right v) where
-      pub bound-side : (m : Refusal) (p : ℕ) → v ≡ ends.Refused m p → BoundIs floor ns ts ds given xs total level sc left right (bounded.Refused m p)
-      bound-side m p i =
-          by_number_lem _ e (bounded.Refused m p) λ w s k d fs q n g o t u.
+    module _ (j a : ℕ) (e : y ≡ Ok (j, a)) (v : Result (Value × ℕ) Refused) (f : EndsAre floor ns ts ds given level sc right v) where
+      pub bound-side : (e : Refused) → v ≡ Err e → BoundIs floor ns ts ds given xs total level sc left right (Err e)
+      bound-side z i =
+          by_number_lem _ e (Err z) λ w s k d fs q n g o t u.
           bare_ends w.variables o g (under w.world sc) k d fs q j n
           ∙ ap (with_floor (bound j)) (subst (EndsFound (ends_of g o (under w.world sc))) i (f.is w.world s g o t u))
 
-      pub bound-value : (x : Value) (word : ℕ) → v ≡ ends.At x word → BoundIs floor ns ts ds given xs total level sc left right (bounded.At j x word)
+      pub bound-value : (x : Value) (word : ℕ) → v ≡ Ok (x, word) → BoundIs floor ns ts ds given xs total level sc left right (Ok (record { variable = j; right = x; floor = word }))
       bound-value x word i =
-          by_number_lem _ e (bounded.At j x word) λ w s k d fs q n g o t u.
+          by_number_lem _ e (Ok (record { variable = j; right = x; floor = word })) λ w s k d fs q n g o t u.
           let r = subst (EndsFound (ends_of g o (under w.world sc))) i (f.is w.world s g o t u) in
           record {
             floor = r.floor;

@@ -1,11 +1,11 @@
 -- Laws over plain variables for a right side and the floor behind it: their values, and the facts that are made with them.
-use Rattle.std.specs.Prelude.{Option, Some, None}
+use Rattle.std.specs.Prelude.{Err, Ok, Result, Option, Some, None}
+use Rattle.rules.specs.declared.Refused.{Refused}
 use mathlib.Core.Path.{◌≡◌, refl, sym, ◌∙◌, ap, subst}
 use mathlib.Core.Bool.{Bool, true, false, not}
 use mathlib.Core.List.{List, ◌∷◌, map}
 use Prim.Native.Nat.{ℕ}
 use borrow.Author.Tests.{not-true, not-false}
-use Rattle.rules.specs.declared.Refusal.{Refusal}
 use Rattle.rules.specs.Limits.{nesting_limit}
 use Rattle.value.specs.declared.Value.{Value}
 use Rattle.lexer.specs.Text.{Token}
@@ -24,15 +24,12 @@ use Rattle.tokens.specs.Stored.{from}
 use Rattle.tokens.proofs.Tables.{false-true}
 use Rattle.store.specs.Packed.{packed}
 use Rattle.evaluator.specs.declared.steps.scope.Scope.{Scope}
-use Rattle.evaluator.specs.declared.steps.values.Answer.{Answer}
-use Rattle.evaluator.specs.declared.steps.values.Answer.TheVariants as answer
 use Rattle.evaluator.specs.Steps.Scopes.{Small}
 use Rattle.evaluator.specs.Steps.Passing.{Skips}
 use Rattle.evaluator.specs.Tables.{World}
 use Rattle.evaluator.specs.Cycle.{formula_in, value_outcome, ValidAnswer, seen_by, under, tokens_at, Values}
 use Rattle.constraints.specs.Rows.{has_floor}
 use Rattle.rows.specs.Slots.{floor_word}
-use Rattle.matrix.specs.declared.sides.Ends.TheVariants as ends
 use Rattle.matrix.specs.Sides.Answers.{EndsAt, ends_of, EndsAre, fact_with}
 
 -- ---- what is made with both
@@ -71,30 +68,30 @@ no-floor equal s h = refl
 no-floor (between g) s h = absurd (false-true (sym h))
 
 module _ (ns ts ds : List ℕ) (given level : ℕ) (sc : Scope) where
-  module _ (at : ℕ) (v : Answer) (f : Values (formula_in nesting_limit) ns ts ds given level sc at v) (w : World ns ts ds given) (s : Small sc) where
-    valid-at : (y : Answer) → v ≡ y → ValidAnswer y
+  module _ (at : ℕ) (v : Result (Value × ℕ) Refused) (f : Values (formula_in nesting_limit) ns ts ds given level sc at v) (w : World ns ts ds given) (s : Small sc) where
+    valid-at : (y : Result (Value × ℕ) Refused) → v ≡ y → ValidAnswer y
     valid-at y e = subst ValidAnswer e (f.valid w s)
 
     module _ (g : Formula) (rest : List Token) (h : formula_at (seen_by w level) nesting_limit (tokens_at w at) ≡ done (record { what = g; rest = rest })) where
-      walk_is : (y : Answer) → v ≡ y → as_read (eval g (under w sc)) rest ≡ value_outcome w.text ts y
+      walk_is : (y : Result (Value × ℕ) Refused) → v ≡ y → as_read (eval g (under w sc)) rest ≡ value_outcome w.text ts y
       unfolding formula_in
       walk_is y e = sym (walked (seen_by w level) nesting_limit (tokens_at w at) g rest h (under w sc)) ∙ f.is w s ∙ ap (value_outcome w.text ts) e
 
-      value-at : (y : Answer) → v ≡ y → eval g (under w sc) ≡ what_of (value_outcome w.text ts y)
+      value-at : (y : Result (Value × ℕ) Refused) → v ≡ y → eval g (under w sc) ≡ what_of (value_outcome w.text ts y)
       value-at y e = sym (what-as (eval g (under w sc)) rest) ∙ ap what_of (walk_is y e)
 
-      rest_at : (x : Value) (a : ℕ) → v ≡ answer.Value x a → tokens_at w a ≡ rest
+      rest_at : (x : Value) (a : ℕ) → v ≡ Ok (x, a) → tokens_at w a ≡ rest
       rest_at x a e = sym (same_rest (ap (λ o. as_read o rest) (sym (value-at _ e)) ∙ walk_is _ e))
 
   -- ---- both
 
-  module _ (floor : Bool) (at : ℕ) (v : Answer) (f : Values (formula_in nesting_limit) ns ts ds given level sc at v) where
-    pub ends-refused : (m : Refusal) (p : ℕ) → v ≡ answer.Refused m p → EndsAre floor ns ts ds given level sc at (ends.Refused m p)
+  module _ (floor : Bool) (at : ℕ) (v : Result (Value × ℕ) Refused) (f : Values (formula_in nesting_limit) ns ts ds given level sc at v) where
+    pub ends-refused : (e : Refused) → v ≡ Err e → EndsAre floor ns ts ds given level sc at (Err e)
     unfolding ends_of
-    ends-refused m p e = record { is = λ w s g q b u. rw (value-at at v f w s g u.right.rest u.right.reads _ e) refl }
+    ends-refused z e = record { is = λ w s g q b u. rw (value-at at v f w s g u.right.rest u.right.reads _ e) refl }
 
-    module _ (x : Value) (a : ℕ) (e : v ≡ answer.Value x a) where
-      pub ends-alone : not floor ≡ true → EndsAre floor ns ts ds given level sc at (ends.At x 0)
+    module _ (x : Value) (a : ℕ) (e : v ≡ Ok (x, a)) where
+      pub ends-alone : not floor ≡ true → EndsAre floor ns ts ds given level sc at (Ok (x, 0))
       unfolding ends_of floor_word
       ends-alone z =
           record {
@@ -108,9 +105,9 @@ module _ (ns ts ds : List ℕ) (given level : ℕ) (sc : Scope) where
                 };
           }
 
-      module _ (z : not floor ≡ false) (b c : ℕ) (first : Skips ts a b) (second : Skips ts b c) (l : Answer) (k : Values (formula_in nesting_limit) ns ts ds given level sc c l) where
+      module _ (z : not floor ≡ false) (b c : ℕ) (first : Skips ts a b) (second : Skips ts b c) (l : Result (Value × ℕ) Refused) (k : Values (formula_in nesting_limit) ns ts ds given level sc c l) where
         -- the floor's value, behind the right side and two signs
-        low-at : (y : Answer) → l ≡ y → (w : World ns ts ds given) → Small sc → (g : Formula) (q : Relation) → has_floor q ≡ floor → EndsAt w level at g q
+        low-at : (y : Result (Value × ℕ) Refused) → l ≡ y → (w : World ns ts ds given) → Small sc → (g : Formula) (q : Relation) → has_floor q ≡ floor → EndsAt w level at g q
             → floor_at q (under w sc) ≡ (what_of (value_outcome w.text ts y) >>= λ o. done (Some o))
         unfolding floor_at
         low-at y i w s g at_most h u = absurd (false-true (h ∙ not-false floor z))
@@ -122,11 +119,11 @@ module _ (ns ts ds : List ℕ) (given level : ℕ) (sc : Scope) where
             let two = behind w.text ts b c fl.sign fl.formula second one in
             rw (value-at c l k w s t fl.rest (ap (formula_at (seen_by w level) nesting_limit) two ∙ fl.reads) y i) refl
 
-        pub ends_low : (m : Refusal) (p : ℕ) → l ≡ answer.Refused m p → EndsAre floor ns ts ds given level sc at (ends.Refused m p)
+        pub ends_low : (e : Refused) → l ≡ Err e → EndsAre floor ns ts ds given level sc at (Err e)
         unfolding ends_of
-        ends_low m p i = record { is = λ w s g q h u. rw (value-at at v f w s g u.right.rest u.right.reads _ e, low-at _ i w s g q h u) refl }
+        ends_low z i = record { is = λ w s g q h u. rw (value-at at v f w s g u.right.rest u.right.reads _ e, low-at _ i w s g q h u) refl }
 
-        pub ends-both : (y : Value) (d : ℕ) → l ≡ answer.Value y d → (word : ℕ) → word ≡ packed y → EndsAre floor ns ts ds given level sc at (ends.At x word)
+        pub ends-both : (y : Value) (d : ℕ) → l ≡ Ok (y, d) → (word : ℕ) → word ≡ packed y → EndsAre floor ns ts ds given level sc at (Ok (x, word))
         unfolding ends_of floor_word
         ends-both y d i word j =
             record {

@@ -1,4 +1,6 @@
 -- Laws over plain variables for rows: gathered from zeros, both sides under the relation's sign.
+use Rattle.std.specs.Prelude.{Err, Ok, Result}
+use Rattle.rules.specs.declared.Refused.{Refused}
 use mathlib.Core.Path.{◌≡◌, refl, sym, ◌∙◌, ap, subst}
 use mathlib.Core.Bool.{Bool, true, false}
 use mathlib.Core.List.{List, map}
@@ -6,34 +8,27 @@ use Prim.Native.Nat.{ℕ}
 use native.Mathlib.Omega.{arith}
 use lib.ListN.{length, replicate, length-map, length-replicate}
 use lib.IntN.{ℤ, pos}
-use Rattle.rules.specs.declared.Refusal.{Refusal}
 use Rattle.rules.specs.Limits.{nesting_limit, mantissa_limit, scale_limit}
 use Rattle.value.specs.declared.Value.{Value}
 use Rattle.value.specs.Decimal.{Valid, zero_value, one_value}
-use Rattle.language.specs.Outcome.{Outcome, done}
+use Rattle.language.specs.Outcome.{done}
 use Rattle.language.specs.Syntax.{Form, Formula, Relation, Side, bare, form}
 use Rattle.language.specs.Reader.{as_read}
 use Rattle.language.specs.Linear.{Linear}
-use Rattle.language.specs.Numbering.{Variable, Row, signed, gathered, row, flips, fact_of}
+use Rattle.language.specs.Numbering.{signed, gathered, row, flips, fact_of}
 use Rattle.language.specs.Model.{what_of}
 use Rattle.onepass.proofs.Steps.{what-as}
 use Rattle.onepass.proofs.WalkedLinear.{gathered-walk}
-use Rattle.tokens.specs.declared.Move.{Move}
-use Rattle.tokens.specs.declared.Move.TheVariants as move
 use Rattle.tokens.proofs.Tables.{false-true}
 use Rattle.evaluator.specs.declared.steps.scope.Scope.{Scope}
 use Rattle.evaluator.specs.Steps.Scopes.{Small}
 use Rattle.evaluator.specs.Steps.Values.{signed_value}
-use Rattle.evaluator.specs.declared.Passed.{Passed}
-use Rattle.evaluator.specs.declared.Passed.TheVariants as passed
 use Rattle.evaluator.specs.Cycle.{seen_by, under, tokens_at}
 use Rattle.evaluator.proofs.Laws.{signed_is, signed-valid}
 use Rattle.constraints.specs.Rows.{is_bare, has_floor}
 use Rattle.rows.specs.Counts.{RowOf, opposed}
 use Rattle.rows.proofs.Counting.{zeros_of, of-negated, of-kept}
 use Rattle.gatherer.specs.Cycle.{gather_in, Model, Does, Gathers}
-use Rattle.matrix.specs.declared.sides.Ends.{Ends}
-use Rattle.matrix.specs.declared.sides.Ends.TheVariants as ends
 use Rattle.matrix.specs.Sides.Answers.{LeftAt, FormAt, EndsAt, ends_of, EndsFound, EndsAre, fact_with, as_is, Holds, GathersTo, Turns, Rowed, RightIs}
 use Rattle.constraints.proofs.SideLaws.{form-side}
 use Rattle.matrix.proofs.sides.EndLaws.{with_floor, form-ends}
@@ -55,14 +50,14 @@ unfolding mantissa_limit scale_limit
 one-valid = record { small = omega arith; places = omega arith; least = λ h. absurd (omega arith) }
 
 module _ (ns ts ds : List ℕ) (given : ℕ) (xs : List ℕ) (total level : ℕ) (sc : Scope) where
-  module _ (at : ℕ) (m m₀ : List ℤ) (e : m₀ ≡ replicate (length m) (pos 0)) (z : Move) (m' : List ℤ) (h : Gathers (gather_in nesting_limit) ns ts ds given xs total level sc at one_value false m₀ z m') (s : length m' ≡ length m₀) where
+  module _ (at : ℕ) (m m₀ : List ℤ) (e : m₀ ≡ replicate (length m) (pos 0)) (z : Result ℕ Refused) (m' : List ℤ) (h : Gathers (gather_in nesting_limit) ns ts ds given xs total level sc at one_value false m₀ z m') (s : length m' ≡ length m₀) where
     same_size : length m' ≡ length m
     same_size = s ∙ ap (λ (l : List ℤ). length l) e ∙ length-replicate (length m) (pos 0)
 
     zeros : (w : Model ns ts ds given xs total) → length m ≡ total → RowOf w.variables m₀ (replicate (length w.variables) zero_value)
     zeros w f = subst (λ l. RowOf w.variables l (replicate (length w.variables) zero_value)) (sym (e ∙ ap (λ n. replicate n (pos 0)) (f ∙ w.held.count))) (zeros_of w.variables)
 
-    does : (y : Move) → z ≡ y → (w : Model ns ts ds given xs total) → Small sc → length m ≡ total → (x : Linear) (a : FormAt w level at x)
+    does : (y : Result ℕ Refused) → z ≡ y → (w : Model ns ts ds given xs total) → Small sc → length m ≡ total → (x : Linear) (a : FormAt w level at x)
         → Does w.world.text ts w.variables (as_read (gathered w.variables x.form (under w.world sc)) a.rest) y m'
     unfolding gather_in gathered
     does y o w g f x a =
@@ -71,7 +66,7 @@ module _ (ns ts ds : List ℕ) (given : ℕ) (xs : List ℕ) (total level : ℕ)
         (gathered-walk w.variables (seen_by w.world level) nesting_limit (tokens_at w.world at) x a.rest a.reads (under w.world sc) one_value false (replicate (length w.variables) zero_value))
         (h.does w g one-valid (replicate (length w.variables) zero_value) (zeros w f)))
 
-    pub gather-done : (a : ℕ) → z ≡ move.At a → GathersTo as_is ns ts ds given xs total level sc at m passed.Inside m'
+    pub gather-done : (a : ℕ) → z ≡ Ok a → GathersTo as_is ns ts ds given xs total level sc at m (Ok tt) m'
     gather-done a o =
         record {
           size = same_size;
@@ -84,25 +79,30 @@ module _ (ns ts ds : List ℕ) (given : ℕ) (xs : List ℕ) (total level : ℕ)
               };
         }
 
-    pub gather-refused : (r : Refusal) (p : ℕ) → z ≡ move.Refused r p → GathersTo as_is ns ts ds given xs total level sc at m (passed.Refused r p) m'
-    gather-refused r p o =
+    pub gather-refused : (e : Refused) → z ≡ Err e → GathersTo as_is ns ts ds given xs total level sc at m (Err e) m'
+    gather-refused z o =
         record { size = same_size; is = λ w g f x b. sym (what-as (gathered w.variables x.form (under w.world sc)) b.rest) ∙ ap what_of (does _ o w g f x b) }
 
   -- ---- an objective
 
-  pub objective-row : (at : ℕ) (b : Bool) (m m₁ m₂ : List ℤ) (y : Passed) → GathersTo as_is ns ts ds given xs total level sc at m y m₁ → Turns b m₁ m₂
-      → GathersTo (map (signed b)) ns ts ds given xs total level sc at m y m₂
-  objective-row at b m m₁ m₂ y h t = record { size = t.size ∙ h.size; is = λ w g f x a. go w.variables (gathered w.variables x.form (under w.world sc)) y (h.is w g f x a) }
-    where
-      go : (vs : List Variable) (o : Outcome Row) (y : Passed) → Holds vs as_is o y m₁ → Holds vs (map (signed b)) o y m₂
-      go vs o passed.Inside e = record { coefficients = e.coefficients; is = e.is; counts = t.of vs e.coefficients e.counts }
-      go vs o (passed.Refused r p) e = e
+  module _ (at : ℕ) (b : Bool) (m m₁ : List ℤ) (y : Result Unit Refused) (h : GathersTo as_is ns ts ds given xs total level sc at m y m₁) where
+    pub objective-refused : (e : Refused) → y ≡ Err e → GathersTo (map (signed b)) ns ts ds given xs total level sc at m (Err e) m₁
+    objective-refused z e = record { size = h.size; is = λ w g f x a. subst (λ y. Holds w.variables as_is (gathered w.variables x.form (under w.world sc)) y m₁) e (h.is w g f x a) }
+
+    pub objective-row : y ≡ Ok tt → (m₂ : List ℤ) → Turns b m₁ m₂ → GathersTo (map (signed b)) ns ts ds given xs total level sc at m (Ok tt) m₂
+    objective-row e m₂ t =
+        record {
+          size = t.size ∙ h.size;
+          is = λ w g f x a.
+              let o = subst (λ y. Holds w.variables as_is (gathered w.variables x.form (under w.world sc)) y m₁) e (h.is w g f x a) in
+              record { coefficients = o.coefficients; is = o.is; counts = t.of w.variables o.coefficients o.counts };
+        }
 
   -- ---- a constraint's row
 
-  module _ (left at : ℕ) (b floor : Bool) (m m₁ : List ℤ) (y : Passed) (h : GathersTo as_is ns ts ds given xs total level sc left m y m₁) where
+  module _ (left at : ℕ) (b floor : Bool) (m m₁ : List ℤ) (y : Result Unit Refused) (h : GathersTo as_is ns ts ds given xs total level sc left m y m₁) where
     -- by the form's row
-    by_form : (z : Passed) → y ≡ z → (q : Ends) (m₂ : List ℤ) → length m₂ ≡ length m₁
+    by_form : (z : Result Unit Refused) → y ≡ z → (q : Result (Value × ℕ) Refused) (m₂ : List ℤ) → length m₂ ≡ length m₁
         → ((w : Model ns ts ds given xs total) → Small sc → (f : Form) → Holds w.variables as_is (gathered w.variables f (under w.world sc)) z m₁ → (g : Formula) (e : Relation) → flips e ≡ b
         → has_floor e ≡ floor → EndsAt w.world level at g e → Rowed w.variables (fact_with w.variables (form f) e g (under w.world sc)) q m₂)
         → RightIs b floor ns ts ds given xs total level sc left at m q m₂
@@ -117,20 +117,20 @@ module _ (ns ts ds : List ℕ) (given : ℕ) (xs : List ℕ) (total level : ℕ)
             (subst (λ z. Holds w.variables as_is (gathered w.variables a.linear.form (under w.world sc)) z m₁) e (h.is w s f a.linear a.stands)))
             g o t r u
 
-    pub row-form : (r : Refusal) (p : ℕ) → y ≡ passed.Refused r p → RightIs b floor ns ts ds given xs total level sc left at m (ends.Refused r p) m₁
+    pub row-form : (e : Refused) → y ≡ Err e → RightIs b floor ns ts ds given xs total level sc left at m (Err e) m₁
     unfolding fact_with fact_of
-    row-form r p e = by_form _ e (ends.Refused r p) m₁ refl (λ w s f c g o t n u. rw c refl)
+    row-form z e = by_form _ e (Err z) m₁ refl (λ w s f c g o t n u. rw c refl)
 
-    module _ (e : y ≡ passed.Inside) (m₂ : List ℤ) (t : Turns b m₁ m₂) (v : Ends) (f : EndsAre floor ns ts ds given level sc at v) where
-      pub row-side : (r : Refusal) (p : ℕ) → v ≡ ends.Refused r p → RightIs b floor ns ts ds given xs total level sc left at m (ends.Refused r p) m₂
-      row-side r p i =
-          by_form _ e (ends.Refused r p) m₂ t.size λ w s x c g o n l u.
+    module _ (e : y ≡ Ok tt) (m₂ : List ℤ) (t : Turns b m₁ m₂) (v : Result (Value × ℕ) Refused) (f : EndsAre floor ns ts ds given level sc at v) where
+      pub row-side : (e : Refused) → v ≡ Err e → RightIs b floor ns ts ds given xs total level sc left at m (Err e) m₂
+      row-side z i =
+          by_form _ e (Err z) m₂ t.size λ w s x c g o n l u.
           form-ends w.variables o g (under w.world sc) x c.coefficients c.is
           ∙ ap (with_floor _) (subst (EndsFound (ends_of g o (under w.world sc))) i (f.is w.world s g o l u))
 
-      pub row-value : (x : Value) (word : ℕ) → v ≡ ends.At x word → (q : Value) → q ≡ signed_value b x → RightIs b floor ns ts ds given xs total level sc left at m (ends.At q word) m₂
+      pub row-value : (x : Value) (word : ℕ) → v ≡ Ok (x, word) → (q : Value) → q ≡ signed_value b x → RightIs b floor ns ts ds given xs total level sc left at m (Ok (q, word)) m₂
       row-value x word i q j =
-          by_form _ e (ends.At q word) m₂ t.size λ w s z c g o n l u.
+          by_form _ e (Ok (q, word)) m₂ t.size λ w s z c g o n l u.
           let r = subst (EndsFound (ends_of g o (under w.world sc))) i (f.is w.world s g o l u) in
           record {
             coefficients = map (signed b) c.coefficients;

@@ -1,6 +1,7 @@
 -- What each function answers: for every text, names, data and variables that the tables hold, what one element of a constraint
 -- becomes, and the objective's row. `level`: how many names are visible.
-use Rattle.std.specs.Prelude.{◌≡◌, Bool, true, false, List, map, ℕ, ◌<◌, length, ℤ, Option}
+use Rattle.std.specs.Prelude.{Err, Ok, Result, ◌≡◌, Bool, true, false, List, map, ℕ, ◌<◌, length, ℤ, Option}
+use Rattle.rules.specs.declared.Refused.{Refused}
 use Rattle.rules.specs.Limits.{nesting_limit}
 use Rattle.value.specs.declared.Value.{Value}
 use Rattle.value.specs.Decimal.{Valid}
@@ -16,20 +17,13 @@ use Rattle.language.specs.Valid.{ValidIfAny}
 use Rattle.tokens.specs.Stored.{Stands}
 use Rattle.evaluator.specs.declared.steps.scope.Scope.{Scope}
 use Rattle.evaluator.specs.Steps.Scopes.{Small}
-use Rattle.evaluator.specs.declared.Passed.{Passed}
-use Rattle.evaluator.specs.declared.Passed.TheVariants as passed
 use Rattle.evaluator.specs.Tables.{World}
 use Rattle.evaluator.specs.Cycle.{seen_by, under}
 use Rattle.constraints.specs.Rows.{SideAt, is_bare, has_floor, FloorAt}
 use Rattle.rows.specs.Slots.{floor_word}
 use Rattle.rows.specs.Counts.{RowOf}
-use Rattle.gatherer.specs.declared.Numbered.{Numbered}
-use Rattle.gatherer.specs.declared.Numbered.TheVariants as numbered
 use Rattle.gatherer.specs.Cycle.{Model, number_outcome}
 use Rattle.matrix.specs.declared.sides.Bounded.{Bounded}
-use Rattle.matrix.specs.declared.sides.Bounded.TheVariants as bounded
-use Rattle.matrix.specs.declared.sides.Ends.{Ends}
-use Rattle.matrix.specs.declared.sides.Ends.TheVariants as ends
 
 -- ---- what stands at a position, read with the first `level` names
 
@@ -62,19 +56,19 @@ pub record EndsHeld (o : Outcome (Value × Option Value)) (v : Value) (word : �
   pub valid : Valid v
   pub valid_floor : ValidIfAny floor
 
-abbrev pub EndsFound : Outcome (Value × Option Value) → Ends → Type 0
-EndsFound o (ends.At v w) = EndsHeld o v w
-EndsFound o (ends.Refused r p) = o ≡ refused r p
+abbrev pub EndsFound : Outcome (Value × Option Value) → Result (Value × ℕ) Refused → Type 0
+EndsFound o (Ok (v, w)) = EndsHeld o v w
+EndsFound o (Err e) = o ≡ refused e.refusal e.place
 
-pub record EndsAre (b : Bool) (ns ts ds : List ℕ) (given level : ℕ) (sc : Scope) (at : ℕ) (r : Ends) : Type 0 where
+pub record EndsAre (b : Bool) (ns ts ds : List ℕ) (given level : ℕ) (sc : Scope) (at : ℕ) (r : Result (Value × ℕ) Refused) : Type 0 where
   pub is : (w : World ns ts ds given) → Small sc → (g : Formula) (e : Relation) → has_floor e ≡ b → EndsAt w level at g e → EndsFound (ends_of g e (under w sc)) r
 
 -- ---- bounds
 
-pub record NumberOf (ns ts ds : List ℕ) (given : ℕ) (xs : List ℕ) (total level : ℕ) (sc : Scope) (at : ℕ) (r : Numbered) : Type 0 where
+pub record NumberOf (ns ts ds : List ℕ) (given : ℕ) (xs : List ℕ) (total level : ℕ) (sc : Scope) (at : ℕ) (r : Result (ℕ × ℕ) Refused) : Type 0 where
   pub is : (w : Model ns ts ds given xs total) → Small sc → (i : ℕ) (d : Spans) (fs : Formulas) (p : ℕ) → LeftAt w level at (bare i d fs p)
       → variable_at w.variables i d fs p (under w.world sc) ≡ what_of (number_outcome w.world.text ts r)
-  pub below : Model ns ts ds given xs total → (j a : ℕ) → r ≡ numbered.Number j a → j < total
+  pub below : Model ns ts ds given xs total → (j a : ℕ) → r ≡ Ok (j, a) → j < total
 
 -- what a constraint becomes, and its floor
 unfoldable pub fact_with : List Variable → Side → Relation → Formula → Evaluated.Scope → Outcome (Fact × Option Value)
@@ -92,12 +86,12 @@ pub record BoundHeld (total : ℕ) (o : Outcome (Fact × Option Value)) (j : ℕ
   pub valid : Valid v
   pub valid_floor : ValidIfAny floor
 
-abbrev pub BoundFound : ℕ → Outcome (Fact × Option Value) → Bounded → Type 0
-BoundFound total o (bounded.At j v w) = BoundHeld total o j v w
-BoundFound total o (bounded.Refused r p) = o ≡ refused r p
+abbrev pub BoundFound : ℕ → Outcome (Fact × Option Value) → Result Bounded Refused → Type 0
+BoundFound total o (Ok x) = BoundHeld total o x.variable x.right x.floor
+BoundFound total o (Err e) = o ≡ refused e.refusal e.place
 
 -- the bound of a side that states one, under a relation that has a floor or not
-pub record BoundIs (b : Bool) (ns ts ds : List ℕ) (given : ℕ) (xs : List ℕ) (total level : ℕ) (sc : Scope) (left right : ℕ) (r : Bounded) : Type 0 where
+pub record BoundIs (b : Bool) (ns ts ds : List ℕ) (given : ℕ) (xs : List ℕ) (total level : ℕ) (sc : Scope) (left right : ℕ) (r : Result Bounded Refused) : Type 0 where
   pub is : (w : Model ns ts ds given xs total) → Small sc → (l : Side) → is_bare l ≡ true → LeftAt w level left l → (g : Formula) (e : Relation) → has_floor e ≡ b
       → EndsAt w.world level right g e → BoundFound total (fact_with w.variables l e g (under w.world sc)) r
 
@@ -112,12 +106,12 @@ pub record Held (vs : List Variable) (F : Row → Row) (o : Outcome Row) (m : Li
   pub is : o ≡ done coefficients
   pub counts : RowOf vs m (F coefficients)
 
-abbrev pub Holds : List Variable → (Row → Row) → Outcome Row → Passed → List ℤ → Type 0
-Holds vs F o passed.Inside m = Held vs F o m
-Holds vs F o (passed.Refused r p) m = o ≡ refused r p
+abbrev pub Holds : List Variable → (Row → Row) → Outcome Row → Result Unit Refused → List ℤ → Type 0
+Holds vs F o (Ok tt) m = Held vs F o m
+Holds vs F o (Err e) m = o ≡ refused e.refusal e.place
 
 -- the row of the linear form at a position, whatever the counts m were, one for each variable
-pub record GathersTo (F : Row → Row) (ns ts ds : List ℕ) (given : ℕ) (xs : List ℕ) (total level : ℕ) (sc : Scope) (at : ℕ) (m : List ℤ) (r : Passed) (m' : List ℤ) : Type 0 where
+pub record GathersTo (F : Row → Row) (ns ts ds : List ℕ) (given : ℕ) (xs : List ℕ) (total level : ℕ) (sc : Scope) (at : ℕ) (m : List ℤ) (r : Result Unit Refused) (m' : List ℤ) : Type 0 where
   pub size : length m' ≡ length m
   pub is : (w : Model ns ts ds given xs total) → Small sc → length m ≡ total → (x : Linear) → FormAt w level at x
       → Holds w.variables F (gathered w.variables x.form (under w.world sc)) r m'
@@ -137,12 +131,12 @@ pub record RowOn (vs : List Variable) (o : Outcome (Fact × Option Value)) (v : 
   pub valid : Valid v
   pub valid_floor : ValidIfAny floor
 
-abbrev pub Rowed : List Variable → Outcome (Fact × Option Value) → Ends → List ℤ → Type 0
-Rowed vs o (ends.At v w) m = RowOn vs o v w m
-Rowed vs o (ends.Refused r p) m = o ≡ refused r p
+abbrev pub Rowed : List Variable → Outcome (Fact × Option Value) → Result (Value × ℕ) Refused → List ℤ → Type 0
+Rowed vs o (Ok (v, w)) m = RowOn vs o v w m
+Rowed vs o (Err e) m = o ≡ refused e.refusal e.place
 
 -- the row of a side that states none, under a relation that flips both sides or not, and has a floor or not
-pub record RightIs (b q : Bool) (ns ts ds : List ℕ) (given : ℕ) (xs : List ℕ) (total level : ℕ) (sc : Scope) (left right : ℕ) (m : List ℤ) (r : Ends) (m' : List ℤ) : Type 0 where
+pub record RightIs (b q : Bool) (ns ts ds : List ℕ) (given : ℕ) (xs : List ℕ) (total level : ℕ) (sc : Scope) (left right : ℕ) (m : List ℤ) (r : Result (Value × ℕ) Refused) (m' : List ℤ) : Type 0 where
   pub size : length m' ≡ length m
   pub is : (w : Model ns ts ds given xs total) → Small sc → length m ≡ total → (l : Side) → is_bare l ≡ false → LeftAt w level left l → (g : Formula) (e : Relation) → flips e ≡ b → has_floor e ≡ q
       → EndsAt w.world level right g e → Rowed w.variables (fact_with w.variables l e g (under w.world sc)) r m'

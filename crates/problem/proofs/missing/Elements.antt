@@ -1,5 +1,7 @@
 -- Laws for one name: a value at an element, and the loop over the elements of a declared domain.
-use Rattle.std.specs.Prelude.{Option, Some, None}
+use Rattle.std.specs.Prelude.{Err, Ok, Result, Option, Some, None}
+use Rattle.std.specs.Option.{is_some}
+use Rattle.rules.specs.declared.Refused.{Refused}
 use mathlib.Core.Path.{◌≡◌, refl, sym, ◌∙◌, ap, subst}
 use mathlib.Core.Bool.{Bool, true, false, not}
 use mathlib.Core.List.{List, map}
@@ -7,7 +9,6 @@ use Prim.Native.Nat.{ℕ, ◌<◌}
 use native.Mathlib.Omega.{arith}
 use lib.ListN.{length}
 use lib.IntN.{ℤ}
-use Rattle.rules.specs.declared.Refusal.{Refusal}
 use Rattle.rules.specs.declared.Refusal.TheVariants.{Missing}
 use Rattle.rules.specs.Limits.{name_limit}
 use Rattle.language.specs.Outcome.{refused, check}
@@ -24,12 +25,9 @@ use Rattle.store.proofs.Halving.{finds-row}
 use Rattle.evaluator.specs.declared.steps.scope.Scope.{Scope as HeldScope}
 use Rattle.evaluator.specs.Steps.Scopes.{scope_of}
 use Rattle.evaluator.specs.Steps.Names.{row_word}
-use Rattle.evaluator.specs.declared.Passed.TheVariants as passed
 use Rattle.evaluator.specs.Tables.{value_in, World}
 use Rattle.evaluator.specs.Cycle.{under}
 use Rattle.elements.specs.declared.here.Here.{Here}
-use Rattle.elements.specs.declared.Step.{Step}
-use Rattle.elements.specs.declared.Step.TheVariants.{At, Done, Refused}
 use Rattle.elements.specs.Held.{held, number_of, scope_at}
 use Rattle.elements.specs.Steps.{FirstIs, NextIs}
 use Rattle.elements.proofs.Numbers.{not-true, not-false}
@@ -40,13 +38,20 @@ use Rattle.problem.specs.Missing.Given.{IsGiven, Declares, DomainGiven, Asking}
 -- ---- a value at an element
 
 module _ (ds : List ℕ) (n i : ℕ) (l : List ℤ) (k : Key) (r : Option ℕ) (e : key_number k ≡ key_of i l) (f : r ≡ found_row ds n (key_number k)) where
-  pub given-found : (j : ℕ) → r ≡ Some j → IsGiven ds n i l true
+  given-found : (j : ℕ) → r ≡ Some j → IsGiven ds n i l true
   unfolding lookup word_in
   given-found j p = record { is = λ s. rw (ap (row_of ds n) (sym e) ∙ sym ((finds-row ds n (key_number k) r f).is_row s) ∙ p) }
 
-  pub given_nothing : r ≡ None → IsGiven ds n i l false
+  given_nothing : r ≡ None → IsGiven ds n i l false
   unfolding lookup word_in
   given_nothing p = record { is = λ s. rw (ap (row_of ds n) (sym e) ∙ sym ((finds-row ds n (key_number k) r f).is_row s) ∙ p) }
+
+  pub given-is : (b : Bool) → b ≡ is_some r → IsGiven ds n i l b
+  given-is b p = go r refl
+    where
+      go : (o : Option ℕ) → r ≡ o → IsGiven ds n i l b
+      go (Some j) q = subst (IsGiven ds n i l) (sym (p ∙ ap is_some q)) (given-found j q)
+      go None q = subst (IsGiven ds n i l) (sym (p ∙ ap is_some q)) (given_nothing q)
 
 none_in : (o : Option ℕ) → is_none (value_in o) ≡ is_none o
 none_in None = refl
@@ -67,34 +72,49 @@ module _ {ns ts ds : List ℕ} {given : ℕ} (w : World ns ts ds given) (i : ℕ
 -- ---- the loop
 
 module _ (ns ts ds : List ℕ) (given i : ℕ) where
-  pub asking-first : (count at : ℕ) (x : Step) → count ≡ row_word ns i 3 → at ≡ row_word ns i 4 → FirstIs ns ts ds given i count at x → Asking ns ts ds given i x
-  asking-first count at x p q f = record { left = λ w d D. loop-start w i _ _ _ d D.domain D.count x (rw (p, q) at f) tt }
+  -- from the first element on
+  asking-from : (count at : ℕ) (x : Result (Option Here) Refused) → count ≡ row_word ns i 3 → at ≡ row_word ns i 4 → FirstIs ns ts ds given i count at x → Asking ns ts ds given i x
+  asking-from count at x p q f = record { left = λ w d D. loop-start w i _ _ _ d D.domain D.count x (rw (p, q) at f) tt }
 
-  module _ (x : Step) (a : Asking ns ts ds given i x) where
-    pub asked-all : x ≡ Done → DomainGiven ns ts ds given i passed.Inside
-    asked-all y = let b = subst (Asking ns ts ds given i) y a in record { is = λ w d D. loop-done w i _ _ _ tt _ (b.left w d D) }
+  stopped : (x : Result (Option Here) Refused) → Asking ns ts ds given i x → (e : Refused) → x ≡ Err e → DomainGiven ns ts ds given i (Err e)
+  stopped x a z y = let b = subst (Asking ns ts ds given i) y a in record { is = λ w d D. loop-stopped w i _ _ _ z tt _ (b.left w d D) }
 
-    pub asked-stopped : (c : Refusal) (q : ℕ) → x ≡ Refused c q → DomainGiven ns ts ds given i (passed.Refused c q)
-    asked-stopped c q y = let b = subst (Asking ns ts ds given i) y a in record { is = λ w d D. loop-stopped w i _ _ _ c q tt _ (b.left w d D) }
+  module _ (count at : ℕ) (x : Result (Option Here) Refused) (p : count ≡ row_word ns i 3) (q : at ≡ row_word ns i 4) (f : FirstIs ns ts ds given i count at x) where
+    pub asking-first : (s : Option Here) → x ≡ Ok s → Asking ns ts ds given i (Ok s)
+    asking-first s y = subst (Asking ns ts ds given i) y (asking-from count at x p q f)
+
+    pub asked-none : (e : Refused) → x ≡ Err e → DomainGiven ns ts ds given i (Err e)
+    asked-none = stopped x (asking-from count at x p q f)
+
+  module _ (s : Option Here) (a : Asking ns ts ds given i (Ok s)) where
+    pub asked-all : s ≡ None → DomainGiven ns ts ds given i (Ok tt)
+    asked-all y = let b = subst (λ s. Asking ns ts ds given i (Ok s)) y a in record { is = λ w d D. loop-done w i _ _ _ tt _ (b.left w d D) }
 
     -- at an element
-    module _ (h : Here) (y : x ≡ At h) (e : Element) (q : list_of e ≡ map number_of (held h)) (b : Bool) (g : IsGiven ds given i (list_of e) b) where
-      asking : Asking ns ts ds given i (At h)
-      asking = subst (Asking ns ts ds given i) y a
+    module _ (h : Here) (y : s ≡ Some h) (e : Element) (q : list_of e ≡ map number_of (held h)) (b : Bool) (g : IsGiven ds given i (list_of e) b) where
+      asking : Asking ns ts ds given i (Ok (Some h))
+      asking = subst (λ s. Asking ns ts ds given i (Ok s)) y a
 
       step-at : (w : World ns ts ds given) (d : Spans) → Declares w i d → is_given i (row_word ns i 0) (under w (scope_at h)) (list_of e) tt ≡ check Missing (row_word ns i 0) b
       step-at w d D =
           given-step w i D.named (row_word ns i 0) (scope_at h) (list_of e) b (loop-subscripts w i _ _ _ h tt _ (asking.left w d D) (scope_at h) (scope-held h) e q) g
 
-      pub asking-next : not b ≡ false → (z : Step) → NextIs ns ts ds given i h z → Asking ns ts ds given i z
-      asking-next n z f = record {
-        left = λ w d D.
-            loop-more w i _ _ _ h tt _ (asking.left w d D) (scope_at h) (scope-held h) e q tt z (step-at w d D ∙ ap (check Missing (row_word ns i 0)) (not-false b n)) f;
-      }
-
-      pub asked-missing : not b ≡ true → (p : ℕ) → p ≡ row_word ns i 0 → DomainGiven ns ts ds given i (passed.Refused Missing p)
+      pub asked-missing : not b ≡ true → (p : ℕ) → p ≡ row_word ns i 0 → DomainGiven ns ts ds given i (Err (record { refusal = Missing; place = p }))
       asked-missing n p o = record {
         is = λ w d D.
             loop-refused w i _ _ _ h tt _ (asking.left w d D) (scope_at h) (scope-held h) e q Missing p
             (step-at w d D ∙ ap (check Missing (row_word ns i 0)) (not-true b n) ∙ ap (refused Missing) (sym o));
       }
+
+      module _ (n : not b ≡ false) (z : Result (Option Here) Refused) (f : NextIs ns ts ds given i h z) where
+        asking-on : Asking ns ts ds given i z
+        asking-on = record {
+          left = λ w d D.
+              loop-more w i _ _ _ h tt _ (asking.left w d D) (scope_at h) (scope-held h) e q tt z (step-at w d D ∙ ap (check Missing (row_word ns i 0)) (not-false b n)) f;
+        }
+
+        pub asking-next : (s' : Option Here) → z ≡ Ok s' → Asking ns ts ds given i (Ok s')
+        asking-next s' v = subst (Asking ns ts ds given i) v asking-on
+
+        pub asked-stopped : (e : Refused) → z ≡ Err e → DomainGiven ns ts ds given i (Err e)
+        asked-stopped = stopped z asking-on

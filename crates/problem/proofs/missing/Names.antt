@@ -1,4 +1,6 @@
 -- Laws for the loop over the names: by the sort of a name, and name after name.
+use Rattle.std.specs.Prelude.{Err, Ok, Result}
+use Rattle.rules.specs.declared.Refused.{Refused}
 use mathlib.Core.Path.{◌≡◌, refl, sym, ◌∙◌, ap, subst}
 use mathlib.Core.Bool.{true, false, ◌||◌}
 use mathlib.Core.List.{List}
@@ -7,7 +9,6 @@ use native.Mathlib.Omega.{arith}
 use native.Mathlib.Numerals.{add-one}
 use lib.Dec.{eqb}
 use lib.ListN.{length, drop, drop_of_length-le}
-use Rattle.rules.specs.declared.Refusal.{Refusal}
 use Rattle.language.specs.Outcome.{◌>>=◌}
 use Rattle.language.specs.Syntax.{Sort}
 use Rattle.language.specs.Syntax
@@ -16,8 +17,6 @@ use Rattle.tokens.specs.Stored.{Shaped}
 use Rattle.tokens.proofs.Tables.{false-true, named-length}
 use Rattle.evaluator.specs.Steps.Names.{row_word}
 use Rattle.evaluator.proofs.steps.Numbers.{row-shaped}
-use Rattle.evaluator.specs.declared.Passed.{Passed}
-use Rattle.evaluator.specs.declared.Passed.TheVariants as passed
 use Rattle.evaluator.specs.Tables.{Stands, World}
 use Rattle.evaluator.specs.Cycle.{passed_outcome, seen_by, nothing_bound}
 use Rattle.evaluator.proofs.Names.{below_length, Split, split}
@@ -27,7 +26,7 @@ use Rattle.problem.specs.Missing.Given.{DomainGiven, NameGiven, AllGiven, GivenT
 -- ---- one name
 
 module _ (ns ts ds : List ℕ) (given i k : ℕ) (e : k ≡ row_word ns i 2) where
-  pub name-data : (r : Passed) → (eqb k 1 || eqb k 2) ≡ true → DomainGiven ns ts ds given i r → NameGiven ns ts ds given i r
+  pub name-data : (r : Result Unit Refused) → (eqb k 1 || eqb k 2) ≡ true → DomainGiven ns ts ds given i r → NameGiven ns ts ds given i r
   unfolding given_by
   name-data r t f = record {
     is = λ w p x h. rw (p.at i x h) (go w x.sort (below_length w.names i x h) (row-shaped w.text ns w.names i x w.tables.named h) (w.tables.declared i x h));
@@ -45,14 +44,14 @@ module _ (ns ts ds : List ℕ) (given i k : ℕ) (e : k ≡ row_word ns i 2) whe
       go w (Syntax.discrete d) h s a = wrong 4 s.0 refl
       go w (Syntax.continuous d) h s a = wrong 5 s.0 refl
 
-  pub name-other : (eqb k 1 || eqb k 2) ≡ false → NameGiven ns ts ds given i passed.Inside
+  pub name-other : (eqb k 1 || eqb k 2) ≡ false → NameGiven ns ts ds given i (Ok tt)
   unfolding given_by
   name-other t = record { is = λ w p x h. go w x.place x.sort (row-shaped w.text ns w.names i x w.tables.named h) }
     where
       wrong : {A : Type 0} (j : ℕ) → row_word ns i 2 ≡ j → (eqb j 1 || eqb j 2) ≡ true → A
       wrong j a b = absurd (false-true (sym (subst (λ k. (eqb k 1 || eqb k 2) ≡ false) (e ∙ a) t) ∙ b))
 
-      go : (w : World ns ts ds given) (p : ℕ) (y : Sort) → Shaped y (row_word ns i 2) (row_word ns i 3) → given_by i p y (nothing_bound w) ≡ passed_outcome passed.Inside
+      go : (w : World ns ts ds given) (p : ℕ) (y : Sort) → Shaped y (row_word ns i 2) (row_word ns i 3) → given_by i p y (nothing_bound w) ≡ passed_outcome (Ok tt)
       go w p Syntax.index s = refl
       go w p (Syntax.integer d) s = wrong 1 s.0 refl
       go w p (Syntax.real d) s = wrong 2 s.0 refl
@@ -67,11 +66,11 @@ module _ (ns ts ds : List ℕ) (given : ℕ) where
   given-none = record { left = λ w p. refl }
 
   module _ (i : ℕ) (g : GivenTo ns ts ds given i) where
-    pub given-all : length ns / 5 ≤ i → AllGiven ns ts ds given passed.Inside
+    pub given-all : length ns / 5 ≤ i → AllGiven ns ts ds given (Ok tt)
     unfolding all_given
     given-all h = record { is = λ w p. g.left w p ∙ rw (drop_of_length-le w.names {i = i} (omega (arith, named-length w.text ns w.names w.tables.named))) }
 
-    module _ (h : i < length ns / 5) (r : Passed) (n : NameGiven ns ts ds given i r) where
+    module _ (h : i < length ns / 5) (r : Result Unit Refused) (n : NameGiven ns ts ds given i r) where
       here : (w : World ns ts ds given) → Split w.names i
       here w = split w.names i (omega (arith, named-length w.text ns w.names w.tables.named))
 
@@ -82,8 +81,8 @@ module _ (ns ts ds : List ℕ) (given : ℕ) where
           let x = here w in
           g.left w p ∙ ap (λ l. all_given i l (nothing_bound w)) x.behind ∙ ap (λ o. o >>= λ u. all_given (suc i) (drop (suc i) w.names) (nothing_bound w)) (n.is w p x.name x.here)
 
-      pub given-more : r ≡ passed.Inside → GivenTo ns ts ds given (i + 1)
+      pub given-more : r ≡ Ok tt → GivenTo ns ts ds given (i + 1)
       given-more e = record { left = λ w p. by_name w p ∙ rw (e, add-one) refl }
 
-      pub given-refused : (c : Refusal) (q : ℕ) → r ≡ passed.Refused c q → AllGiven ns ts ds given (passed.Refused c q)
-      given-refused c q e = record { is = λ w p. by_name w p ∙ rw e }
+      pub given-refused : (e : Refused) → r ≡ Err e → AllGiven ns ts ds given (Err e)
+      given-refused z e = record { is = λ w p. by_name w p ∙ rw e }

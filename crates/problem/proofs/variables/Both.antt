@@ -1,11 +1,11 @@
 -- The discrete names, then the continuous ones: each sort is picked by its number, and both loops make the whole.
-use Rattle.std.specs.Prelude.{None}
+use Rattle.std.specs.Prelude.{Err, Ok, Result, None}
+use Rattle.rules.specs.declared.Refused.{Refused}
 use mathlib.Core.Path.{◌≡◌, refl, ◌∙◌, ap, subst}
 use mathlib.Core.List.{List, []}
 use Prim.Native.Nat.{ℕ}
 use native.Mathlib.Omega.{arith}
 use lib.ListN.{length}
-use Rattle.rules.specs.declared.Refusal.{Refusal}
 use Rattle.rules.specs.Limits.{variable_limit}
 use Rattle.language.specs.Outcome.{refused, ◌>>=◌}
 use Rattle.language.specs.Syntax.{Sort}
@@ -16,9 +16,6 @@ use Rattle.store.proofs.Held.{numbered-none}
 use Rattle.evaluator.specs.Tables.{World}
 use Rattle.evaluator.proofs.Names.{below_length}
 use Rattle.elements.specs.Placed.{Placed}
-use Rattle.problem.specs.declared.variables.Added.{Added}
-use Rattle.problem.specs.declared.variables.Added.TheVariants as added
-use Rattle.problem.specs.declared.variables.Counted.TheVariants as counted
 use Rattle.problem.specs.Variables.Order.{InOrder}
 use Rattle.problem.specs.Variables.Numbers.{Adds, Answers, Taken, Picks, Above, AddsSort, discrete_ones, continuous_ones, Counts, NumbersAs}
 
@@ -66,19 +63,19 @@ picks-continuous = record { takes = takes; leaves = leaves }
 
 -- ---- both
 
-module _ (ns ts ds : List ℕ) (given : ℕ) (t t₁ : List ℕ) (x : Added) (m : AddsSort ns ts ds given 4 0 t x t₁) where
+module _ (ns ts ds : List ℕ) (given : ℕ) (t t₁ : List ℕ) (x : Result ℕ Refused) (m : AddsSort ns ts ds given 4 0 t x t₁) where
   first : (w : World ns ts ds given) → Placed ns w.names → Answers (discrete_ones w) (Above as_discrete w.names) [] x t₁
   unfolding variable_limit
   first w p = m.is w as_discrete [] p picks-discrete (record { rows = numbered-none t; few = omega arith }) (λ j y e _ _ _. tt)
 
-  pub number-refused : (c : Refusal) (p : ℕ) → x ≡ added.Refused c p → NumbersAs ns ts ds given (counted.Refused c p) t₁
-  number-refused c p e = record {
+  pub number-refused : (e : Refused) → x ≡ Err e → NumbersAs ns ts ds given (Err e) t₁
+  number-refused u e = record {
     is = λ w q o.
-        let z : discrete_ones w ≡ refused c p = subst (λ y. Answers (discrete_ones w) (Above as_discrete w.names) [] y t₁) e (first w q) in
+        let z : discrete_ones w ≡ refused u.refusal u.place = subst (λ y. Answers (discrete_ones w) (Above as_discrete w.names) [] y t₁) e (first w q) in
         ap (λ y. y >>= λ vs. continuous_ones w vs) z;
   }
 
-  module _ (a : ℕ) (e : x ≡ added.Rows a) (t₂ : List ℕ) (y : Added) (n : AddsSort ns ts ds given 5 a t₁ y t₂) where
+  module _ (a : ℕ) (e : x ≡ Ok a) (t₂ : List ℕ) (y : Result ℕ Refused) (n : AddsSort ns ts ds given 5 a t₁ y t₂) where
     module _ (w : World ns ts ds given) (p : Placed ns w.names) (o : InOrder w.names) where
       discretes : Adds (discrete_ones w) (Above as_discrete w.names) [] a t₁
       discretes = subst (λ z. Answers (discrete_ones w) (Above as_discrete w.names) [] z t₁) e (first w p)
@@ -87,15 +84,15 @@ module _ (ns ts ds : List ℕ) (given : ℕ) (t t₁ : List ℕ) (x : Added) (m 
       second = n.is w as_continuous discretes.variables p picks-continuous discretes.held
           (λ j z c _ s q. discretes.below j (λ i x d u v. o.earlier i j x z d c u v s q) tt)
 
-    pub number-later : (c : Refusal) (q : ℕ) → y ≡ added.Refused c q → NumbersAs ns ts ds given (counted.Refused c q) t₂
-    number-later c q u = record {
+    pub number-later : (e : Refused) → y ≡ Err e → NumbersAs ns ts ds given (Err e) t₂
+    number-later e u = record {
       is = λ w p o.
           let vs = (discretes w p o).variables in
-          let z : continuous_ones w vs ≡ refused c q = subst (λ z. Answers (continuous_ones w vs) (Above as_continuous w.names) vs z t₂) u (second w p o) in
+          let z : continuous_ones w vs ≡ refused e.refusal e.place = subst (λ z. Answers (continuous_ones w vs) (Above as_continuous w.names) vs z t₂) u (second w p o) in
           ap (λ z. z >>= λ vs. continuous_ones w vs) (discretes w p o).is ∙ z;
     }
 
-    pub number_of : (k : ℕ) → y ≡ added.Rows k → NumbersAs ns ts ds given (counted.Of a k) t₂
+    pub number_of : (k : ℕ) → y ≡ Ok k → NumbersAs ns ts ds given (Ok (a, k)) t₂
     number_of k u = record { is = go }
       where
         go : (w : World ns ts ds given) → Placed ns w.names → InOrder w.names → Counts w a k t₂

@@ -1,4 +1,6 @@
 -- Laws of the loop over the elements of one name: it starts, appends a row, is refused or ends.
+use Rattle.std.specs.Prelude.{Err, None, Ok, Option, Result, Some}
+use Rattle.rules.specs.declared.Refused.{Refused}
 use mathlib.Core.Path.{◌≡◌, refl, sym, ◌∙◌, ap, subst, subst₂}
 use mathlib.Core.Bool.{true}
 use mathlib.Core.List.{List, [], ◌∷◌, ◌++◌, map}
@@ -7,7 +9,6 @@ use native.Mathlib.Omega.{arith}
 use borrow.Author.Tests.{lt-ltb, le-ltb}
 use lib.ListN.{length}
 use lib.IntN.{ℤ}
-use Rattle.rules.specs.declared.Refusal.{Refusal}
 use Rattle.rules.specs.declared.Refusal.TheVariants.{Full}
 use Rattle.rules.specs.Limits.{variable_limit}
 use Rattle.language.specs.Outcome.{Outcome, done, refused}
@@ -31,14 +32,11 @@ use Rattle.evaluator.specs.Steps.Names.{row_word}
 use Rattle.evaluator.specs.Tables.{World}
 use Rattle.evaluator.specs.Cycle.{nothing_bound, under}
 use Rattle.elements.specs.declared.here.Here.{Here}
-use Rattle.elements.specs.declared.Step.{Step}
-use Rattle.elements.specs.declared.Step.TheVariants.{At, Done, Refused}
 use Rattle.elements.specs.Held.{held, number_of, scope_at}
 use Rattle.elements.specs.Steps.{FirstIs, NextIs}
 use Rattle.elements.specs.Loops.{Remains}
 use Rattle.elements.proofs.Held.{scope-held}
 use Rattle.elements.proofs.Loops.{loop-start, loop-more, loop-refused, loop-done, loop-stopped, loop-rises, loop-subscripts}
-use Rattle.problem.specs.declared.variables.Added.TheVariants as added
 use Rattle.problem.specs.Variables.Numbers.{Below, Held, Adds, Ranges, declared_at, AddsName}
 
 -- ---- one variable more
@@ -54,10 +52,10 @@ added_more d s e vs h = rw (lt-ltb (length vs) variable_limit h)
 -- ---- keys rise
 
 -- the last row is below any element of the name that r has
-abbrev Under : List ℕ → ℕ → ℕ → Step → Type 0
-Under t n i (At h) = (e : Element) → list_of e ≡ map number_of (held h) → 0 < n → key_at t (n - 1) < key_of i (list_of e)
-Under t n i Done = Unit {0}
-Under t n i (Refused c p) = Unit {0}
+abbrev Under : List ℕ → ℕ → ℕ → Result (Option Here) Refused → Type 0
+Under t n i (Ok (Some h)) = (e : Element) → list_of e ≡ map number_of (held h) → 0 < n → key_at t (n - 1) < key_of i (list_of e)
+Under t n i (Ok None) = Unit {0}
+Under t n i (Err e) = Unit {0}
 
 -- where all variables are of names before
 last-below : (t : List ℕ) (n i : ℕ) (vs : List Variable) (l : List ℤ) → Numbered t n vs → All (Below i) vs → Keyed i l → 0 < n → key_at t (n - 1) < key_of i l
@@ -75,35 +73,35 @@ module _ (ns ts ds : List ℕ) (given i from : ℕ) (t₀ : List ℕ) where
   abbrev step : Spans → Scope → List ℤ → List Variable → Outcome (List Variable)
   step d = add_variable (declared_at ns i d)
 
-  abbrev Left : (w : World ns ts ds given) → Spans → Step → List Variable → Outcome (List Variable) → Type 0
+  abbrev Left : (w : World ns ts ds given) → Spans → Result (Option Here) Refused → List Variable → Outcome (List Variable) → Type 0
   Left w d = Remains w i (row_word ns i 3) (row_word ns i 4) (step d)
 
   abbrev outcome : (w : World ns ts ds given) → Spans → List Variable → Outcome (List Variable)
   outcome w d = over d (nothing_bound w) (step d)
 
   -- at a turn, for a domain d and the variables vs at the start
-  record OnAt (w : World ns ts ds given) (d : Spans) (vs : List Variable) (t : List ℕ) (n : ℕ) (r : Step) : Type 0 where
+  record OnAt (w : World ns ts ds given) (d : Spans) (vs : List Variable) (t : List ℕ) (n : ℕ) (r : Result (Option Here) Refused) : Type 0 where
     variables : List Variable
     remains : Left w d r variables (outcome w d vs)
     held : Held t n variables
     below : (k : ℕ) → i < k → All (Below k) vs → All (Below k) variables
     under : Under t n i r
 
-  pub record NameOn (t : List ℕ) (n : ℕ) (r : Step) : Type 0 where
+  pub record NameOn (t : List ℕ) (n : ℕ) (r : Result (Option Here) Refused) : Type 0 where
     pub size : length t ≡ length t₀
     pub room : 2048 ≤ length t
     on : (w : World ns ts ds given) (d : Spans) (vs : List Variable) → Ranges w i d → Held t₀ from vs → All (Below i) vs → OnAt w d vs t n r
 
   -- an element has a key
   element-keyed : (w : World ns ts ds given) (d : Spans) → Ranges w i d → (h : Here) (vs : List Variable) (o : Outcome (List Variable))
-      → Left w d (At h) vs o → (e : Element) → list_of e ≡ map number_of (held h) → Keyed i (list_of e)
+      → Left w d (Ok (Some h)) vs o → (e : Element) → list_of e ≡ map number_of (held h) → Keyed i (list_of e)
   element-keyed w d g h vs o m e q = record {
     named = g.named;
     subscripts = loop-subscripts w i (row_word ns i 3) (row_word ns i 4) (step d) h vs o m (scope_at h) (scope-held h) e q;
   }
 
-  pub name-start : (c at : ℕ) (r : Step) → c ≡ row_word ns i 3 → at ≡ row_word ns i 4 → FirstIs ns ts ds given i c at r → 2048 ≤ length t₀ → NameOn t₀ from r
-  name-start c at r p q f l = record { size = refl; room = l; on = go }
+  name-from : (c at : ℕ) (r : Result (Option Here) Refused) → c ≡ row_word ns i 3 → at ≡ row_word ns i 4 → FirstIs ns ts ds given i c at r → 2048 ≤ length t₀ → NameOn t₀ from r
+  name-from c at r p q f l = record { size = refl; room = l; on = go }
     where
       first : FirstIs ns ts ds given i (row_word ns i 3) (row_word ns i 4) r
       first = subst₂ (λ x y. FirstIs ns ts ds given i x y r) p q f
@@ -114,13 +112,31 @@ module _ (ns ts ds : List ℕ) (given i from : ℕ) (t₀ : List ℕ) where
           start : Left w d r vs (outcome w d vs)
           start = loop-start w i (row_word ns i 3) (row_word ns i 4) (step d) d g.stands g.sized r first vs
 
-          lower : (x : Step) → Left w d x vs (outcome w d vs) → Under t₀ from i x
-          lower (At y) m = λ e q l. last-below t₀ from i vs (list_of e) h.rows b (element-keyed w d g y vs (outcome w d vs) m e q) l
-          lower Done m = tt
-          lower (Refused c p) m = tt
+          lower : (x : Result (Option Here) Refused) → Left w d x vs (outcome w d vs) → Under t₀ from i x
+          lower (Ok (Some y)) m = λ e q l. last-below t₀ from i vs (list_of e) h.rows b (element-keyed w d g y vs (outcome w d vs) m e q) l
+          lower (Ok None) m = tt
+          lower (Err e) m = tt
 
-  module _ (t : List ℕ) (n : ℕ) (r : Step) (s : NameOn t n r) where
-    pub name_done : r ≡ Done → AddsName ns ts ds given i from t₀ (added.Rows n) t
+  stopped : (t : List ℕ) (n : ℕ) (r : Result (Option Here) Refused) → NameOn t n r → (e : Refused) → r ≡ Err e → AddsName ns ts ds given i from t₀ (Err e) t
+  stopped t n r s z e = record { size = s.size; is = go }
+    where
+      go : (w : World ns ts ds given) (d : Spans) (vs : List Variable) → Ranges w i d → Held t₀ from vs → All (Below i) vs
+          → outcome w d vs ≡ refused z.refusal z.place
+      go w d vs g h b =
+          let a = s.on w d vs g h b in
+          let o = outcome w d vs in
+          loop-stopped w i (row_word ns i 3) (row_word ns i 4) (step d) z a.variables o
+          (subst (λ x. Left w d x a.variables o) e a.remains)
+
+  module _ (c at : ℕ) (r : Result (Option Here) Refused) (p : c ≡ row_word ns i 3) (q : at ≡ row_word ns i 4) (f : FirstIs ns ts ds given i c at r) (l : 2048 ≤ length t₀) where
+    pub name-start : (x : Option Here) → r ≡ Ok x → NameOn t₀ from (Ok x)
+    name-start x e = subst (NameOn t₀ from) e (name-from c at r p q f l)
+
+    pub name-unstarted : (e : Refused) → r ≡ Err e → AddsName ns ts ds given i from t₀ (Err e) t₀
+    name-unstarted = stopped t₀ from r (name-from c at r p q f l)
+
+  module _ (t : List ℕ) (n : ℕ) (y : Option Here) (s : NameOn t n (Ok y)) where
+    pub name_done : y ≡ None → AddsName ns ts ds given i from t₀ (Ok n) t
     name_done e = record { size = s.size; is = go }
       where
         go : (w : World ns ts ds given) (d : Spans) (vs : List Variable) → Ranges w i d → Held t₀ from vs → All (Below i) vs
@@ -130,28 +146,17 @@ module _ (ns ts ds : List ℕ) (given i from : ℕ) (t₀ : List ℕ) where
             let o = outcome w d vs in
             record {
               variables = a.variables;
-              is = loop-done w i (row_word ns i 3) (row_word ns i 4) (step d) a.variables o (subst (λ x. Left w d x a.variables o) e a.remains);
+              is = loop-done w i (row_word ns i 3) (row_word ns i 4) (step d) a.variables o (subst (λ x. Left w d (Ok x) a.variables o) e a.remains);
               held = a.held;
               below = a.below;
             }
 
-    pub name-stopped : (c : Refusal) (p : ℕ) → r ≡ Refused c p → AddsName ns ts ds given i from t₀ (added.Refused c p) t
-    name-stopped c p e = record { size = s.size; is = go }
-      where
-        go : (w : World ns ts ds given) (d : Spans) (vs : List Variable) → Ranges w i d → Held t₀ from vs → All (Below i) vs
-            → outcome w d vs ≡ refused c p
-        go w d vs g h b =
-            let a = s.on w d vs g h b in
-            let o = outcome w d vs in
-            loop-stopped w i (row_word ns i 3) (row_word ns i 4) (step d) c p a.variables o
-            (subst (λ x. Left w d x a.variables o) e a.remains)
-
-    module _ (h : Here) (e : Element) (f : r ≡ At h) (q : list_of e ≡ map number_of (held h)) where
+    module _ (h : Here) (e : Element) (f : y ≡ Some h) (q : list_of e ≡ map number_of (held h)) where
       -- the turn, at an element
-      at-element : (w : World ns ts ds given) (d : Spans) (vs : List Variable) → Ranges w i d → Held t₀ from vs → All (Below i) vs → OnAt w d vs t n (At h)
-      at-element w d vs g hd b = subst (OnAt w d vs t n) f (s.on w d vs g hd b)
+      at-element : (w : World ns ts ds given) (d : Spans) (vs : List Variable) → Ranges w i d → Held t₀ from vs → All (Below i) vs → OnAt w d vs t n (Ok (Some h))
+      at-element w d vs g hd b = subst (λ x. OnAt w d vs t n (Ok x)) f (s.on w d vs g hd b)
 
-      pub name-full : (p : ℕ) → 512 ≤ n → p ≡ row_word ns i 0 → AddsName ns ts ds given i from t₀ (added.Refused Full p) t
+      pub name-full : (p : ℕ) → 512 ≤ n → p ≡ row_word ns i 0 → AddsName ns ts ds given i from t₀ (Err (record { refusal = Full; place = p })) t
       name-full p l z = record { size = s.size; is = go }
         where
           go : (w : World ns ts ds given) (d : Spans) (vs : List Variable) → Ranges w i d → Held t₀ from vs → All (Below i) vs
@@ -162,7 +167,7 @@ module _ (ns ts ds : List ℕ) (given i from : ℕ) (t₀ : List ℕ) where
               (scope_at h) (scope-held h) e q Full p
               (added_full (declared_at ns i d) (under w (scope_at h)) (list_of e) a.variables (omega (arith, l, a.held.rows.count)) ∙ ap (λ (x : ℕ). refused Full x) (sym z))
 
-      module _ (key : Key) (t' : List ℕ) (r' : Step) (l : n < 512) (z : key_number key ≡ key_of i (list_of e)) (u : t' ≡ appended t n key 0) (x : NextIs ns ts ds given i h r') where
+      module _ (key : Key) (t' : List ℕ) (r' : Result (Option Here) Refused) (l : n < 512) (z : key_number key ≡ key_of i (list_of e)) (u : t' ≡ appended t n key 0) (x : NextIs ns ts ds given i h r') where
         has_room_lem : has_room t n ≡ true
         unfolding has_room
         has_room_lem = lt-ltb n (length t / 4) (omega (arith, l, s.room))
@@ -180,7 +185,7 @@ module _ (ns ts ds : List ℕ) (given i from : ℕ) (t₀ : List ℕ) where
           under = rises r' x rest;
         }
           where
-            a : OnAt w d vs t n (At h)
+            a : OnAt w d vs t n (Ok (Some h))
             a = at-element w d vs g hd b
 
             o : Outcome (List Variable)
@@ -206,13 +211,19 @@ module _ (ns ts ds : List ℕ) (given i from : ℕ) (t₀ : List ℕ) where
             last : key_at t' n ≡ key_of i (list_of e)
             last = last-key t' n a.variables v a.held.rows.count rows
 
-            rises : (y : Step) → NextIs ns ts ds given i h y → Left w d y more o → Under t' (n + 1) i y
-            rises (At m) y k = λ c p _.
+            rises : (y : Result (Option Here) Refused) → NextIs ns ts ds given i h y → Left w d y more o → Under t' (n + 1) i y
+            rises (Ok (Some m)) y k = λ c p _.
                 let j : n + 1 - 1 ≡ n = omega arith in
                 rw (j, last) (key-precedes keyed (element-keyed w d g m more o k c p) refl
                 (loop-rises w i (row_word ns i 3) (row_word ns i 4) (step d) d g.stands g.sized h m a.variables o a.remains y e c q p))
-            rises Done y k = tt
-            rises (Refused c p) y k = tt
+            rises (Ok None) y k = tt
+            rises (Err e) y k = tt
 
-        pub name-more : NameOn t' (n + 1) r'
-        name-more = record { size = next-size; room = omega (arith, next-size, s.size, s.room); on = next-on }
+        name-on : NameOn t' (n + 1) r'
+        name-on = record { size = next-size; room = omega (arith, next-size, s.size, s.room); on = next-on }
+
+        pub name-more : (x' : Option Here) → r' ≡ Ok x' → NameOn t' (n + 1) (Ok x')
+        name-more x' v = subst (NameOn t' (n + 1)) v name-on
+
+        pub name-stopped : (e : Refused) → r' ≡ Err e → AddsName ns ts ds given i from t₀ (Err e) t'
+        name-stopped = stopped t' (n + 1) r' name-on

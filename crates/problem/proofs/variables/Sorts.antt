@@ -1,11 +1,11 @@
 -- Laws of the loop over the names of a sort: it starts, passes a name, adds one, is refused or ends.
-use Rattle.std.specs.Prelude.{Option, Some, None}
+use Rattle.std.specs.Prelude.{Err, Ok, Result, Option, Some, None}
+use Rattle.rules.specs.declared.Refused.{Refused}
 use mathlib.Core.Path.{◌≡◌, refl, sym, ◌∙◌, ap, subst}
 use mathlib.Core.List.{List, ◌∷◌}
 use Prim.Native.Nat.{ℕ, suc, ◌+◌, ◌/◌, ◌<◌, ◌≤◌}
 use native.Mathlib.Omega.{arith}
 use lib.ListN.{length, take, drop, drop_of_length-le}
-use Rattle.rules.specs.declared.Refusal.{Refusal}
 use Rattle.rules.specs.Limits.{name_limit}
 use Rattle.language.specs.Outcome.{done, refused, ◌>>=◌}
 use Rattle.language.specs.All.{All}
@@ -23,8 +23,6 @@ use Rattle.evaluator.specs.Tables.{World}
 use Rattle.evaluator.specs.Cycle.{nothing_bound}
 use Rattle.evaluator.proofs.Names.{below_length, Split, split}
 use Rattle.elements.specs.Placed.{Placed}
-use Rattle.problem.specs.declared.variables.Added.{Added}
-use Rattle.problem.specs.declared.variables.Added.TheVariants as added
 use Rattle.problem.specs.Variables.Numbers.{Below, Held, Adds, Answers, Ranges, declared_at, AddsName, Picks, Above, Before, AddsSort}
 
 -- ---- one declaration
@@ -68,7 +66,7 @@ module _ (ns ts ds : List ℕ) (given k from : ℕ) (t₀ : List ℕ) where
   sort-start l = record { size = refl; room = l; on = λ w f vs p q h b. record { variables = vs; due = refl; held = h; before = b; below = λ j a x. x } }
 
   module _ (t : List ℕ) (i n : ℕ) (s : SortOn t i n) where
-    pub sort-end : length ns / 5 ≤ i → AddsSort ns ts ds given k from t₀ (added.Rows n) t
+    pub sort-end : length ns / 5 ≤ i → AddsSort ns ts ds given k from t₀ (Ok n) t
     sort-end l = record { is = go }
       where
         go : (w : World ns ts ds given) (f : Sort → Option Spans) (vs : List Variable) → Placed ns w.names → Picks f k → Held t₀ from vs → Before f w.names 0 vs
@@ -108,7 +106,7 @@ module _ (ns ts ds : List ℕ) (given k from : ℕ) (t₀ : List ℕ) where
                   below = a.below;
                 }
 
-        module _ (g : v ≡ k) (r : Added) (t' : List ℕ) (c : AddsName ns ts ds given i n t r t') where
+        module _ (g : v ≡ k) (r : Result ℕ Refused) (t' : List ℕ) (c : AddsName ns ts ds given i n t r t') where
           -- the name's domain, and what its variables are added to
           record Turn (w : World ns ts ds given) (f : Sort → Option Spans) (vs : List Variable) : Type 0 where
             now : SortAt w f vs t i n
@@ -143,18 +141,18 @@ module _ (ns ts ds : List ℕ) (given k from : ℕ) (t₀ : List ℕ) where
                     ∙ ap (λ m. add_variables (nothing_bound w) m a.variables) (sym z) ∙ a.due;
               }
 
-          pub sort-refused : (m : Refusal) (p : ℕ) → r ≡ added.Refused m p → AddsSort ns ts ds given k from t₀ (added.Refused m p) t'
-          sort-refused m p u = record { is = go }
+          pub sort-refused : (e : Refused) → r ≡ Err e → AddsSort ns ts ds given k from t₀ (Err e) t'
+          sort-refused z u = record { is = go }
             where
               go : (w : World ns ts ds given) (f : Sort → Option Spans) (vs : List Variable) → Placed ns w.names → Picks f k → Held t₀ from vs → Before f w.names 0 vs
-                  → add_variables (nothing_bound w) (declared f 0 w.names) vs ≡ refused m p
+                  → add_variables (nothing_bound w) (declared f 0 w.names) vs ≡ refused z.refusal z.place
               go w f vs y q h b =
                   let a = turn w f vs y q h b in
                   let o = over a.domain (nothing_bound w) (add_variable (declared_at ns i a.domain)) a.now.variables in
-                  let z : o ≡ refused m p = subst (λ x. Answers o (λ j. i < j) a.now.variables x t') u a.answers in
-                  sym a.due ∙ ap (λ x. x >>= λ ws. add_variables (nothing_bound w) (declared f (suc i) (drop (suc i) w.names)) ws) z
+                  let m : o ≡ refused z.refusal z.place = subst (λ x. Answers o (λ j. i < j) a.now.variables x t') u a.answers in
+                  sym a.due ∙ ap (λ x. x >>= λ ws. add_variables (nothing_bound w) (declared f (suc i) (drop (suc i) w.names)) ws) m
 
-          pub sort-more : (m : ℕ) → r ≡ added.Rows m → SortOn t' (i + 1) m
+          pub sort-more : (m : ℕ) → r ≡ Ok m → SortOn t' (i + 1) m
           sort-more m u = record { size = c.size ∙ s.size; room = omega (arith, c.size, s.room); on = go }
             where
               go : (w : World ns ts ds given) (f : Sort → Option Spans) (vs : List Variable) → Placed ns w.names → Picks f k → Held t₀ from vs → Before f w.names 0 vs → SortAt w f vs t' (i + 1) m

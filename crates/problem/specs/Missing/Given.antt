@@ -1,5 +1,7 @@
 -- What the functions answer, for every text, names and data that the tables hold.
-use Rattle.std.specs.Prelude.{◌≡◌, Bool, not, List, ℕ, ◌<◌, length, drop, ℤ, Some, slice_get}
+use Rattle.std.specs.Prelude.{Option, Result, ◌≡◌, Bool, not, List, ℕ, ◌<◌, length, drop, ℤ, Some, slice_get}
+use Rattle.rules.specs.declared.Refused.{Refused}
+use Rattle.elements.specs.declared.here.Here.{Here}
 use Rattle.language.specs.Syntax.{Name, Spans}
 use Rattle.language.specs.Evaluation.{over, is_none}
 use Rattle.language.specs.Store.{is_given, given_by, all_given}
@@ -7,10 +9,8 @@ use Rattle.tokens.specs.Stored.{size}
 use Rattle.store.specs.Key.{key_of}
 use Rattle.store.specs.Table.{Sorted, lookup}
 use Rattle.evaluator.specs.Steps.Names.{row_word}
-use Rattle.evaluator.specs.declared.Passed.{Passed}
 use Rattle.evaluator.specs.Tables.{DomainAt, World}
 use Rattle.evaluator.specs.Cycle.{passed_outcome, seen_by, nothing_bound}
-use Rattle.elements.specs.declared.Step.{Step}
 use Rattle.elements.specs.Loops.{Remains}
 use Rattle.elements.specs.Placed.{Placed}
 
@@ -28,22 +28,22 @@ module _ {ns ts ds : List ℕ} {given : ℕ} (w : World ns ts ds given) (i : ℕ
     pub count : size d ≡ row_word ns i 3
 
 -- a value of name i at each element of its domain
-pub record DomainGiven (ns ts ds : List ℕ) (given i : ℕ) (r : Passed) : Type 0 where
+pub record DomainGiven (ns ts ds : List ℕ) (given i : ℕ) (r : Result Unit Refused) : Type 0 where
   pub is : (w : World ns ts ds given) (d : Spans) → Declares w i d → over d (nothing_bound w) (is_given i (row_word ns i 0)) tt ≡ passed_outcome r
 
 -- the elements from a step on are still to be asked
-pub record Asking (ns ts ds : List ℕ) (given i : ℕ) (x : Step) : Type 0 where
+pub record Asking (ns ts ds : List ℕ) (given i : ℕ) (x : Result (Option Here) Refused) : Type 0 where
   pub left : (w : World ns ts ds given) (d : Spans) → Declares w i d
       → Remains w i (row_word ns i 3) (row_word ns i 4) (is_given i (row_word ns i 0)) x tt (over d (nothing_bound w) (is_given i (row_word ns i 0)) tt)
 
 -- ---- all names
 
 -- the data of name i, if its sort has any
-pub record NameGiven (ns ts ds : List ℕ) (given i : ℕ) (r : Passed) : Type 0 where
+pub record NameGiven (ns ts ds : List ℕ) (given i : ℕ) (r : Result Unit Refused) : Type 0 where
   pub is : (w : World ns ts ds given) → Placed ns w.names → (x : Name) → slice_get w.names i ≡ Some x → given_by i x.place x.sort (nothing_bound w) ≡ passed_outcome r
 
 -- the data of all names
-pub record AllGiven (ns ts ds : List ℕ) (given : ℕ) (r : Passed) : Type 0 where
+pub record AllGiven (ns ts ds : List ℕ) (given : ℕ) (r : Result Unit Refused) : Type 0 where
   pub is : (w : World ns ts ds given) → Placed ns w.names → all_given 0 w.names (nothing_bound w) ≡ passed_outcome r
 
 -- the names before number i have their data

@@ -1,6 +1,7 @@
 -- What code answers, for every text, names and data that the tables hold: the variables of one name, of the names of a sort, and all of
 -- them, in the rows of a table.
-use Rattle.std.specs.Prelude.{◌≡◌, List, [], ℕ, ◌<◌, ◌≤◌, length, Option, Some, None, slice_get}
+use Rattle.std.specs.Prelude.{Err, Ok, Result, ◌≡◌, List, [], ℕ, ◌<◌, ◌≤◌, length, Option, Some, None, slice_get}
+use Rattle.rules.specs.declared.Refused.{Refused}
 use Rattle.rules.specs.Limits.{variable_limit}
 use Rattle.language.specs.Outcome.{Outcome, done, refused, ◌>>=◌}
 use Rattle.language.specs.All.{All}
@@ -15,10 +16,6 @@ use Rattle.evaluator.specs.Steps.Names.{row_word}
 use Rattle.evaluator.specs.Tables.{World, DomainAt, Stands}
 use Rattle.evaluator.specs.Cycle.{seen_by, nothing_bound}
 use Rattle.elements.specs.Placed.{Placed}
-use Rattle.problem.specs.declared.variables.Added.{Added}
-use Rattle.problem.specs.declared.variables.Added.TheVariants as added
-use Rattle.problem.specs.declared.variables.Counted.{Counted}
-use Rattle.problem.specs.declared.variables.Counted.TheVariants as counted
 use Rattle.problem.specs.Variables.Order.{InOrder}
 
 -- a variable with a key, of a name below k
@@ -38,9 +35,9 @@ pub record Adds (o : Outcome (List Variable)) (Q : ℕ → Type 0) (vs : List Va
   pub held : Held t n variables
   pub below : (k : ℕ) → Q k → All (Below k) vs → All (Below k) variables
 
-abbrev pub Answers : Outcome (List Variable) → (ℕ → Type 0) → List Variable → Added → List ℕ → Type 0
-Answers o Q vs (added.Rows n) t = Adds o Q vs n t
-Answers o Q vs (added.Refused r p) t = o ≡ refused r p
+abbrev pub Answers : Outcome (List Variable) → (ℕ → Type 0) → List Variable → Result ℕ Refused → List ℕ → Type 0
+Answers o Q vs (Ok n) t = Adds o Q vs n t
+Answers o Q vs (Err e) t = o ≡ refused e.refusal e.place
 
 -- ---- one name
 
@@ -53,7 +50,7 @@ pub record Ranges {ns ts ds : List ℕ} {given : ℕ} (w : World ns ts ds given)
 abbrev pub declared_at : List ℕ → ℕ → Spans → Declaration
 declared_at ns i d = record { name = i; domain = d; place = row_word ns i 0 }
 
-pub record AddsName (ns ts ds : List ℕ) (given i from : ℕ) (t : List ℕ) (r : Added) (t' : List ℕ) : Type 0 where
+pub record AddsName (ns ts ds : List ℕ) (given i from : ℕ) (t : List ℕ) (r : Result ℕ Refused) (t' : List ℕ) : Type 0 where
   pub size : length t' ≡ length t
   pub is : (w : World ns ts ds given) (d : Spans) (vs : List Variable) → Ranges w i d → Held t from vs → All (Below i) vs
       → Answers (over d (nothing_bound w) (add_variable (declared_at ns i d)) vs) (λ k. i < k) vs r t'
@@ -81,7 +78,7 @@ module _ (f : Sort → Option Spans) (names : List Name) where
   abbrev pub Before : ℕ → List Variable → Type 0
   Before i vs = (j : ℕ) (y : Name) (e : Spans) → i ≤ j → slice_get names j ≡ Some y → f y.sort ≡ Some e → All (Below j) vs
 
-pub record AddsSort (ns ts ds : List ℕ) (given k from : ℕ) (t : List ℕ) (r : Added) (t' : List ℕ) : Type 0 where
+pub record AddsSort (ns ts ds : List ℕ) (given k from : ℕ) (t : List ℕ) (r : Result ℕ Refused) (t' : List ℕ) : Type 0 where
   pub is : (w : World ns ts ds given) (f : Sort → Option Spans) (vs : List Variable) → Placed ns w.names → Picks f k
       → Held t from vs → Before f w.names 0 vs
       → Answers (add_variables (nothing_bound w) (declared f 0 w.names) vs) (Above f w.names) vs r t'
@@ -107,9 +104,9 @@ module _ {ns ts ds : List ℕ} {given : ℕ} (w : World ns ts ds given) where
     pub few : n ≤ variable_limit
     pub known : All (Below (length w.names)) variables
 
-  abbrev pub Counting : Counted → List ℕ → Type 0
-  Counting (counted.Of a n) t = Counts a n t
-  Counting (counted.Refused r p) t = (discrete_ones >>= λ vs. continuous_ones vs) ≡ refused r p
+  abbrev pub Counting : Result (ℕ × ℕ) Refused → List ℕ → Type 0
+  Counting (Ok (a, n)) t = Counts a n t
+  Counting (Err e) t = (discrete_ones >>= λ vs. continuous_ones vs) ≡ refused e.refusal e.place
 
-pub record NumbersAs (ns ts ds : List ℕ) (given : ℕ) (r : Counted) (t : List ℕ) : Type 0 where
+pub record NumbersAs (ns ts ds : List ℕ) (given : ℕ) (r : Result (ℕ × ℕ) Refused) (t : List ℕ) : Type 0 where
   pub is : (w : World ns ts ds given) → Placed ns w.names → InOrder w.names → Counting w r t

@@ -1,15 +1,12 @@
 -- `reach::added` meets its contract.
-use Rattle.reach.proofs.Reaching.{added-open, added-unfit, added-sum, added-sum-unfit}
+use Rattle.reach.proofs.Reaching.{added-open, added-unfit, added-both}
 use Rattle.reach.proofs.added.Goals as goal
 
-pub returns-in_default : goal.returns-in_default
-returns-in_default c = search added-open depth 6
+pub returns-in_err-bound : goal.returns-in_err-bound
+returns-in_err-bound c = rw c.from_residual.ensures (added-open _ _ _ c.in_err-bound.was)
 
-pub returns-in_default-mul : goal.returns-in_default-mul
-returns-in_default-mul c = search added-unfit depth 9
+pub returns-in_err-product : goal.returns-in_err-product
+returns-in_err-product c = rw c.from_residual-in_err-product.ensures (added-unfit _ _ _ _ _ c.in_ok-bound.was c.mul.ensures c.in_err-product.was)
 
-pub returns-in-Some-add : goal.returns-in-Some-add
-returns-in-Some-add c = search added-sum depth 12
-
-pub returns-in-None : goal.returns-in-None
-returns-in-None c = search added-sum-unfit depth 12
+pub returns : goal.returns
+returns c = added-both _ _ _ _ _ _ _ c.in_ok-bound.was c.mul.ensures c.in_ok-product.was c.add.ensures

@@ -1,10 +1,6 @@
 -- `reach::end_of` meets its contract.
-use Prim.Native.Nat.{◌-◌}
 use Rattle.reach.proofs.Reaching.{Reaching}
 use Rattle.reach.proofs.end_of.Given as goal
 
 abbrev pub invariant-loop-j : goal.invariant-loop-j
 invariant-loop-j l = Reaching l.counts l.bounds l.k l.greatest l.n l.j l.t
-
-abbrev pub decreases-loop-j : goal.decreases-loop-j
-decreases-loop-j l = l.n - l.j

@@ -1,15 +1,8 @@
 -- `rows::opposite_of` meets its contract.
 use mathlib.Core.Path.{◌∙◌}
-use native.Mathlib.Omega.{arith}
-use lib.IntN.{pos}
 use mir.Facts.{to_z-of_z}
-use Rattle.value.specs.Gathering.{count_limit}
-use Rattle.value.proofs.Integers.{opposite-fits}
 use Rattle.rows.proofs.Counting.{opposed-low, opposed-other, opposed-fits}
 use Rattle.rows.proofs.opposite_of.Goals as goal
-
-pub overflow_sub-lowest : goal.overflow_sub-lowest
-overflow_sub-lowest c = rw c.count_limit.ensures (opposite-fits (pos count_limit) (omega arith))
 
 pub returns-then-z-lowest : goal.returns-then-z-lowest
 returns-then-z-lowest c = rw (to_z-of_z c.ranges.z) (opposed-low c.args.z (rw (to_z-of_z c.ranges.z, c.count_limit.ensures) at c.if-z-lowest.true))

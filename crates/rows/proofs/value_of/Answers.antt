@@ -1,14 +1,8 @@
 -- `rows::value_of` meets its contract.
+use mathlib.Core.Path.{◌∙◌}
 use Rattle.value.proofs.Integers.{back}
-use Rattle.rows.proofs.Reading.{value-fits, value_none}
+use Rattle.rows.proofs.Reading.{value-or}
 use Rattle.rows.proofs.value_of.Goals as goal
 
-pub returns-in-Some : goal.returns-in-Some
-returns-in-Some c =
-    let s = c in
-    value-fits _ _ _ (rw (back s.ranges.z.sfits) at s.of_millionths.ensures) c.in-Some.is
-
-pub returns-in-None : goal.returns-in-None
-returns-in-None c =
-    let s = c in
-    value_none _ _ _ (rw (back s.ranges.z.sfits) at s.of_millionths.ensures) c.in-None.is c.of_whole.ensures
+pub returns : goal.returns
+returns c = c.unwrap_or.ensures ∙ rw c.of_whole.ensures (value-or _ _ (rw (back c.ranges.z.sfits) at c.of_millionths.ensures))

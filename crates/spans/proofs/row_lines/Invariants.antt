@@ -1,10 +1,6 @@
 -- `spans::row_lines` meets its contract.
-use Prim.Native.Nat.{◌-◌}
 use Rattle.spans.proofs.Telling.{Spanning}
 use Rattle.spans.proofs.row_lines.Given as goal
 
 abbrev pub invariant-loop-i : goal.invariant-loop-i
 invariant-loop-i l = Spanning l.slots l.bounds l.counts l.less l.n l.size l.initial.out l.at l.i l.out l.next
-
-abbrev pub decreases-loop-i : goal.decreases-loop-i
-decreases-loop-i l = l.size - l.i

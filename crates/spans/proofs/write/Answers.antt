@@ -7,6 +7,7 @@ use Rattle.spans.proofs.Telling.{reports-none, reports-all}
 use Rattle.spans.proofs.write.Goals as goal
 
 -- the sizes are within the limits
+
 pub returns-then-not-is_within : goal.returns-then-not-is_within
 returns-then-not-is_within c = reports-none _ _ _ _ _ _ _ _ c.is_within.ensures c.if-not-is_within.true-raw
 

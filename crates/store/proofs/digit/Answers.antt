@@ -9,6 +9,7 @@ use Rattle.store.proofs.Words.{digit-high, digit_low, digit-is, digit-read}
 use Rattle.store.proofs.digit.Goals as goal
 
 -- the sum that is left past both tests
+
 sum : (c : goal.Else-k) → c.args.k +ℤ pos 1000000000 ≡ pos (digit_of c.args.k)
 sum c = digit-is _ (rw (to_z-of_z c.ranges.k) at c.if-k-ge-SHIFT.false) (rw (to_z-of_z c.ranges.k) at c.if-k.false)
 
@@ -17,12 +18,6 @@ returns-then-k-ge-SHIFT c = (digit-high _ (rw (to_z-of_z c.ranges.k) at c.if-k-g
 
 pub returns-then-k : goal.returns-then-k
 returns-then-k c = (digit_low _ (rw (to_z-of_z c.ranges.k) at c.if-k.true), omega arith)
-
-pub overflow_add-result : goal.overflow_add-result
-overflow_add-result c = rw (to_z-of_z c.ranges.k, sum c) (record { sfits = omega (arith, digit-below c.args.k) })
-
-pub overflow_cast-result : goal.overflow_cast-result
-overflow_cast-result c = rw (to_z-of_z c.ranges.k, sum c, digit-read c.args.k) (tt, record { fits = omega (arith, digit-below c.args.k) })
 
 pub returns : goal.returns
 returns c = rw (to_z-of_z c.ranges.k, sum c, digit-read c.args.k) (refl, digit-below c.args.k)

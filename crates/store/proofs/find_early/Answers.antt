@@ -1,12 +1,10 @@
--- `store::find_early` meets its contract. The loop needs no invariant: a row that has the key is the answer, wherever it was tried.
+-- `store::find_early` meets its contract: a row that has the key is the answer, wherever it was tried.
+use native.Mathlib.Omega.{arith}
 use Rattle.store.proofs.Halving.{finds-row, finds-early}
 use Rattle.store.proofs.find_early.Goals as goal
 
-pub returns-then-n-i : goal.returns-then-n-i
-returns-then-n-i c = search finds-row depth 6
-
 pub returns-then-is_at : goal.returns-then-is_at
-returns-then-is_at c = search finds-early depth 8
+returns-then-is_at c = finds-early _ _ _ _ (omega (arith, c.min-i-end.ensures)) _ c.is_at.ensures c.if-is_at.true
 
 pub returns : goal.returns
 returns c = search finds-row depth 6

@@ -6,25 +6,10 @@ use Rattle.store.proofs.rank.Goals as goal
 pub loop-from-init : goal.loop-from-init
 loop-from-init c = (omega arith, omega arith, rank-start _ _ _)
 
-pub overflow_sub-mid : goal.overflow_sub-mid
-overflow_sub-mid c = omega arith
-
-pub overflow_add-mid : goal.overflow_add-mid
-overflow_add-mid c = omega arith
-
-pub overflow_add-from : goal.overflow_add-from
-overflow_add-from c = omega arith
-
-pub loop-from-smaller-then-is_below : goal.loop-from-smaller-then-is_below
-loop-from-smaller-then-is_below c = omega arith
-
 pub loop-from-preserved-then-is_below : goal.loop-from-preserved-then-is_below
 loop-from-preserved-then-is_below c =
     let o = c in
     (omega arith, omega arith, rank_up _ _ _ _ _ o.loop-from.invariant.2 (omega arith) _ c.is_below.ensures c.if-is_below.true)
-
-pub loop-from-smaller : goal.loop-from-smaller
-loop-from-smaller c = omega arith
 
 pub loop-from-preserved : goal.loop-from-preserved
 loop-from-preserved c =

@@ -1,14 +1,11 @@
 -- `store::with_digit` meets its contract.
 use Rattle.store.proofs.Back.{digit-none, digit-more}
 use native.Mathlib.Omega.{arith}
-use Rattle.store.proofs.Words.{moved-fits, moved-is}
+use Rattle.store.proofs.Words.{moved-is}
 use Rattle.store.proofs.with_digit.Goals as goal
 
 pub returns-then-d-eq0 : goal.returns-then-d-eq0
 returns-then-d-eq0 c = digit-none _ _ c.if-d-eq0.true
-
-pub overflow_sub-d : goal.overflow_sub-d
-overflow_sub-d c = moved-fits c.args.d (omega arith)
 
 pub returns : goal.returns
 returns c = digit-more _ _ _ _ c.if-d-eq0.false (moved-is c.args.d (omega arith)) c.with.ensures

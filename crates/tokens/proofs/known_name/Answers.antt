@@ -1,15 +1,16 @@
 -- `tokens::known_name` meets its contract.
+use Rattle.std.proofs.lemmas.Result.{err_from_is_err_and}
 use Rattle.tokens.proofs.Moved.{at-wrong, at-no-name, at-unknown, at_name}
 use Rattle.tokens.proofs.known_name.Goals as goal
 
-pub returns-in-Name : goal.returns-in-Name
-returns-in-Name c = search at_name depth 8
+pub returns-in_err-token : goal.returns-in_err-token
+returns-in_err-token c = let p = err_from_is_err_and c.from_residual.result c.from_residual.ensures.1 in rw (p.1, p.2) (search (at-wrong, c.in_err-token.was) depth 6)
 
-pub returns-in-Nothing : goal.returns-in-Nothing
-returns-in-Nothing c = search at-unknown depth 8
+pub returns-then-token-ne-NAME : goal.returns-then-token-ne-NAME
+returns-then-token-ne-NAME c = search (at-no-name, c.in_ok-token.was) depth 7
 
-pub returns-else-k-eq-NAME : goal.returns-else-k-eq-NAME
-returns-else-k-eq-NAME c = search at-no-name depth 7
+pub returns-in_default : goal.returns-in_default
+returns-in_default c = search (at-unknown, c.in_ok-token.was) depth 8
 
-pub returns-in-Refused : goal.returns-in-Refused
-returns-in-Refused c = search at-wrong depth 6
+pub returns : goal.returns
+returns c = search (at_name, c.in_ok-token.was) depth 8

@@ -1,5 +1,7 @@
 -- For callers: what each word of a scanned table is. The last word, and no other, is the end or a refusal; a literal has a
 -- valid value; a name's payload is its length.
+use Rattle.std.specs.Prelude.{Ok}
+use Rattle.tokens.specs.declared.Seen.{Seen}
 use mathlib.Core.Path.{◌≡◌, refl, sym, ◌∙◌, ap, subst}
 use mathlib.Core.Bool.{true, false}
 use mathlib.Core.Logic.{◌⊎◌, inl, inr}
@@ -12,7 +14,6 @@ use Rattle.rules.specs.Limits.{byte_limit, name_length}
 use Rattle.value.specs.Decimal.{Valid}
 use Rattle.lexer.specs.Text.{Token, tokens}
 use Rattle.lexer.specs.View.{is_last}
-use Rattle.tokens.specs.declared.Seen.TheVariants as seen
 use Rattle.tokens.specs.Stored.{kind_part, place_part, payload_part, name_bytes, bytes_from, spelling, kind_of, token, view, from, Looks}
 use Rattle.tokens.proofs.Tables.{false-true, view-here, view-end}
 use Rattle.tokens.specs.Scanner.Table.{table_size, value_of, ShortName, Holds, Scanned}
@@ -104,19 +105,19 @@ module _ (s ts : List ℕ) (h : Holds s ts) where
   holds-proper = subst Proper (sym h.all) (tokens-proper s)
 
   -- what code sees at a position
-  module _ (at k p x a : ℕ) (l : Looks ts at (seen.Token k p x a)) where
-    seen-held : Held (kind_of s k p x)
+  module _ (at : ℕ) (w : Seen) (l : Looks ts at (Ok w)) where
+    seen-held : Held (kind_of s w.kind w.place w.payload)
     unfolding from token
-    seen-held = proper-first (proper-from s ts at (token s k p x) (from s ts a) (l.sees s).1 holds-proper)
+    seen-held = proper-first (proper-from s ts at (token s w.kind w.place w.payload) (from s ts w.next) (l.sees s).1 holds-proper)
 
-    pub whole-seen : k ≡ 2 → Valid (value_of x)
-    whole-seen e = whole-valid s p x k e seen-held
+    pub whole-seen : w.kind ≡ 2 → Valid (value_of w.payload)
+    whole-seen e = whole-valid s w.place w.payload w.kind e seen-held
 
-    pub pointed-seen : k ≡ 3 → Valid (value_of x)
-    pointed-seen e = pointed-valid s p x k e seen-held
+    pub pointed-seen : w.kind ≡ 3 → Valid (value_of w.payload)
+    pointed-seen e = pointed-valid s w.place w.payload w.kind e seen-held
 
-    pub name-seen : k ≡ 1 → 1 ≤ name_bytes x
-    name-seen e = name-some s p x k e seen-held
+    pub name-seen : w.kind ≡ 1 → 1 ≤ name_bytes w.payload
+    name-seen e = name-some s w.place w.payload w.kind e seen-held
 
   -- the word at an index
   module _ (i : ℕ) (g : i < length ts) where

@@ -15,7 +15,7 @@ use Rattle.lexer.specs.Text.{Token, tokens}
 use Rattle.lexer.specs.declared.Token as declared
 use Rattle.lexer.specs.declared.Token.TheVariants.{Mark, Name, Literal, String, End, Wrong}
 use Rattle.lexer.specs.declared.Source.{Source}
-use Rattle.lexer.specs.declared.Turn.{Turn}
+use Rattle.lexer.specs.declared.Read.{Read}
 use Rattle.lexer.specs.View.{kind_of, is_last, coming_at, start_of, Turns}
 use Rattle.lexer.proofs.Calls.{tokens-start, tokens-long}
 use Rattle.tokens.specs.Stored.{word_of, kind_part, place_part, payload_part, refusal_of, token, view}
@@ -78,10 +78,10 @@ last-any s (String a n) = refl
 last-any s End = refl
 last-any s (Wrong r) = refl
 
-turn-held : (s : List ℕ) (c : Source) (r : Turn) → Turns s c r → Held (kind_of s r.token)
+turn-held : (s : List ℕ) (c : Source) (r : Read Source) → Turns s c r → Held (kind_of s r.token)
 turn-held s c r w = proper-first (subst Proper w.tokens (coming-proper s c))
 
-module _ (s t u : List ℕ) (c : Source) (i : ℕ) (r : Turn) (f : Filling s t u c i) (w : Turns s c r) where
+module _ (s t u : List ℕ) (c : Source) (i : ℕ) (r : Read Source) (f : Filling s t u c i) (w : Turns s c r) where
   pub turn-packs : Packs r.token
   turn-packs = packs s r.place r.token w.within (turn-held s c r w)
 
@@ -136,9 +136,9 @@ module _ (s t u : List ℕ) (c : Source) (i : ℕ) (r : Turn) (f : Filling s t u
         whole : is_last (kind_of s r.token) ≡ true → view s (take (i + 1) (set u i x)) ≡ tokens s
         whole l = more-view ∙ ap (λ (z : List Token). view s (take i u) ++ z) (sym (rw l at w.tokens)) ∙ f.all
 
-pub filling-out : (s t u : List ℕ) (c : Source) (i : ℕ) → Filling s t u c i → length u ≤ i → Scanned s t i u
+pub filling-out : (s t u : List ℕ) (c : Source) (i r : ℕ) → Filling s t u c i → length u ≤ i → r ≡ length t → Scanned s t r u
 unfolding table_size
-filling-out s t u c i f h = record {
+filling-out s t u c i r f h q = let e : r ≡ i = omega (arith, f.size, f.within) in rw e record {
   size = f.size;
   within = f.within;
   behind = f.behind;

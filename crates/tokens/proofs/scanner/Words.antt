@@ -1,6 +1,6 @@
 -- A token as a word: the word has room for it, and holds that token.
 use mathlib.Core.Path.{◌≡◌, refl, sym, ◌∙◌, ap}
-use mathlib.Core.Bool.{Bool, true, false}
+use mathlib.Core.Bool.{true, false}
 use mathlib.Core.List.{List, ◌∷◌}
 use Prim.Native.Nat.{ℕ, zero, suc, ◌+◌, ◌/◌, ◌%◌, ◌<◌, ◌≤◌}
 use native.Mathlib.Omega.{arith}
@@ -39,13 +39,6 @@ packs s p (Wrong r) w h = tt
 pub value-small : (v : Value) → Plain v → value_payload v < 8589934592
 unfolding mantissa_limit scale_limit
 value-small v h = omega (arith, h.valid.small, h.valid.places)
-
-module _ (t : Token) (w : Bool) (v : Value) (e : t ≡ Literal w v) where
-  pub packs-literal : Packs t → Plain v
-  packs-literal h = rw e at h
-
-  pub payload-literal : (x : ℕ) → x ≡ value_payload v → x ≡ payload_of t
-  payload-literal x h = rw e h
 
 -- the machine reads back what a literal's m is
 pub plain_back : (v : Value) → Plain v → to_z w64 (of_z w64 v.m) ≡ pos (nat_abs v.m)

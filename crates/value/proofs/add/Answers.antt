@@ -6,18 +6,7 @@ use Rattle.value.specs.Gathering.{millionths}
 use Rattle.value.proofs.Integers.{back}
 use Rattle.value.proofs.Ranges.{Both, both_of, both-in-range, not-in-range}
 use Rattle.value.proofs.Operations.{millionths-small, sum-fit}
-use borrow.Author.Rules.{rules}
 use Rattle.value.proofs.add.Goals as goal
-
-pub aligned-requires : goal.aligned-requires
-aligned-requires c =
-    let both : Both c.args.a c.args.b = both_of _ _ _ c.both_in_range.ensures c.if-both_in_range.true in
-    let w = both in search rules
-
-pub aligned-requires-then-both_in_range : goal.aligned-requires-then-both_in_range
-aligned-requires-then-both_in_range c =
-    let both : Both c.args.a c.args.b = both_of _ _ _ c.both_in_range.ensures c.if-both_in_range.true in
-    let w = both in search rules
 
 pub plus-requires : goal.plus-requires
 plus-requires c =

@@ -1,5 +1,4 @@
 -- `value::at_most` meets its contract.
-use mathlib.Core.Path.{sym, ◌∙◌}
 use Rattle.rules.specs.Limits.{mantissa_limit, scale_limit}
 use Rattle.value.specs.Decimal.{is_at_most}
 use Rattle.value.proofs.Integers.{back}
@@ -27,6 +26,3 @@ returns-then-both_in_range c =
     let p = c in
     let t = p in
     rw (back p.scaled.type_inv, back c.scaled-then-both_in_range.type_inv, p.scaled.ensures, c.scaled-then-both_in_range.ensures, back p.struct_told-1.given.0.1, back c.struct_told-then-both_in_range-1.given.0.1, both.left, both.right)
-
-pub returns : goal.returns
-returns c = rw (sym c.both_in_range.ensures ∙ c.if-both_in_range.false)

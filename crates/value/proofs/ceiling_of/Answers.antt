@@ -1,11 +1,8 @@
 -- `value::ceiling_of` meets its contract.
 use mathlib.Core.Path.{◌∙◌}
 use Rattle.value.proofs.Integers.{back}
-use Rattle.value.proofs.Rounding.{negative-size, positive-size, ceiling-is}
+use Rattle.value.proofs.Rounding.{ceiling-is}
 use Rattle.value.proofs.ceiling_of.Goals as goal
-
-pub shortened-requires : goal.shortened-requires
-shortened-requires c = rw (back c.struct_told-1.given.0.1) (search (negative-size, positive-size))
 
 pub returns : goal.returns
 returns c =

@@ -1,28 +1,21 @@
 -- `value::decimal` meets its contract.
-use Rattle.value.proofs.Reading.{part-rest, part_none, raised-empty, raised-whole, raised-ends, raised-parts}
-use mathlib.Core.Path.{◌∙◌}
+use mathlib.Core.Path.{refl, sym, ◌∙◌}
 use native.Mathlib.Omega.{arith}
-use lib.ListN.{length-take}
+use borrow.Author.Tests.{eqb-true, eqb-false}
+use Rattle.value.proofs.Reading.{part-rest, point-at, point-nowhere, raised-empty, raised-whole, raised-ends, raised-parts}
 use Rattle.value.proofs.decimal.Goals as goal
 
-pub returns-then-n-eq0 : goal.returns-then-n-eq0
-returns-then-n-eq0 c = raised-empty _ _ c.if-n-eq0.true
+pub returns-then-is_empty : goal.returns-then-is_empty
+returns-then-is_empty c = raised-empty _ _ (eqb-true _ _ (sym c.is_empty.ensures ∙ c.if-is_empty.true))
 
-pub returns-then-n-p : goal.returns-then-n-p
-returns-then-n-p c =
-    let p = c in
-    let s = p in
-    c.read_parts.ensures ∙ rw (part_none s.args.t.now) (raised-whole _ _ _ p.point-p.ensures (omega (arith, p.if-n-eq0.false)) c.if-n-p.true)
+pub returns-in_default : goal.returns-in_default
+returns-in_default c =
+    c.read_parts.ensures ∙ raised-whole _ _ _ refl (omega (arith, eqb-false _ _ (sym c.is_empty.ensures ∙ c.if-is_empty.false))) (point-nowhere _ (sym c.in_default.is ∙ c.first.ensures))
 
-pub returns-then-n-q : goal.returns-then-n-q
-returns-then-n-q c = raised-ends _ _ _ c.point-p.ensures c.if-n-p.false c.if-n-q.true
-
-pub slice_bounds-read_parts-end-2 : goal.slice_bounds-read_parts-end-2
-slice_bounds-read_parts-end-2 c = omega (arith, length-take c.point-p.result c.args.t.now)
+pub returns-then-t-p : goal.returns-then-t-p
+returns-then-t-p c = let f = point-at _ _ (sym c.in-Some.is ∙ c.first.ensures) in raised-ends _ _ _ f.0 f.1 c.if-t-p.true
 
 pub returns : goal.returns
 returns c =
-    let e = c in
-    let p = e in
-    let s = p in
-    c.read_parts-2.ensures ∙ rw (part-rest s.args.t.now) (raised-parts _ _ _ p.point-p.ensures e.if-n-q.false)
+    let f = point-at _ _ (sym c.in-Some.is ∙ c.first.ensures) in
+    c.read_parts-2.ensures ∙ rw (part-rest c.args.t.now) (raised-parts _ _ _ f.0 c.if-t-p.false)

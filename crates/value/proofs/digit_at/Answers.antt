@@ -6,6 +6,3 @@ use Rattle.value.proofs.digit_at.Goals as goal
 
 pub nonzero_div-result : goal.nonzero_div-result
 nonzero_div-result c = omega (arith, c.power.ensures, one-le-pow c.args.k 10 (lit< tt))
-
-pub returns : goal.returns
-returns c = rw c.power.ensures

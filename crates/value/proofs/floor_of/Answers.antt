@@ -1,11 +1,8 @@
 -- `value::floor_of` meets its contract.
 use mathlib.Core.Path.{◌∙◌}
 use Rattle.value.proofs.Integers.{back}
-use Rattle.value.proofs.Rounding.{negative-size, positive-size, floor-is}
+use Rattle.value.proofs.Rounding.{floor-is}
 use Rattle.value.proofs.floor_of.Goals as goal
-
-pub shortened-requires : goal.shortened-requires
-shortened-requires c = rw (back c.struct_told-1.given.0.1) (search (positive-size, negative-size))
 
 pub returns : goal.returns
 returns c =

@@ -13,6 +13,7 @@ use Rattle.value.proofs.Gathering.{count-is, no_place, no_value, no-count, no-fi
 use Rattle.value.proofs.gather.Goals as goal
 
 -- the element as it was, and the sum
+
 pub returns-then-sums-k : goal.returns-then-sums-k
 returns-then-sums-k c = no_place _ _ _ c.if-sums-k.true
 
@@ -24,11 +25,6 @@ returns-then-not-is_count c =
     let counted : c.is_count.result ≡ is_count (get_or c.args.sums.now c.args.k (pos 0)) = c.is_count.ensures ∙ rw (back c.old-1.given) in
     no-count _ _ _ (sym counted ∙ not-true _ c.if-not-is_count.true-raw)
 
-pub aligned-requires : goal.aligned-requires
-aligned-requires c =
-    let in-range : in_range c.args.v ≡ true = let e = c in sym e.in_range.ensures ∙ not-false _ e.if-not-in_range.false-raw in
-    in-range
-
 pub plus-sum-requires : goal.plus-sum-requires
 plus-sum-requires c =
     let counted : c.is_count.result ≡ is_count (get_or c.args.sums.now c.args.k (pos 0)) = c.is_count.ensures ∙ rw (back c.old-1.given) in
@@ -38,8 +34,8 @@ plus-sum-requires c =
     rw (back t.old-1.given, back c.aligned.type_inv, c.aligned.ensures)
     (omega (arith, count-is _ is-count, millionths-small _ in-range))
 
-pub returns-in-Some : goal.returns-in-Some
-returns-in-Some c =
+pub returns : goal.returns
+returns c =
     let counted : c.is_count.result ≡ is_count (get_or c.args.sums.now c.args.k (pos 0)) = c.is_count.ensures ∙ rw (back c.old-1.given) in
     let in-range : in_range c.args.v ≡ true = let e = c in sym e.in_range.ensures ∙ not-false _ e.if-not-in_range.false-raw in
     let is-count : is_count (get_or c.args.sums.now c.args.k (pos 0)) ≡ true = sym counted ∙ not-false _ c.if-not-is_count.false-raw in
@@ -50,11 +46,11 @@ returns-in-Some c =
     let p = m in
     let t = p in
     rw (back p.plus-sum.type_inv, exact)
-    (fits-there _ _ _ _ t.if-sums-k.false in-range is-count (sym summed ∙ c.in-Some.is))
+    (fits-there _ _ _ _ t.if-sums-k.false in-range is-count (sym summed) (rw c.if-is_none.false at c.is_none.ensures))
 
-pub returns-in-None : goal.returns-in-None
-returns-in-None c =
+pub returns-then-is_none : goal.returns-then-is_none
+returns-then-is_none c =
     let exact : c.plus-sum.result ≡ ((get_or c.args.sums.now c.args.k (pos 0)) +ℤ millionths c.args.v) = let a = c in
     c.plus-sum.ensures ∙ rw (back a.old-1.given, back a.aligned.type_inv, a.aligned.ensures) in
     let summed : c.of_millionths.result ≡ of_millionths ((get_or c.args.sums.now c.args.k (pos 0)) +ℤ millionths c.args.v) = c.of_millionths.ensures ∙ rw (back c.plus-sum.type_inv, exact) in
-    no-fit _ _ _ (sym summed ∙ c.in-None.is)
+    no-fit _ _ _ _ (sym summed) (rw c.if-is_none.true at c.is_none.ensures)

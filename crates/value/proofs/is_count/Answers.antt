@@ -5,4 +5,4 @@ use Rattle.value.proofs.is_count.Goals as goal
 
 pub returns : goal.returns
 unfolding is_count
-returns c = rw (c.magnitude.ensures, back c.ranges.z.sfits, c.count_limit.ensures)
+returns c = rw (c.unsigned_abs.ensures.value, back c.ranges.z.sfits, c.count_limit.ensures)

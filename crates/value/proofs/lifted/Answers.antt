@@ -1,32 +1,16 @@
 -- `value::lifted` meets its contract.
 use mathlib.Core.Path.{◌∙◌}
 use Prim.Native.Nat.{◌*◌, ◌<◌, ◌^◌}
-use native.Mathlib.Omega.{arith}
-use lib.IntN.{pos}
 use mir.Syntax.{w64}
 use mir.Facts.{to_z_pos}
-use Rattle.value.proofs.Integers.{sfits}
-use Rattle.value.proofs.Powers.{lift-zero, lift-large, lift-high, lift-small}
+use Rattle.value.proofs.Powers.{lift-large, lift-high, lift-small}
 use Rattle.value.proofs.lifted.Goals as goal
-
-pub returns-then-x-eq0 : goal.returns-then-x-eq0
-returns-then-x-eq0 c = c.normalise.ensures ∙ lift-zero _ _ c.if-x-eq0.true
 
 pub returns-then-x-gt-MANTISSA_LIMIT : goal.returns-then-x-gt-MANTISSA_LIMIT
 returns-then-x-gt-MANTISSA_LIMIT c = search lift-large depth 5
 
 pub returns-then-k-gt-LARGEST_POWER : goal.returns-then-k-gt-LARGEST_POWER
 returns-then-k-gt-LARGEST_POWER c = search lift-high depth 6
-
-pub overflow_mul-x : goal.overflow_mul-x
-overflow_mul-x c =
-    let small : c.args.x * c.power.result < 2 ^ 63 = search lift-small depth 8 in
-    record { fits = omega (arith, small) }
-
-pub overflow_cast-x : goal.overflow_cast-x
-overflow_cast-x c =
-    let small : c.args.x * c.power.result < 2 ^ 63 = search lift-small depth 8 in
-    sfits (pos (c.args.x * c.power.result)) small
 
 pub returns : goal.returns
 returns c =

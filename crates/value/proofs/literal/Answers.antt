@@ -1,22 +1,13 @@
 -- `value::literal` meets its contract.
-use native.Mathlib.Omega.{arith}
-use lib.ListN.{length-take}
-use Rattle.value.proofs.Powers.{literal-alone, literal-raised, literal-none, power_small}
+use mathlib.Core.Path.{sym, ◌∙◌}
+use Rattle.value.proofs.Powers.{literal-alone, literal-raised, literal-none}
 use Rattle.value.proofs.literal.Goals as goal
 
-pub returns-then-n-e : goal.returns-then-n-e
-returns-then-n-e c = search literal-alone depth 7
+pub returns-in_default : goal.returns-in_default
+returns-in_default c = literal-alone _ _ (sym c.in_default.is ∙ c.first.ensures) c.decimal.ensures
 
-pub slice_bounds-decimal-end : goal.slice_bounds-decimal-end
-slice_bounds-decimal-end c =
-    let e = c in
-    omega (arith, length-take e.letter-e.result e.args.t.now)
+pub returns-in_err-minus : goal.returns-in_err-minus
+returns-in_err-minus c = literal-none _ _ _ (sym c.in-Some.is ∙ c.first.ensures) _ c.power_of.ensures c.in_err-minus.was c.from_residual.ensures
 
-pub decimal-requires-in-Some : goal.decimal-requires-in-Some
-decimal-requires-in-Some c = search power_small depth 6
-
-pub returns-in-Some : goal.returns-in-Some
-returns-in-Some c = search literal-raised depth 10
-
-pub returns-in-None : goal.returns-in-None
-returns-in-None c = search literal-none depth 9
+pub returns : goal.returns
+returns c = literal-raised _ _ _ (sym c.in-Some.is ∙ c.first.ensures) _ _ _ c.power_of.ensures c.in_ok-minus.was c.decimal-2.ensures

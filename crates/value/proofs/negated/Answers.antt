@@ -13,6 +13,3 @@ pub returns-then-in_range : goal.returns-then-in_range
 returns-then-in_range c =
     let t = c in
     rw (sym t.in_range.ensures ∙ t.if-in_range.true, back c.minus.type_inv, c.minus.ensures, back c.struct_told-1.given.0.1) (negate-is _)
-
-pub returns : goal.returns
-returns c = rw (sym c.in_range.ensures ∙ c.if-in_range.false)

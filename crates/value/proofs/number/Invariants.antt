@@ -5,8 +5,5 @@ use lib.ListN.{length, drop}
 use Rattle.value.specs.Literal.{number_from}
 use Rattle.value.proofs.number.Given as goal
 
-abbrev pub invariant-loop-i : goal.invariant-loop-i
-invariant-loop-i l = (l.i ≤ length l.t) × ((l.x + 1) * 10 ^ (length l.t - l.i) ≤ 10 ^ 18) × (number_from l.x (drop l.i l.t) ≡ number_from l.m l.t)
-
-abbrev pub decreases-loop-i : goal.decreases-loop-i
-decreases-loop-i l = length l.t - l.i
+abbrev pub invariant-loop-b : goal.invariant-loop-b
+invariant-loop-b l = ((l.x + 1) * 10 ^ (length l.t - l.b-index) ≤ 10 ^ 18) × (number_from l.x (drop l.b-index l.t) ≡ number_from l.m l.t)

@@ -1,15 +1,16 @@
 -- `value::power_of` meets its contract.
+use native.Mathlib.Omega.{arith}
 use Rattle.value.proofs.Powers.{power-empty, power-minus, power-plus, power-plain}
 use Rattle.value.proofs.power_of.Goals as goal
 
-pub returns-then-t-eq0 : goal.returns-then-t-eq0
-returns-then-t-eq0 c = search power-empty depth 5
+pub returns-in_err-first : goal.returns-in_err-first
+returns-in_err-first c = rw c.from_residual.ensures (power-empty _ c.in_err-first.ensures.value)
 
-pub returns-then-b-eq45 : goal.returns-then-b-eq45
-returns-then-b-eq45 c = search power-minus depth 7
+pub returns-in-45 : goal.returns-in-45
+returns-in-45 c = power-minus _ _ _ c.in_ok-first.ensures.value c.in-45.is c.power_by.ensures
 
-pub returns-then-b-eq43 : goal.returns-then-b-eq43
-returns-then-b-eq43 c = search power-plus depth 8
+pub returns-in-43 : goal.returns-in-43
+returns-in-43 c = power-plus _ _ _ c.in_ok-first.ensures.value c.in-43.is c.power_by-in-43.ensures
 
-pub returns : goal.returns
-returns c = search power-plain depth 8
+pub returns-in_default : goal.returns-in_default
+returns-in_default c = power-plain _ _ _ c.in_ok-first.ensures.value (λ e. omega arith) (λ e. omega arith) c.power_by-in_default.ensures

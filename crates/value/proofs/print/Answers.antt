@@ -3,9 +3,6 @@ use mathlib.Core.Path.{sym, ◌∙◌}
 use Rattle.value.proofs.Writing.{written_none, shown-printed, shown-none}
 use Rattle.value.proofs.print.Goals as goal
 
-pub put_value-requires : goal.put_value-requires
-put_value-requires c = sym c.in_range.ensures ∙ c.if-in_range.true
-
 pub returns-then-in_range : goal.returns-then-in_range
 returns-then-in_range c =
     let p = c in

@@ -33,5 +33,5 @@ returns c =
     let a = q in
     let s = a in
     let b = back {z = s.args.v.m} a.struct_told-1.given.0.1 in
-    rw (printed-parts s.args.v a.magnitude-x.result (a.magnitude-x.result / q.power.result) w.width_of.result (a.magnitude-x.ensures ∙ rw b) (rw q.power.ensures) w.width_of.ensures.0)
+    rw (printed-parts s.args.v a.unsigned_abs-x.result (a.unsigned_abs-x.result / q.power.result) w.width_of.result (a.unsigned_abs-x.ensures.value ∙ rw b) (rw q.power.ensures) w.width_of.ensures.0)
     (written_then _ _ _ _ _ _ _ _ (rw b at g.put_sign-at.ensures) (written_then _ _ _ _ _ _ _ _ d.put_digits-mid.ensures p.put_places.ensures))

@@ -8,8 +8,5 @@ use Rattle.value.proofs.quotient.Goals as goal
 pub nonzero_div-result : goal.nonzero_div-result
 nonzero_div-result c = omega (arith, c.power.ensures, one-le-pow c.args.s 10 (lit< tt))
 
-pub returns-then-s-lt19 : goal.returns-then-s-lt19
-returns-then-s-lt19 c = rw c.power.ensures
-
 pub returns : goal.returns
 returns c = quotient-none _ _ c.requires c.if-s-lt19.false

@@ -12,6 +12,7 @@ use Rattle.value.proofs.Operations.{power_small, scaled_small}
 use Rattle.value.proofs.scaled.Goals as goal
 
 -- what `power` gave is small
+
 pub power-requires : goal.power-requires
 unfolding scale_limit
 power-requires c = omega (arith, c.requires.1)

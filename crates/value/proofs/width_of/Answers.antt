@@ -1,12 +1,9 @@
 -- `value::width_of` meets its contract.
 use Prim.Native.Nat.{◌+◌, ◌-◌}
-use mathlib.Core.Path.{◌≡◌, refl, sym, ◌∙◌}
+use mathlib.Core.Path.{◌≡◌, sym, ◌∙◌}
 use native.Mathlib.Omega.{arith}
 use Rattle.value.proofs.Writing.{width-stop, width-end, width-next}
 use Rattle.value.proofs.width_of.Goals as goal
-
-pub loop-w-init : goal.loop-w-init
-loop-w-init c = (omega arith, omega arith, refl)
 
 pub returns-then-n-power : goal.returns-then-n-power
 returns-then-n-power c =
@@ -21,5 +18,5 @@ loop-w-preserved c =
 
 pub returns : goal.returns
 returns c =
-    let l = c in
-    (sym (width-end (18 - l.loop-w.w) l.loop-w.w l.args.n (omega arith)) ∙ l.loop-w.invariant.2, omega arith)
+    let w : c.loop-w.w ≡ 18 = omega arith in
+    (sym w ∙ sym (width-end (18 - c.loop-w.w) c.loop-w.w c.args.n (omega arith)) ∙ c.loop-w.invariant.2, omega arith)

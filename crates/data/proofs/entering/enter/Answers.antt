@@ -3,11 +3,11 @@ use Rattle.data.proofs.Rows.{enter-present, enter-full, enter-done}
 use borrow.Author.Rules.{rules}
 use Rattle.data.proofs.entering.enter.Goals as goal
 
-pub returns-in-Done : goal.returns-in-Done
-returns-in-Done c = search (enter-done, rules) depth 8
+pub returns-in-Ok : goal.returns-in-Ok
+returns-in-Ok c = search (enter-done, rules) depth 8
 
-pub returns-in-Present : goal.returns-in-Present
-returns-in-Present c = search enter-present depth 7
+pub returns-in-Err-Present : goal.returns-in-Err-Present
+returns-in-Err-Present c = search (enter-present, rules) depth 8
 
-pub returns-in-NoRoom : goal.returns-in-NoRoom
-returns-in-NoRoom c = search (enter-full, rules) depth 7
+pub returns-in-Err-NoRoom : goal.returns-in-Err-NoRoom
+returns-in-Err-NoRoom c = search (enter-full, rules) depth 8

@@ -5,8 +5,8 @@ use Rattle.data.proofs.layouts.pass_entry.Goals as goal
 pub returns-in_default : goal.returns-in_default
 returns-in_default c = search pass-lower depth 6
 
-pub returns-in_default-token : goal.returns-in_default-token
-returns-in_default-token c = search pass-token depth 8
+pub returns-in_default-token_at : goal.returns-in_default-token_at
+returns-in_default-token_at c = search pass-token depth 8
 
 pub returns-in_default-upper : goal.returns-in_default-upper
 returns-in_default-upper c = search pass-upper depth 12

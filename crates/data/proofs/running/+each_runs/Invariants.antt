@@ -11,6 +11,3 @@ decreases-runs l = 2 * (5 - l.k)
 
 abbrev pub invariant-each-loop-i : goal.invariant-each-loop-i
 invariant-each-loop-i l = EachOn l.names l.tokens l.initial.table l.given l.at l.x l.k l.bound l.l l.n l.a l.count l.i l.table
-
-abbrev pub decreases-each-loop-i : goal.decreases-each-loop-i
-decreases-each-loop-i l = l.n - l.i

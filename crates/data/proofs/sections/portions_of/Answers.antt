@@ -1,28 +1,22 @@
 -- `sections::portions_of` meets its contract.
-use native.Mathlib.Omega.{arith}
+use Rattle.std.proofs.lemmas.Result.{err_from_is_err_and}
 use Rattle.data.proofs.Filling.{portions-start, portions-none, portions-refused, portions-wrong, portions-end, portions-on}
 use Rattle.data.proofs.sections.portions_of.Goals as goal
 
-pub loop-left-init : goal.loop-left-init
-loop-left-init c = search portions-start depth 4
+pub loop-init : goal.loop-init
+loop-init c = search portions-start depth 4
 
-pub returns-in_default : goal.returns-in_default
-returns-in_default c = search portions-refused depth 8
+pub returns-in_err-next : goal.returns-in_err-next
+returns-in_err-next c = let p = err_from_is_err_and c.from_residual.result c.from_residual.ensures.1 in rw (p.1, p.2, ← c.in_err-next.was) (search (portions-refused, c.in_err-next.was) depth 8)
 
-pub returns-then-k-ne-NAME : goal.returns-then-k-ne-NAME
-returns-then-k-ne-NAME c = search portions-end depth 11
+pub returns-in_err-token : goal.returns-in_err-token
+returns-in_err-token c = let p = err_from_is_err_and c.from_residual-in_err-token.result c.from_residual-in_err-token.ensures.1 in rw (p.1, p.2) (search (portions-wrong, c.in_ok-next.was, c.in_err-token.was) depth 10)
 
-pub overflow_sub-left : goal.overflow_sub-left
-overflow_sub-left c = omega arith
+pub returns-then-token-ne-NAME : goal.returns-then-token-ne-NAME
+returns-then-token-ne-NAME c = search (portions-end, c.in_ok-next.was, c.in_ok-token.was) depth 11
 
-pub loop-left-smaller : goal.loop-left-smaller
-loop-left-smaller c = omega arith
-
-pub loop-left-preserved : goal.loop-left-preserved
-loop-left-preserved c = search portions-on depth 11
-
-pub returns-in-Refused : goal.returns-in-Refused
-returns-in-Refused c = search portions-wrong depth 10
+pub loop-preserved : goal.loop-preserved
+loop-preserved c = search (portions-on, c.in_ok-next.was, c.in_ok-token.was) depth 11
 
 pub returns : goal.returns
 returns c = search portions-none depth 5

@@ -7,7 +7,4 @@ use Rattle.listing.proofs.sheet.column.Given as goal
 
 abbrev pub invariant-loop-i : goal.invariant-loop-i
 invariant-loop-i l =
-    (l.i ≤ l.rows) × (l.next ≤ l.at + 128 * l.i) × Left l.initial.out l.at (shown_lines (column_from l.matrix l.less l.j l.rows 0)) l.out l.next (shown_lines (column_from l.matrix l.less l.j (l.rows - l.i) l.i))
-
-abbrev pub decreases-loop-i : goal.decreases-loop-i
-decreases-loop-i l = l.rows - l.i
+    (l.next ≤ l.at + 128 * l.i) × Left l.initial.out l.at (shown_lines (column_from l.matrix l.less l.j l.rows 0)) l.out l.next (shown_lines (column_from l.matrix l.less l.j (l.rows - l.i) l.i))

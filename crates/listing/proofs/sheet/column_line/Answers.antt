@@ -7,13 +7,10 @@ use Rattle.listing.proofs.sheet.column_line.Goals as goal
 
 pub overflow_add-result : goal.overflow_add-result
 overflow_add-result c =
-    let d = c in
-    omega (arith, d.column.ensures.next, line-most (col_line d.args.variable d.args.row d.args.v))
+    omega (arith, c.column.ensures.next, line-most (col_line c.args.variable c.args.row c.args.v))
 
 pub returns : goal.returns
-returns c =
-    let d = c in
-    let f = d in (
-      written_from _ _ _ _ _ _ f.rest_from-from.ensures d.column.ensures,
-      omega (arith, d.column.ensures.next, line-most (col_line f.args.variable f.args.row f.args.v)),
-    )
+returns c = (
+  written_from _ _ _ _ _ _ c.rest_from-from.ensures c.column.ensures,
+  omega (arith, c.column.ensures.next, line-most (col_line c.args.variable c.args.row c.args.v)),
+)

@@ -7,15 +7,11 @@ use Rattle.listing.proofs.sheet.floor_line.Goals as goal
 
 pub overflow_add-result : goal.overflow_add-result
 overflow_add-result c =
-    let d = c in
-    let f = d in
-    omega (arith, d.low.ensures.next, line-most (low_line f.args.row f.in-Some.v))
+    omega (arith, c.low.ensures.next, line-most (low_line c.args.row c.in-Some.v))
 
 pub returns-in-None : goal.returns-in-None
 returns-in-None c = low-none _ _ _ _ c.in-None.is
 
 pub returns-in-Some : goal.returns-in-Some
 returns-in-Some c =
-    let d = c in
-    let f = d in
-    low-written _ _ _ f.rest_from-from.ensures _ _ _ f.in-Some.is d.low.ensures
+    low-written _ _ _ c.rest_from-from.ensures _ _ _ c.in-Some.is c.low.ensures

@@ -10,5 +10,4 @@ overflow_add-result c = omega (arith, c.end.ensures.next, line-most ending_line)
 
 pub returns : goal.returns
 returns c =
-    let d = c in
-    written_from _ _ _ _ _ _ d.rest_from-from.ensures d.end.ensures
+    written_from _ _ _ _ _ _ c.rest_from-from.ensures c.end.ensures

@@ -1,22 +1,28 @@
 -- `missing::domain_given` meets its contract: the elements from the step on are still to be asked.
-use Rattle.elements.proofs.Loops.{next-less}
-use Rattle.problem.proofs.missing.Elements.{asking-first, asking-next, asked-all, asked-stopped, asked-missing}
+use Rattle.std.proofs.lemmas.Result.{err_from_is_err_and}
+use Rattle.matrix.proofs.Looping.{step-falls}
+use Rattle.problem.proofs.missing.Elements.{asking-first, asking-next, asked-none, asked-all, asked-stopped, asked-missing}
 use Rattle.problem.proofs.missing.domain_given.Goals as goal
 
+pub returns-in_err-step : goal.returns-in_err-step
+returns-in_err-step c = let p = err_from_is_err_and c.from_residual.result c.from_residual.ensures.1 in rw (p.1, p.2) (search (asked-none, c.in_err-step.was) depth 6)
+
 pub loop-step-init : goal.loop-step-init
-loop-step-init c = asking-first _ _ _ _ _ _ _ _ c.word_of-count.ensures c.word_of-at.ensures c.first-step.ensures
+loop-step-init c = search (asking-first, c.in_ok-step.was) depth 7
 
 pub returns-then-not-is_given : goal.returns-then-not-is_given
-returns-then-not-is_given c = asked-missing _ _ _ _ _ _ c.loop-step.invariant _ c.in-At.is _ c.element.ensures _ c.is_given.ensures c.if-not-is_given.true-raw _ c.word_of-place.ensures
+returns-then-not-is_given c = search asked-missing depth 9
+
+pub returns-in_err-step-2 : goal.returns-in_err-step-2
+returns-in_err-step-2 c =
+    let p = err_from_is_err_and c.from_residual-in_err-step-2.result c.from_residual-in_err-step-2.ensures.1 in
+    rw (p.1, p.2) (search (asked-stopped, c.in_err-step-2.was) depth 10)
 
 pub loop-step-smaller : goal.loop-step-smaller
-loop-step-smaller c = next-less _ _ _ _ _ _ _ _ c.in-At.is c.next-step.ensures
+loop-step-smaller c = step-falls _ _ _ _ _ _ c.loop-step.step c.in_ok-step-2.step _ c.in-Some.is c.next.ensures (search c.in_ok-step-2.was)
 
 pub loop-step-preserved : goal.loop-step-preserved
-loop-step-preserved c = asking-next _ _ _ _ _ _ c.loop-step.invariant _ c.in-At.is _ c.element.ensures _ c.is_given.ensures c.if-not-is_given.false-raw _ c.next-step.ensures
+loop-step-preserved c = search (asking-next, c.in_ok-step-2.was) depth 11
 
-pub returns-in-Done : goal.returns-in-Done
-returns-in-Done c = asked-all _ _ _ _ _ _ c.loop-step.invariant c.in-Done.is
-
-pub returns-in-Refused : goal.returns-in-Refused
-returns-in-Refused c = asked-stopped _ _ _ _ _ _ c.loop-step.invariant _ _ c.in-Refused.is
+pub returns : goal.returns
+returns c = search asked-all depth 5

@@ -1,6 +1,5 @@
 -- `scanner::fill` meets its contract.
 use native.Mathlib.Omega.{arith}
-use lib.ListN.{length-set}
 use Rattle.tokens.proofs.scanner.Filling.{filling-start, turn-packs, turn-place, filling-more, filling-last, filling-out}
 use Rattle.tokens.proofs.scanner.fill.Goals as goal
 
@@ -10,20 +9,13 @@ loop-i-init c = search filling-start depth 6
 pub word-requires : goal.word-requires
 word-requires c = (search turn-packs depth 6, search turn-place depth 6)
 
-pub shape_of-table-then-last : goal.shape_of-table-then-last
-shape_of-table-then-last c = simp length-set c.loop-i.invariant.size
-
-pub returns-then-last : goal.returns-then-last
-returns-then-last c = search filling-last depth 10
-
-pub loop-i-smaller : goal.loop-i-smaller
-loop-i-smaller c = omega arith
+pub returns-then-is_last : goal.returns-then-is_last
+returns-then-is_last c =
+    filling-last _ _ _ _ _ _ c.loop-i.invariant c.next-read.ensures _ (omega (arith, c.loop-i.invariant.size)) c.word.ensures _ c.is_last.ensures c.if-is_last.true
 
 pub loop-i-preserved : goal.loop-i-preserved
-loop-i-preserved c = search filling-more depth 10
-
-pub shape_of-table : goal.shape_of-table
-shape_of-table c = c.loop-i.invariant.size
+loop-i-preserved c =
+    filling-more _ _ _ _ _ _ c.loop-i.invariant c.next-read.ensures _ (omega (arith, c.loop-i.invariant.size)) c.word.ensures _ c.is_last.ensures c.if-is_last.false
 
 pub returns : goal.returns
-returns c = search filling-out depth 6
+returns c = filling-out _ _ _ _ _ _ c.loop-i.invariant (omega (arith, c.loop-i.invariant.size)) c.loop-i.invariant.size

@@ -3,9 +3,6 @@ use native.Mathlib.Omega.{arith}
 use Rattle.tokens.proofs.scanner.Words.{value-small, plain_back}
 use Rattle.tokens.proofs.scanner.value_payload.Goals as goal
 
-pub overflow_cast-result : goal.overflow_cast-result
-overflow_cast-result c = rw (plain_back _ c.requires) (tt, record { fits = omega (arith, value-small _ c.requires) })
-
 pub overflow_mul-result : goal.overflow_mul-result
 overflow_mul-result c = rw (plain_back _ c.requires) (record { fits = omega (arith, value-small _ c.requires) })
 

@@ -1,12 +1,13 @@
 -- `ends::end` meets its contract.
+use Rattle.std.proofs.lemmas.Result.{err_from_is_err_and}
 use Rattle.data.proofs.reading.Steps.{end-wrong, end-yes, end-no}
 use Rattle.data.proofs.reading.ends.end.Goals as goal
 
-pub returns-then-k-eq-END : goal.returns-then-k-eq-END
-returns-then-k-eq-END c = search end-yes depth 7
+pub returns-in_err-token : goal.returns-in_err-token
+returns-in_err-token c = let p = err_from_is_err_and c.from_residual.result c.from_residual.ensures.1 in rw (p.1, p.2) (search (end-wrong, c.in_err-token.was) depth 6)
 
-pub returns-else-k-eq-END : goal.returns-else-k-eq-END
-returns-else-k-eq-END c = search end-no depth 7
+pub returns-then-token-ne-END : goal.returns-then-token-ne-END
+returns-then-token-ne-END c = search (end-no, c.in_ok-token.was) depth 7
 
-pub returns-in-Refused : goal.returns-in-Refused
-returns-in-Refused c = search end-wrong depth 6
+pub returns : goal.returns
+returns c = search (end-yes, c.in_ok-token.was) depth 7

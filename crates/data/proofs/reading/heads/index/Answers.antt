@@ -1,12 +1,13 @@
 -- `heads::index` meets its contract.
+use Rattle.std.proofs.lemmas.Result.{err_from_is_err_and}
 use Rattle.data.proofs.reading.Steps.{index-wrong, index-yes, index-other}
 use Rattle.data.proofs.reading.heads.index.Goals as goal
 
-pub returns-then-sort-eq-INDEX : goal.returns-then-sort-eq-INDEX
-returns-then-sort-eq-INDEX c = search index-yes depth 7
+pub returns-in_err-name : goal.returns-in_err-name
+returns-in_err-name c = let p = err_from_is_err_and c.from_residual.result c.from_residual.ensures.1 in rw (p.1, p.2) (search (index-wrong, c.in_err-name.was) depth 6)
 
-pub returns-else-sort-eq-INDEX : goal.returns-else-sort-eq-INDEX
-returns-else-sort-eq-INDEX c = search index-other depth 7
+pub returns-then-name-ne-INDEX : goal.returns-then-name-ne-INDEX
+returns-then-name-ne-INDEX c = search (index-other, c.in_ok-name.was) depth 7
 
-pub returns-in-Refused : goal.returns-in-Refused
-returns-in-Refused c = search index-wrong depth 6
+pub returns : goal.returns
+returns c = search (index-yes, c.in_ok-name.was) depth 7

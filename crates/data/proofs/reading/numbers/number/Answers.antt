@@ -1,12 +1,13 @@
 -- `numbers::number` meets its contract.
+use Rattle.std.proofs.lemmas.Result.{err_from_is_err_and}
 use Rattle.data.proofs.reading.Steps.{number-wrong, number-yes, number-no}
 use Rattle.data.proofs.reading.numbers.number.Goals as goal
 
-pub returns-then-k-minus : goal.returns-then-k-minus
-returns-then-k-minus c = search number-yes depth 8
+pub returns-in_err-token : goal.returns-in_err-token
+returns-in_err-token c = let p = err_from_is_err_and c.from_residual.result c.from_residual.ensures.1 in rw (p.1, p.2) (search (number-wrong, c.in_err-token.was) depth 6)
 
-pub returns-else-k-minus : goal.returns-else-k-minus
-returns-else-k-minus c = search number-no depth 7
+pub returns-then-token-minus : goal.returns-then-token-minus
+returns-then-token-minus c = search (number-yes, c.in_ok-token.was) depth 8
 
-pub returns-in-Refused : goal.returns-in-Refused
-returns-in-Refused c = search number-wrong depth 6
+pub returns : goal.returns
+returns c = search (number-no, c.in_ok-token.was) depth 7

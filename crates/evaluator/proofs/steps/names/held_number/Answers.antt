@@ -2,11 +2,11 @@
 use Rattle.evaluator.proofs.steps.Numbers.{kept-name, kept-beyond, kept-nothing}
 use Rattle.evaluator.proofs.steps.names.held_number.Goals as goal
 
-pub returns-then-i-lt-NAME_LIMIT : goal.returns-then-i-lt-NAME_LIMIT
-returns-then-i-lt-NAME_LIMIT c = kept-name _ _ _ _ c.in-Name.is c.if-i-lt-NAME_LIMIT.true
+pub returns-in_default : goal.returns-in_default
+returns-in_default c = search kept-nothing depth 6
 
-pub returns-else-i-lt-NAME_LIMIT : goal.returns-else-i-lt-NAME_LIMIT
-returns-else-i-lt-NAME_LIMIT c = kept-beyond _ _ _ _ c.in-Name.is c.if-i-lt-NAME_LIMIT.false
+pub returns-then-found-ge-NAME_LIMIT : goal.returns-then-found-ge-NAME_LIMIT
+returns-then-found-ge-NAME_LIMIT c = kept-beyond _ _ c.in-Some.is c.if-found-ge-NAME_LIMIT.true
 
-pub returns-in-Nothing : goal.returns-in-Nothing
-returns-in-Nothing c = search kept-nothing depth 6
+pub returns : goal.returns
+returns c = kept-name _ _ c.in-Some.is c.if-found-ge-NAME_LIMIT.false

@@ -12,7 +12,7 @@ pub returns-then-not-is_small-2 : goal.returns-then-not-is_small-2
 returns-then-not-is_small-2 c = search length_high depth 6
 
 pub span-requires : goal.span-requires
-span-requires c = span_small _ _ _ _ c.is_small.ensures c.if-not-is_small.false-raw c.is_small-2.ensures c.if-not-is_small-2.false-raw c.if-b-a.false
+span-requires c = search span_small depth 9
 
 pub returns : goal.returns
 returns c = search length-span depth 12

@@ -1,22 +1,16 @@
 -- `few::Few::at` meets its contract.
-use Rattle.data.proofs.reading.Lists.{at-past, at_first, at_second, at-third, at-fourth, at-beyond}
 use native.Mathlib.Omega.{arith}
+use Rattle.data.proofs.reading.Lists.{at-past, at-kept, length-few}
 use Rattle.data.proofs.reading.few.Few.at.Goals as goal
 
-pub returns-then-n-i : goal.returns-then-n-i
-returns-then-n-i c = search at-past
+pub returns-then-length-i : goal.returns-then-length-i
+returns-then-length-i c = search at-past
 
-pub returns-in-0 : goal.returns-in-0
-returns-in-0 c = search at_first
+pub bounds-self-i : goal.bounds-self-i
+bounds-self-i c = omega (arith, length-few c.args.self)
 
-pub returns-in-1 : goal.returns-in-1
-returns-in-1 c = search at_second
+pub offset_bounds-self-i : goal.offset_bounds-self-i
+offset_bounds-self-i c = omega (arith, length-few c.args.self)
 
-pub returns-in-2 : goal.returns-in-2
-returns-in-2 c = search at-third
-
-pub returns-in-3 : goal.returns-in-3
-returns-in-3 c = search at-fourth
-
-pub returns-in_default : goal.returns-in_default
-returns-in_default c = at-beyond _ _ (omega arith)
+pub returns : goal.returns
+returns c = search at-kept

@@ -3,4 +3,4 @@ use Rattle.data.proofs.reading.Lists.{holds-none}
 use Rattle.data.proofs.reading.few.Few.none.Goals as goal
 
 pub returns : goal.returns
-returns c = holds-none _ _ _ _
+returns c = search holds-none

@@ -1,8 +1,0 @@
--- `rows::word` meets its contract.
-use mathlib.Core.Path.{sym}
-use native.Mathlib.Omega.{arith}
-use lib.ListN.{get_or-eq_default}
-use Rattle.rows.proofs.word.Goals as goal
-
-pub returns : goal.returns
-returns c = sym (get_or-eq_default c.args.table.now 0 (omega arith))
