@@ -76,11 +76,11 @@ POINTS = [
     ('3 loops that count by hand', lambda: finds(r'^ +while .*$')),
     ('4 equality, order, conversion, printing by hand', lambda: finds(r'^ *(?:pub )?fn (?:same_bytes|same_name|at_most|is_zero|of_whole|whole_of|number|refusal|print|kind_number|mark|negated|is_at|is_below|key_at)\(')),
     ('5 text, names and tokens side by side', lambda: together('text: &\\[u8\\]', 'names: &\\[u64\\]', 'tokens: &\\[u64\\]')),
-    ('5 names, tokens and table side by side', lambda: together('names: &\\[u64\\]', 'tokens: &\\[u64\\]', 'table: &(?:mut )?\\[u64')),
+    ('5 names, tokens and table side by side', lambda: together('names: &\\[u64\\]', 'tokens: &\\[u64\\]', 'table: &(?:mut )?\\[(?:u64|Row)')),
     ('5 out and at side by side', lambda: together('out: &mut \\[u8\\]', '(?:at|place): usize')),
     ('6 at most four values and their count', lambda: finds(r'^ +(?:pub )?count: usize,\n +(?:pub )?(?:a|first): \w+,')),
     ('6 tables of words', lambda: ((f, l, 'fn ' + n) for f, l, n, b in functions() if re.search(r'&(?:mut )?\[u64', re.split(r'\n *(?:ensures|requires)', b)[0]))),
-    ('6 a table with its length beside', lambda: ((f, l, 'fn ' + n) for f, l, n, b in functions() if re.search(r'table: &(?:mut )?\[u64[^)]*(?:given|\bn|from): usize', re.split(r'\n *(?:ensures|requires)', b)[0], re.S))),
+    ('6 a table with its length beside', lambda: ((f, l, 'fn ' + n) for f, l, n, b in functions() if re.search(r'\b(?:table|variables): &(?:mut )?\[(?:u64|Row)[^)]*(?:given|\bn|from|total|rows): usize', re.split(r'\n *(?:ensures|requires)', b)[0], re.S))),
     ('7 a parameter that says which step to run', lambda: ((f, l, 'fn ' + n) for f, l, n, b in functions() if re.search(r'\b(?:greatest|away|class|kind|floor|minus|equal): (?:bool|Class|Kind|Report|Entry)', re.split(r'\n *(?:ensures|requires)', b)[0]))),
 ]
 

@@ -5,7 +5,7 @@
 
 mod frames;
 
-ghost use Rattle.std.specs.Prelude.{◌≡◌, [], ◌∷◌, ◌+◌, ◌<◌, ◌≤◌, ◌^◌, length};
+ghost use Rattle.std.specs.Prelude.{◌≡◌, ◌∷◌, ◌+◌, ◌<◌, ◌≤◌, ◌^◌, length};
 ghost use Rattle.rules.specs.Characters.{tab};
 ghost use Rattle.value.specs.Printed.{Written};
 ghost use Rattle.listing.specs.Shown.{shown_natural};
@@ -17,16 +17,13 @@ use std::io::{Print, Read};
 
 // ---- a line, written as the lines of a listing are
 
-// Writes b at a place, or past the end nothing; the next place.
-fn put(out: &mut [u8], at: usize, b: u8) -> usize
+// The output and a place in it travel side by side, as in crate `listing`.
+fn put(t: &[u8], out: &mut [u8], at: usize) -> usize
     requires { at < 2 ^ 31 }
-    ensures { Written out.old at (b ∷ []) result out.new }
+    ensures { Written out.old at t.now result out.new }
 {
-    if out.len() <= at {
-        return at + 1;
-    }
-    out[at] = b;
-    at + 1
+    let from = listing::rest_from(out.len(), at);
+    at + listing::text(t, &mut out[from..])
 }
 
 fn digits(out: &mut [u8], at: usize, n: usize) -> usize
@@ -37,14 +34,14 @@ fn digits(out: &mut [u8], at: usize, n: usize) -> usize
         return at;
     }
     let from = listing::rest_from(out.len(), at);
-    at + value::print(value::of_whole(n as i64), &mut out[from..])
+    at + value::print(value::Value::from(n as i64), &mut out[from..])
 }
 
 fn field(out: &mut [u8], at: usize, n: usize) -> usize
     requires { at < 2 ^ 29 }
     ensures { (Written out.old at (tab ∷ shown_natural n) result out.new) × (result ≤ at + 27) }
 {
-    let next = put(out, at, b'\t');
+    let next = put(b"\t", out, at);
     digits(out, next, n)
 }
 
@@ -55,7 +52,7 @@ fn line(number: usize, place: usize, length: usize, behind: usize, out: &mut [u8
     let at = field(out, at, place);
     let at = field(out, at, length);
     let at = field(out, at, behind);
-    put(out, at, b'\n')
+    put(b"\n", out, at)
 }
 
 fn one(b: u8) -> usize

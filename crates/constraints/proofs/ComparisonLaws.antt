@@ -10,6 +10,8 @@ use Rattle.lexer.specs.Text.{Token}
 use Rattle.language.specs.Outcome.{refused}
 use Rattle.language.specs.Syntax.{Name, Formula, Relation}
 use Rattle.language.specs.Reader.{Reader, follow, ◌>>=◌, give}
+use Rattle.lexer.specs.declared.Mark.{Mark}
+use Rattle.lexer.specs.Numbers.{number}
 use Rattle.language.specs.Grammar.{read_floor}
 use Rattle.tokens.specs.Stored.{from, Named, Moves, Gives}
 use Rattle.tokens.proofs.Moved.{Stood, stood, stuck, Got, got, gives_at, gives-refused, follow-same}
@@ -44,9 +46,9 @@ module _ (s ns ts : List ℕ) (at : ℕ) where
   pub comparison-relation : (e : Refused) → Moves relation_in s ns ts at (Err e) → Moves comparison_in s ns ts at (Err e)
   comparison-relation w h = refuses w (λ names d. one names ∙ ap (λ o. follow o (λ r. right_rest r names)) (stuck relation_in s ns ts at (Err w) h names d w refl))
 
-  module _ (m a : ℕ) (h : Gives relation_in (IsRelation m) s ns ts at (Ok a)) (r : Result ℕ Refused) (h₂ : Moves (formula_in 12) s ns ts a r) where
-    relation-read : (names : List Name) → Named s ns names → Got (relation_in names) (IsRelation m names) s ts at a
-    relation-read names d = got relation_in (IsRelation m) s ns ts at a h names d
+  module _ (m : Mark) (a : ℕ) (h : Gives relation_in (IsRelation (number m)) s ns ts at (Ok a)) (r : Result ℕ Refused) (h₂ : Moves (formula_in 12) s ns ts a r) where
+    relation-read : (names : List Name) → Named s ns names → Got (relation_in names) (IsRelation (number m) names) s ts at a
+    relation-read names d = got relation_in (IsRelation (number m)) s ns ts at a h names d
 
     two : (names : List Name) (d : Named s ns names) → comparison_in names (from s ts at) ≡ follow (formula_in 12 names (from s ts a)) (λ f. floor_rest (relation-read names d).what f names)
     unfolding right_rest
@@ -62,21 +64,21 @@ module _ (s ns ts : List ℕ) (at : ℕ) where
       right-read names d = stood (formula_in 12) s ns ts a r h₂ names d b e₂
 
       three : (names : List Name) (d : Named s ns names)
-          → comparison_in names (from s ts at) ≡ follow (floor_in m names (from s ts b)) (λ q. give (record { relation = q; right = (right-read names d).what }))
+          → comparison_in names (from s ts at) ≡ follow (floor_in (number m) names (from s ts b)) (λ q. give (record { relation = q; right = (right-read names d).what }))
       unfolding floor_rest floor_in
       three names d =
           two names d ∙ ap (λ o. follow o (λ f. floor_rest (relation-read names d).what f names)) (right-read names d).reads
           ∙ ap (λ r. floor_rest r (right-read names d).what names (from s ts b)) (relation-read names d).holds.plain
 
-      pub comparison-low : (e : Refused) → Moves (floor_in m) s ns ts b (Err e) → Moves comparison_in s ns ts at (Err e)
+      pub comparison-low : (e : Refused) → Moves (floor_in (number m)) s ns ts b (Err e) → Moves comparison_in s ns ts at (Err e)
       comparison-low e u =
-          refuses e (λ names d. three names d ∙ ap (λ o. follow o (λ q. give (record { relation = q; right = (right-read names d).what }))) (stuck (floor_in m) s ns ts b (Err e) u names d e refl))
+          refuses e (λ names d. three names d ∙ ap (λ o. follow o (λ q. give (record { relation = q; right = (right-read names d).what }))) (stuck (floor_in (number m)) s ns ts b (Err e) u names d e refl))
 
-      pub comparison-floor : (v : Bool) (j : ℕ) → Gives (floor_in m) (IsFloor m (from s ts b) v) s ns ts b (Ok j) → Gives comparison_in (Compares s ts (record { mark = m; right = a; floor = v })) s ns ts at (Ok j)
+      pub comparison-floor : (v : Bool) (j : ℕ) → Gives (floor_in (number m)) (IsFloor (number m) (from s ts b) v) s ns ts b (Ok j) → Gives comparison_in (Compares s ts (record { mark = m; right = a; floor = v })) s ns ts at (Ok j)
       unfolding formula_in nesting_limit
       comparison-floor v j u =
           gives_at comparison_in (Compares s ts (record { mark = m; right = a; floor = v })) s ns ts at j (λ names d.
-          let w = got (floor_in m) (IsFloor m (from s ts b) v) s ns ts b j u names d in
+          let w = got (floor_in (number m)) (IsFloor (number m) (from s ts b) v) s ns ts b j u names d in
           let y = (relation-read names d).holds in
           record {
             what = record { relation = w.what; right = (right-read names d).what };

@@ -3,23 +3,24 @@ use Rattle.std.specs.Prelude.{Err, Ok, Result}
 use Rattle.rules.specs.declared.Refused.{Refused}
 use mathlib.Core.Path.{◌≡◌, refl, sym, ◌∙◌, ap, subst}
 use mathlib.Core.List.{List, [], ◌∷◌}
-use Prim.Native.Nat.{ℕ, ◌<◌}
-use native.Mathlib.Omega.{arith}
+use Prim.Native.Nat.{ℕ}
 use Rattle.rules.specs.Limits.{nesting_limit}
 use Rattle.language.specs.Outcome.{refused}
-use Rattle.language.specs.Syntax.{Name, Relation, at_most, at_least, equal, between, Spans, Constraint}
+use Rattle.language.specs.Syntax.{Name, Spans, Constraint}
 use Rattle.language.specs.Reader.{Reader, follow, ◌>>=◌, give, Titled}
 use Rattle.language.specs.Linear.{Linear, side_of}
 use Rattle.language.specs.Grammar.{constraint_of}
 use Rattle.tokens.specs.Stored.{from, Named, Moves, Gives}
 use Rattle.tokens.proofs.Moved.{Stood, stood, stuck, Got, got, gives_at, gives-refused, follow-same}
 use Rattle.formulas.specs.Cycle.{formula_in}
+use Rattle.lexer.specs.Numbers.{number}
+use Rattle.lexer.proofs.Marks.{number-byte}
 use Rattle.linear.specs.Linear.{linear_in}
 use Rattle.domains.specs.Domains.{optional_in}
 use Rattle.constraints.specs.declared.Sites.{Sites}
 use Rattle.constraints.specs.declared.Bounds.{Bounds}
 use Rattle.constraints.specs.Readers.{title_in, relation_in, Comparison, comparison_in, constraint_in}
-use Rattle.constraints.specs.Rows.{relation_mark, Compares, Located, RowOf}
+use Rattle.constraints.specs.Rows.{Compares, Located, RowOf}
 use Rattle.constraints.specs.Shape.{ShapeIs}
 use Rattle.constraints.proofs.ComparisonLaws.{comparison-then}
 
@@ -121,14 +122,7 @@ module _ (s ns ts : List ℕ) (at : ℕ) where
 
 -- ---- its row
 
--- a relation's mark has room in its word
-mark-small : (r : Relation) (m : ℕ) → relation_mark r ≡ m → m < 256
-mark-small at_most m e = omega arith
-mark-small at_least m e = omega arith
-mark-small equal m e = omega arith
-mark-small (between h) m e = omega arith
-
-pub row_is : (s ns ts : List ℕ) (at : ℕ) (q : Sites) (a v : ℕ) → Gives constraint_in (Located s ts q) s ns ts at (Ok a) → ShapeIs s ns ts q.left q.mark q.floor q.domain v
+pub row_is : (s ns ts : List ℕ) (at : ℕ) (q : Sites) (a v : ℕ) → Gives constraint_in (Located s ts q) s ns ts at (Ok a) → ShapeIs s ns ts q.left (number q.mark) q.floor q.domain v
     → Gives constraint_in (RowOf s ts (q.title ∷ q.left ∷ v ∷ q.right ∷ q.domain ∷ [])) s ns ts at (Ok a)
 row_is s ns ts at q a v h w =
     record {
@@ -138,7 +132,7 @@ row_is s ns ts at q a v h w =
           record {
             title = y.title;
             left = y.left;
-            relation = y.relation ∙ sym (w.mark (mark-small x.what.relation q.mark y.relation));
+            relation = y.relation ∙ sym (w.mark (number-byte q.mark));
             bare = w.bare names d x.what.left y.left;
             floor = y.floor ∙ sym w.has_floor;
             entries = w.entries names d x.what.domain y.domain;

@@ -51,13 +51,6 @@ chosen-some k false true c e f g h = record { what = at_least; is = refl; mark =
 chosen-some k false false true e f g h = record { what = equal; is = refl; mark = sym (eqb-true k 61 g); plain = rw (e, f) refl }
 chosen-some k false false false e f g h = absurd (false-true h)
 
-chosen_none : (a b c : Bool) → (a || b || c) ≡ false → chosen a b c ≡ None
-unfolding chosen
-chosen_none true b c h = absurd (false-true (sym h))
-chosen_none false true c h = absurd (false-true (sym h))
-chosen_none false false true h = absurd (false-true (sym h))
-chosen_none false false false h = refl
-
 module _ (s ns ts : List ℕ) (at : ℕ) (t : Result Seen Refused) (l : Looks ts at t) where
   sees : (w : Result Seen Refused) → t ≡ w → Sees s ts at w
   sees w e = subst (Sees s ts at) e (l.sees s)
@@ -94,18 +87,21 @@ module _ (s ns ts : List ℕ) (at : ℕ) (t : Result Seen Refused) (l : Looks ts
   unfolding relation_in read_relation token
   relation-is z names e = rw (next-is s ts at z (sees _ e)) (ap (λ o. demand o z.place (from s ts z.next)) (relation-of s z.kind z.place z.payload))
 
-  pub relation-yes : (w : Seen) → t ≡ Ok w → (eqb w.kind 60 || eqb w.kind 62 || eqb w.kind 61) ≡ true → Gives relation_in (IsRelation w.kind) s ns ts at (Ok w.next)
+  relation-by : (w : Seen) → t ≡ Ok w → (eqb w.kind 60 || eqb w.kind 62 || eqb w.kind 61) ≡ true → Gives relation_in (IsRelation w.kind) s ns ts at (Ok w.next)
   unfolding demand
-  relation-yes z e i =
+  relation-by z e i =
       let o = chosen-some z.kind (eqb z.kind 60) (eqb z.kind 62) (eqb z.kind 61) refl refl refl i in
       gives_at relation_in (IsRelation z.kind) s ns ts at z.next
       (λ names d. record { what = o.what; reads = relation-is z names e ∙ ap (λ o. demand o z.place (from s ts z.next)) o.is; holds = record { mark = o.mark; plain = o.plain } })
 
-  pub relation-no : (w : Seen) → t ≡ Ok w → (eqb w.kind 60 || eqb w.kind 62 || eqb w.kind 61) ≡ false → Moves relation_in s ns ts at (Err (record { refusal = Misplaced; place = w.place }))
-  unfolding demand
-  relation-no z e i =
+  pub relation-yes : (w : Seen) (m : ℕ) → t ≡ Ok w → w.kind ≡ m → (eqb m 60 || eqb m 62 || eqb m 61) ≡ true → Gives relation_in (IsRelation m) s ns ts at (Ok w.next)
+  relation-yes z m e i j = rw i at (relation-by z e (rw i j))
+
+  pub relation-no : (w : Seen) → t ≡ Ok w → (w.kind ≡ 60 → ⊥) → (w.kind ≡ 62 → ⊥) → (w.kind ≡ 61 → ⊥) → Moves relation_in s ns ts at (Err (record { refusal = Misplaced; place = w.place }))
+  unfolding demand chosen
+  relation-no z e a b c =
       (gives-refused relation_in (IsRelation 0) s ns ts at (record { refusal = Misplaced; place = z.place })
-      (λ names d. relation-is z names e ∙ ap (λ o. demand o z.place (from s ts z.next)) (chosen_none (eqb z.kind 60) (eqb z.kind 62) (eqb z.kind 61) i))).moves
+      (λ names d. relation-is z names e ∙ rw (ne_eqb z.kind 60 a, ne_eqb z.kind 62 b, ne_eqb z.kind 61 c) refl)).moves
 
   pub relation-wrong : (e : Refused) → t ≡ Err e → Moves relation_in s ns ts at (Err e)
   unfolding relation_in read_relation

@@ -2,6 +2,7 @@
 use Rattle.std.specs.Prelude.{Ok, Err, Result, IfOk, MatchResult, ◌≡◌, Bool, true, false, List, [], ◌∷◌, ℕ, ◌*◌, ◌≤◌, length, drop, get_or}
 use Rattle.rules.specs.Limits.{nesting_limit, constraint_limit}
 use Rattle.lexer.specs.Marks as Marks
+use Rattle.lexer.specs.Numbers.{number}
 use Rattle.language.specs.Syntax.{Formula, Name, Relation, at_most, at_least, equal, between, Side, bare, form, Constraint}
 use Rattle.lexer.specs.Text.{Token}
 use Rattle.language.specs.Outcome.{done}
@@ -58,7 +59,7 @@ pub record IsFloor (m : ℕ) (l : List Token) (b : Bool) (names : List Name) (r 
 
 -- a relation's mark, where its right side stands, and whether it has a floor
 pub record Compares (s ts : List ℕ) (r : Bounds) (names : List Name) (c : Comparison) : Type 0 where
-  pub relation : relation_mark c.relation ≡ r.mark
+  pub relation : relation_mark c.relation ≡ number r.mark
   pub right : Stands (formula_at names nesting_limit) s ts r.right c.right
   pub floor : has_floor c.relation ≡ r.floor
   pub floor_stands : FloorAt names right.rest c.relation
@@ -82,7 +83,7 @@ is_bare (form f) = false
 pub record Located (s ts : List ℕ) (r : Sites) (names : List Name) (c : Constraint) : Type 0 where
   pub title : Stands read_string s ts r.title (record { title = c.title; place = c.place })
   pub left : SideAt s ts r.left names c.left
-  pub relation : relation_mark c.relation ≡ r.mark
+  pub relation : relation_mark c.relation ≡ number r.mark
   pub right : Stands (formula_at names nesting_limit) s ts r.right c.right
   pub floor : has_floor c.relation ≡ r.floor
   pub floor_stands : FloorAt names right.rest c.relation

@@ -1,6 +1,9 @@
 // A row of the table of constraints, word by word: specs/Layout.antt says what each word holds.
 ghost use Rattle.std.specs.Prelude.{◌≡◌, ◌+◌, ◌*◌, get_or};
+ghost use Rattle.lexer.specs.Numbers.{number};
 ghost use Rattle.constraints.specs.Layout.{row_at, mark_part, bare_part, floor_part, entries_part, UnitIf, Packs};
+
+use lexer::Mark;
 
 // A unit where b holds, else 0.
 fn unit_if(b: bool, unit: u64) -> u64
@@ -9,12 +12,12 @@ fn unit_if(b: bool, unit: u64) -> u64
     if b { unit } else { 0 }
 }
 
-// The third word of a row: a mark below 256, whether the left side is one variable, whether there is a floor, and a number of
-// entries below 8.
-pub fn packed(mark: u64, bare: bool, floor: bool, entries: usize) -> u64
-    ensures { Packs mark bare floor entries result }
+// The third word of a row: a mark, which is below 256, whether the left side is one variable, whether there is a floor, and a number of
+// entries below 8. `floor` is data that is stored, not a step.
+pub fn packed(mark: Mark, bare: bool, floor: bool, entries: usize) -> u64
+    ensures { Packs (number mark) bare floor entries result }
 {
-    mark % 256 + unit_if(bare, 256) + unit_if(floor, 512) + entries as u64 % 8 * 1024
+    mark.number() + unit_if(bare, 256) + unit_if(floor, 512) + entries as u64 % 8 * 1024
 }
 
 // Word f of row k, 0 past the table's end.

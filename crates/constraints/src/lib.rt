@@ -5,19 +5,20 @@ pub mod layout;
 mod shape;
 
 ghost use Rattle.std.specs.Prelude.{Ok, Err, MatchResult, ◌≤◌, length};
+ghost use Rattle.lexer.specs.Numbers.{number};
 ghost use Rattle.tokens.specs.Stored.{from, Moves, Gives};
 ghost use Rattle.tokens.specs.Text.{In};
 ghost use Rattle.constraints.specs.Readers.{title_in, relation_in, floor_formula_in, floor_in, comparison_in, goal_in, constraint_in, more_in};
 ghost use Rattle.constraints.specs.Rows.{IsRelation, IsFloor, Compares, IsTrue, Located, RowOf, words_of, Constrained};
 
-use lexer::marks;
+use lexer::Mark;
 use rules::{Refused, refused};
-use tokens::{Text, kinds};
+use tokens::{Kind, Text};
 
 // The mark of a relation, where its right side stands, and whether it has a floor.
 #[derive(Clone, Copy)]
 struct Bounds {
-    mark: u64,
+    mark: Mark,
     right: u64,
     floor: bool,
 }
@@ -27,7 +28,7 @@ struct Bounds {
 struct Sites {
     title: u64,
     left: u64,
-    mark: u64,
+    mark: Mark,
     right: u64,
     floor: bool,
     domain: u64,
@@ -48,25 +49,27 @@ pub fn title(text: Text<'_>, at: usize) -> Result<usize, Refused>
     ensures { In (Moves title_in) text.entry at result }
 {
     let token = tokens::token_at(text.tokens, at)?;
-    if token.kind != kinds::STRING {
+    if token.kind != Kind::String as u64 {
         return refused!(Misplaced, token.place);
     }
     Ok(token.next)
 }
 
 // One of `<= >= =`: its mark, and the position after it.
-fn relation(text: Text<'_>, at: usize) -> Result<(u64, usize), Refused>
+fn relation(text: Text<'_>, at: usize) -> Result<(Mark, usize), Refused>
     ensures { MatchResult result
-        (λ w. In (Gives relation_in (IsRelation w.0)) text.entry at (Ok w.1))
+        (λ w. In (Gives relation_in (IsRelation (number w.0))) text.entry at (Ok w.1))
         (λ e. In (Moves relation_in) text.entry at (Err e)) }
 {
     let token = tokens::token_at(text.tokens, at)?;
-    let mark = token.kind;
-    if (mark == marks::AT_MOST as u64)
-        | (mark == marks::AT_LEAST as u64)
-        | (mark == marks::EQUALS as u64)
-    {
-        return Ok((mark, token.next));
+    if token.kind == Mark::AtMost as u64 {
+        return Ok((Mark::AtMost, token.next));
+    }
+    if token.kind == Mark::AtLeast as u64 {
+        return Ok((Mark::AtLeast, token.next));
+    }
+    if token.kind == Mark::Equals as u64 {
+        return Ok((Mark::Equals, token.next));
     }
     refused!(Misplaced, token.place)
 }
@@ -78,8 +81,8 @@ pub fn goal(text: Text<'_>, at: usize) -> Result<(bool, usize), Refused>
         (λ e. In (Moves goal_in) text.entry at (Err e)) }
 {
     let token = tokens::token_at(text.tokens, at)?;
-    let maximize = token.kind == marks::MAXIMIZE as u64;
-    let minimize = token.kind == marks::MINIMIZE as u64;
+    let maximize = token.kind == Mark::Maximize as u64;
+    let minimize = token.kind == Mark::Minimize as u64;
     if maximize | minimize {
         return Ok((minimize, token.next));
     }
@@ -93,28 +96,28 @@ fn more(text: Text<'_>, at: usize) -> Result<bool, Refused>
         (λ e. In (Moves more_in) text.entry at (Err e)) }
 {
     let token = tokens::token_at(text.tokens, at)?;
-    Ok(token.kind == kinds::STRING)
+    Ok(token.kind == Kind::String as u64)
 }
 
 // `>=` and a formula: a floor behind its `,`.
 fn floor_formula(text: Text<'_>, at: usize) -> Result<usize, Refused>
     ensures { In (Moves floor_formula_in) text.entry at result }
 {
-    let sign = tokens::expect(text, at, marks::AT_LEAST)?;
+    let sign = tokens::expect(text, at, Mark::AtLeast)?;
     formulas::formula(text, sign, rules::NESTING_LIMIT)
 }
 
 // A floor, which may follow the right side of a `<=`: whether it stands there, and the position after it.
-fn optional_floor(text: Text<'_>, mark: u64, at: usize) -> Result<(bool, usize), Refused>
+fn optional_floor(text: Text<'_>, mark: Mark, at: usize) -> Result<(bool, usize), Refused>
     ensures { MatchResult result
-        (λ w. In (Gives (floor_in mark) (IsFloor mark (from text.entry.bytes.now text.entry.tokens.now at) w.0)) text.entry at (Ok w.1))
-        (λ e. In (Moves (floor_in mark)) text.entry at (Err e)) }
+        (λ w. In (Gives (floor_in (number mark)) (IsFloor (number mark) (from text.entry.bytes.now text.entry.tokens.now at) w.0)) text.entry at (Ok w.1))
+        (λ e. In (Moves (floor_in (number mark))) text.entry at (Err e)) }
 {
-    if mark != marks::AT_MOST as u64 {
+    if mark.number() != Mark::AtMost as u64 {
         return Ok((false, at));
     }
     let token = tokens::token_at(text.tokens, at)?;
-    if token.kind != marks::COMMA as u64 {
+    if token.kind != Mark::Comma as u64 {
         return Ok((false, at));
     }
     let end = floor_formula(text, token.next)?;

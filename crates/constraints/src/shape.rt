@@ -1,10 +1,11 @@
 // What the tokens of a constraint tell of its shape, beside its positions: whether its left side is one variable, and how many entries
 // its domain has.
 ghost use Rattle.constraints.specs.Shape.{IsAlone, IsBare, EntriesAre, SizeIs, ShapeIs};
+ghost use Rattle.lexer.specs.Numbers.{number};
 ghost use Rattle.tokens.specs.Text.{In};
 
 use super::layout;
-use lexer::marks;
+use lexer::Mark;
 use tokens::Text;
 
 // Whether neither `+` nor `-` stands at a position.
@@ -14,7 +15,7 @@ fn is_alone(tokens: &[u64], at: usize) -> bool
     let Ok(token) = tokens::token_at(tokens, at) else {
         return false;
     };
-    !((token.kind == marks::PLUS as u64) | (token.kind == marks::MINUS as u64))
+    !((token.kind == Mark::Plus as u64) | (token.kind == Mark::Minus as u64))
 }
 
 // Whether the left side at a position is one variable, without sign or factor.
@@ -54,7 +55,7 @@ fn entries(text: Text<'_>, at: usize) -> usize
         let Ok(token) = tokens::token_at(text.tokens, end) else {
             return n;
         };
-        if token.kind != marks::COMMA as u64 {
+        if token.kind != Mark::Comma as u64 {
             return n;
         }
         start = token.next;
@@ -69,16 +70,16 @@ fn entries_at(text: Text<'_>, at: usize) -> usize
     let Ok(token) = tokens::token_at(text.tokens, at) else {
         return 0;
     };
-    if token.kind != marks::LEFT_PAREN as u64 {
+    if token.kind != Mark::LeftParen as u64 {
         return 0;
     }
     entries(text, token.next)
 }
 
 // The third word of the row of a constraint with the relation `mark`, whose left side and domain stand at these positions, and
-// which has a floor or not.
-pub fn word_at(text: Text<'_>, left: usize, mark: u64, floor: bool, domain: usize) -> u64
-    ensures { In ShapeIs text.entry left mark floor domain result }
+// which has a floor or not: `floor` is data, not a step.
+pub fn word_at(text: Text<'_>, left: usize, mark: Mark, floor: bool, domain: usize) -> u64
+    ensures { In ShapeIs text.entry left (number mark) floor domain result }
 {
     let bare = is_bare(text, left);
     let count = entries_at(text, domain);

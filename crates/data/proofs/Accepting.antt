@@ -1,6 +1,5 @@
 -- Laws of one number over plain variables: its tests, and its row in the store.
-use Rattle.std.specs.Prelude.{Err, Ok, Result, Option, Some, None}
-use Rattle.std.specs.Option.{is_some}
+use Rattle.std.specs.Prelude.{Err, Ok, Result, Option, Some, None, is_ok, ok_or}
 use Rattle.rules.specs.declared.Refused.{Refused}
 use mathlib.Core.Path.{◌≡◌, refl, sym, ◌∙◌, ap, subst}
 use mathlib.Core.Bool.{Bool, true, false}
@@ -35,6 +34,7 @@ use Rattle.data.specs.Stores.{Stores, StoreIs, entering, Enters}
 use Rattle.data.specs.Taking.{Suits, Aims, Accepts, TakenIs, Takes}
 use Rattle.data.proofs.PositionRuns.{world}
 use Rattle.data.proofs.Smalls.{fitting-from, made, number-valid}
+use Rattle.store.specs.Table.{Table}
 
 -- ---- whole for an integer
 
@@ -42,18 +42,18 @@ pub suits-real : (whole : Bool) (v : Value) → whole ≡ false → Suits whole 
 unfolding whole_if
 suits-real whole v e = record { is = λ p. rw e refl }
 
-pub suits-whole : (whole : Bool) (v : Value) (r : Option ℤ) (b : Bool) → whole ≡ true → r ≡ whole_of v → b ≡ is_some r → Suits whole v b
+pub suits-whole : (whole : Bool) (v : Value) (r : Result ℤ Value) (b : Bool) → whole ≡ true → r ≡ ok_or (whole_of v) v → b ≡ is_ok r → Suits whole v b
 unfolding whole_if whole_at
-suits-whole whole v r b e h i = record { is = λ p. rw (e, ← h, i) (go p r) }
+suits-whole whole v r b e h i = record { is = λ p. rw (e, i, h) (go p (whole_of v)) }
   where
-    go : (p : ℕ) (r : Option ℤ) → (whole_number p r >>= λ _. done tt) ≡ check NotWhole p (is_some r)
+    go : (p : ℕ) (o : Option ℤ) → (whole_number p o >>= λ _. done tt) ≡ check NotWhole p (is_ok (ok_or o v))
     go p None = refl
     go p (Some k) = refl
 
 -- ---- the tests in their order
 
-module _ (ns ts ds : List ℕ) (given : ℕ) (h : Worked) (e : Element) (p : ℕ) (v : Value) (b : Bool) (f : Suits h.whole v b) where
-  pub accept-unsuited : (ds' : List ℕ) → b ≡ false → Accepts ns ts ds given h e p v (Err (record { refusal = NotWhole; place = p })) ds'
+module _ (ns ts : List ℕ) (ds : Table) (given : ℕ) (h : Worked) (e : Element) (p : ℕ) (v : Value) (b : Bool) (f : Suits h.whole v b) where
+  pub accept-unsuited : (ds' : Table) → b ≡ false → Accepts ns ts ds given h e p v (Err (record { refusal = NotWhole; place = p })) ds'
   unfolding accept
   accept-unsuited ds' i = record { is = λ s x a w st k. rw (a.portrays.whole, f.is p, i) (refl, refl) }
 
@@ -69,12 +69,12 @@ module _ (ns ts ds : List ℕ) (given : ℕ) (h : Worked) (e : Element) (p : ℕ
         ∙ ap what_of (sym (within-walk (take h.name a.ground.names) x.domain (list_of e) (a.long ∙ size-count x.domain) (scope_of st) h.place (from s ts h.start) d.rest d.reads))
         ∙ g.is (world s ns ts ds given st a.ground k) a.small ∙ ap passed_outcome q)
 
-    pub accept-outside : (w : Refused) (ds' : List ℕ) → t ≡ Err w → Accepts ns ts ds given h e p v (Err w) ds'
+    pub accept-outside : (w : Refused) (ds' : Table) → t ≡ Err w → Accepts ns ts ds given h e p v (Err w) ds'
     unfolding accept
     accept-outside z ds' j =
         record { is = λ s x a w st k. rw (tested s x a st k (Err z) j, a.portrays.whole, f.is p, i) (refl, refl) }
 
-    pub accept-enters : (r : Result ℕ Refused) (ds' : List ℕ) → t ≡ Ok tt → Enters ds given h.name (list_of e) p v r ds' → Accepts ns ts ds given h e p v r ds'
+    pub accept-enters : (r : Result ℕ Refused) (ds' : Table) → t ≡ Ok tt → Enters ds given h.name (list_of e) p v r ds' → Accepts ns ts ds given h e p v r ds'
     unfolding accept entering name_bound name_limit
     accept-enters r ds' j n =
         record {
@@ -85,15 +85,15 @@ module _ (ns ts ds : List ℕ) (given : ℕ) (h : Worked) (e : Element) (p : ℕ
 
 -- ---- a number that is read
 
-module _ (ns ts ds : List ℕ) (given at : ℕ) (h : Worked) (e : Element) (m : Result Numbered Refused) (f : Says numbered number_in ts at m) where
+module _ (ns ts : List ℕ) (ds : Table) (given at : ℕ) (h : Worked) (e : Element) (m : Result Numbered Refused) (f : Says numbered number_in ts at m) where
   number_is : (s : List ℕ) (x : Portion) (st : Store) (o : Result Numbered Refused) → m ≡ o
       → read_number x (list_of e) st (from s ts at) ≡ follow (numbered s ts o) (λ (n : Signed). lift (accept x (list_of e) n.sign n.value st))
   number_is s x st o q = number-joined x (list_of e) st (from s ts at) ∙ ap (λ o. follow o (λ (n : Signed). lift (accept x (list_of e) n.sign n.value st))) (f.is s ∙ ap (numbered s ts) q)
 
-  pub take-wrong : (w : Refused) (ds' : List ℕ) → m ≡ Err w → Takes ns ts ds given at h e (Err w) ds'
+  pub take-wrong : (w : Refused) (ds' : Table) → m ≡ Err w → Takes ns ts ds given at h e (Err w) ds'
   take-wrong z ds' j = record { is = λ s x a st k. rw (number_is s x st (Err z) j) (refl, refl) }
 
-  module _ (y : Numbered) (r : Result ℕ Refused) (ds' : List ℕ) (j : m ≡ Ok y) (g : Accepts ns ts ds given h e y.place y.value r ds') where
+  module _ (y : Numbered) (r : Result ℕ Refused) (ds' : Table) (j : m ≡ Ok y) (g : Accepts ns ts ds given h e y.place y.value r ds') where
     -- the number is a value
     valid : (s : List ℕ) (x : Portion) → Aims s ns ts h e x → Valid y.value
     valid s x a = made (λ n. Valid n.value) number_in number-valid (from s ts at) _ (fitting-from s ts a.ground.literals at) (f.is s ∙ ap (numbered s ts) j)

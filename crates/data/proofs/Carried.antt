@@ -41,11 +41,12 @@ use Rattle.data.specs.Taking.{TakenIs, Takes}
 use Rattle.data.specs.Carrying.{left, RunsTo, Counts, EachTo}
 use Rattle.data.proofs.Rows.{element-small}
 use Rattle.data.proofs.Positions.{bound-length, element-length}
+use Rattle.store.specs.Table.{Table}
 
 -- ---- no position is left
 
-module _ (ns ts ds : List ℕ) (given at : ℕ) (h : Worked) (k : ℕ) (e : Entries) (n : ℕ) (c : n ≡ length (numbers_of h.order)) where
-  pub runs_number : (w : Element) (r : Result (ℕ × ℕ) Refused) (ds' : List ℕ) → n ≤ k → list_of w ≡ element_of (bound_of (entries_of e)) → Takes ns ts ds given at h w r ds' → RunsTo ns ts ds given at h k e r ds'
+module _ (ns ts : List ℕ) (ds : Table) (given at : ℕ) (h : Worked) (k : ℕ) (e : Entries) (n : ℕ) (c : n ≡ length (numbers_of h.order)) where
+  pub runs_number : (w : Element) (r : Result (ℕ × ℕ) Refused) (ds' : Table) → n ≤ k → list_of w ≡ element_of (bound_of (entries_of e)) → Takes ns ts ds given at h w r ds' → RunsTo ns ts ds given at h k e r ds'
   unfolding runs index_limit
   runs_number w r ds' i d t =
       record {
@@ -78,7 +79,7 @@ module _ (ns ts ds : List ℕ) (given at : ℕ) (h : Worked) (k : ℕ) (e : Entr
     unfolding runs turns
     stepped s x st = ap (λ js. runs x js (bound_of (entries_of e)) st (from s ts at)) next-position
 
-    pub runs-wrong : (w : Refused) (ds' : List ℕ) → t ≡ Err w → RunsTo ns ts ds given at h k e (Err w) ds'
+    pub runs-wrong : (w : Refused) (ds' : Table) → t ≡ Err w → RunsTo ns ts ds given at h k e (Err w) ds'
     runs-wrong z ds' d = record { is = λ s x a st g. rw (stepped s x st, (sees s (Err z) d).looks) (refl, refl) }
 
     module _ (y : Seen) (j : ℕ) (d : t ≡ Ok y) (f : j ≡ get_or (numbers_of h.order) k 0) (u : Result (Limits × ℕ) Refused) (v : PositionRuns ns ts ds given h e j u) where
@@ -89,10 +90,10 @@ module _ (ns ts ds : List ℕ) (given at : ℕ) (h : Worked) (k : ℕ) (e : Entr
           ∙ ap (λ r. follow r (λ _ ts. follow (as_read (position_run x.domain (bound_of (entries_of e)) (get_or (numbers_of h.order) k 0) (Store.scope_of st)) ts) (turns x st))) (look_is s ts at y (sees s (Ok y) d))
           ∙ ap (λ r. follow (as_read r (from s ts at)) (turns x st)) (ap (λ j. position_run x.domain (bound_of (entries_of e)) j (Store.scope_of st)) (sym f) ∙ v.is s x a st g ∙ ap run_outcome q)
 
-      pub runs-refused : (w : Refused) (ds' : List ℕ) → u ≡ Err w → RunsTo ns ts ds given at h k e (Err w) ds'
+      pub runs-refused : (w : Refused) (ds' : Table) → u ≡ Err w → RunsTo ns ts ds given at h k e (Err w) ds'
       runs-refused z ds' o = record { is = λ s x a st g. rw (run_is s x a st g (Err z) o) (refl, refl) }
 
-      pub runs-each : (w : Limits) (o : ℕ) (r : Result (ℕ × ℕ) Refused) (ds' : List ℕ) → u ≡ Ok (w, o) → EachTo ns ts ds given at h k e w o r ds' → RunsTo ns ts ds given at h k e r ds'
+      pub runs-each : (w : Limits) (o : ℕ) (r : Result (ℕ × ℕ) Refused) (ds' : Table) → u ≡ Ok (w, o) → EachTo ns ts ds given at h k e w o r ds' → RunsTo ns ts ds given at h k e r ds'
       unfolding turns
       runs-each w o r ds' q g =
           record {
@@ -117,18 +118,18 @@ set_at-length j z [] = refl
 set_at-length zero z (x ∷ b) = refl
 set_at-length (suc j) z (x ∷ b) = ap suc (set_at-length j z b)
 
-module _ (ns ts ds : List ℕ) (given at : ℕ) (h : Worked) (k : ℕ) (e : Entries) (l : Limits) (n : ℕ) where
+module _ (ns ts : List ℕ) (ds : Table) (given at : ℕ) (h : Worked) (k : ℕ) (e : Entries) (l : Limits) (n : ℕ) where
   -- the later positions for one number
   pub turn : Portion → ℤ → Store → Reader Store
   turn x z st = runs x (left h (k + 1)) (set_at (get_or (numbers_of h.order) k 0) z (bound_of (entries_of e))) st
 
-  pub record EachSo (s : List ℕ) (x : Portion) (st : Store) (a count i : ℕ) (us : List ℕ) : Type 0 where
+  pub record EachSo (s : List ℕ) (x : Portion) (st : Store) (a count i : ℕ) (us : Table) : Type 0 where
     pub store : Store
     pub holds : Stores us count store
     pub same : each_read (turn x) (up_from l.lower n) st (from s ts at) ≡ each_read (turn x) (up_from (l.lower +ℤ pos i) (n - i)) store (from s ts a)
 
   -- i turns are done, with the table us
-  pub record EachOn (a count i : ℕ) (us : List ℕ) : Type 0 where
+  pub record EachOn (a count i : ℕ) (us : Table) : Type 0 where
     pub on : (s : List ℕ) (x : Portion) → Carries s ns ts h e x → Counts l n → (st : Store) → Stores ds given st → EachSo s x st a count i us
 
   pub each_start : EachOn at given 0 ds
@@ -136,7 +137,7 @@ module _ (ns ts ds : List ℕ) (given at : ℕ) (h : Worked) (k : ℕ) (e : Entr
       let d : n - 0 ≡ n = omega arith in
       record { on = λ s x a c st g. record { store = st; holds = g; same = rw (d, +ℤ_idr l.lower) refl } }
 
-  module _ (a count i : ℕ) (us : List ℕ) (o : EachOn a count i us) where
+  module _ (a count i : ℕ) (us : Table) (o : EachOn a count i us) where
     pub each-end : n ≤ i → EachTo ns ts ds given at h k e l n (Ok (a, count)) us
     unfolding turn each_read
     each-end q =
@@ -147,7 +148,7 @@ module _ (ns ts ds : List ℕ) (given at : ℕ) (h : Worked) (k : ℕ) (e : Entr
               subst (λ r. TakenIs r s ts us (Ok (a, count))) (sym (m.same ∙ ap (λ j. each_read (turn x) (up_from (l.lower +ℤ pos i) j) m.store (from s ts a)) d)) (refl, m.holds);
         }
 
-    module _ (q : i < n) (j : ℕ) (f : j ≡ get_or (numbers_of h.order) k 0) (z : ℤ) (v : z ≡ number_in l i) (fits : mag z < 2 ^ 63) (e' : Entries) (held : bound_of (entries_of e') ≡ set_at j (to_z w64 (of_z w64 z)) (bound_of (entries_of e))) (r : Result (ℕ × ℕ) Refused) (us' : List ℕ)
+    module _ (q : i < n) (j : ℕ) (f : j ≡ get_or (numbers_of h.order) k 0) (z : ℤ) (v : z ≡ number_in l i) (fits : mag z < 2 ^ 63) (e' : Entries) (held : bound_of (entries_of e') ≡ set_at j (to_z w64 (of_z w64 z)) (bound_of (entries_of e))) (r : Result (ℕ × ℕ) Refused) (us' : Table)
         (p : RunsTo ns ts us count a h (k + 1) e' r us') where
       w : bound_of (entries_of e') ≡ set_at j z (bound_of (entries_of e))
       w = held ∙ ap (λ z. set_at j z (bound_of (entries_of e))) (back {z = z} fits)

@@ -32,24 +32,25 @@ use Rattle.data.specs.Taking.{TakenIs}
 use Rattle.data.specs.Portions.{Fills}
 use Rattle.data.specs.Sections.{FillsAll, SectionIs, Sections, rest_in, section_in, GivenIs, ReadsData}
 use Rattle.data.proofs.Rows.{stores-none}
+use Rattle.store.specs.Table.{Table}
 
 -- ---- portions
 
 module _ (s ns ts : List ℕ) (at : ℕ) where
-  pub record PortionsSo (names : List Name) (a count k : ℕ) (us : List ℕ) : Type 0 where
+  pub record PortionsSo (names : List Name) (a count k : ℕ) (us : Table) : Type 0 where
     pub store : Store
     pub holds : Stores us count store
     pub same : portions_of names byte_limit [] (from s ts at) ≡ portions_of names (16384 - k) store (from s ts a)
 
   -- k portions are read, and what is left gives what the whole gives
-  pub record PortionsOn (a count k : ℕ) (us : List ℕ) : Type 0 where
+  pub record PortionsOn (a count k : ℕ) (us : Table) : Type 0 where
     pub on : (g : Ground s ns ts) → PortionsSo g.names a count k us
 
-  pub portions-start : (us : List ℕ) → PortionsOn at 0 0 us
+  pub portions-start : (us : Table) → PortionsOn at 0 0 us
   unfolding byte_limit
   portions-start us = record { on = λ g. record { store = []; holds = stores-none us; same = refl } }
 
-  module _ (a count k : ℕ) (us : List ℕ) (o : PortionsOn a count k us) where
+  module _ (a count k : ℕ) (us : Table) (o : PortionsOn a count k us) where
     pub portions-none : 16384 ≤ k → FillsAll s ns ts at (Ok (a, count)) us
     unfolding portions_of
     portions-none h =
@@ -60,7 +61,7 @@ module _ (s ns ts : List ℕ) (at : ℕ) where
               subst (λ r. TakenIs r s ts us (Ok (a, count))) (sym (m.same ∙ ap (λ n. portions_of g.names n m.store (from s ts a)) d)) (refl, m.holds);
         }
 
-    module _ (h : k < 16384) (r : Result (ℕ × ℕ) Refused) (us' : List ℕ) (f : Fills portion_of s ns ts us count a r us') where
+    module _ (h : k < 16384) (r : Result (ℕ × ℕ) Refused) (us' : Table) (f : Fills portion_of s ns ts us count a r us') where
       -- behind a portion
       behind_by : List Name → Store → Bool → Reader Store
       behind_by names st b = elim b as (λ _. Reader Store) [ true ↦ portions_of names (16384 - (k + 1)) st | false ↦ give st ]
@@ -88,7 +89,7 @@ module _ (s ns ts : List ℕ) (at : ℕ) where
         sees w q = subst (Sees s ts b) q (l.sees s)
 
         -- with the store behind the portion
-        after : (z : Result (ℕ × ℕ) Refused) (ws : List ℕ) → ((g : Ground s ns ts) (st : Store) → Stores us' n st → TakenIs (behind g.names st (from s ts b)) s ts ws z) → FillsAll s ns ts at z ws
+        after : (z : Result (ℕ × ℕ) Refused) (ws : Table) → ((g : Ground s ns ts) (st : Store) → Stores us' n st → TakenIs (behind g.names st (from s ts b)) s ts ws z) → FillsAll s ns ts at z ws
         after z ws k =
             record { is = λ g. subst (λ o. TakenIs o s ts ws z) (sym (unrolled g)) (go g (portion_of g.names (o.on g).store (from s ts a)) (filled g (Ok (b, n)) e)) }
           where
@@ -122,7 +123,7 @@ module _ (s ns ts : List ℕ) (at : ℕ) where
 
 -- ---- the data section
 
-module _ (s ns ts : List ℕ) (at p n : ℕ) (r : Result (ℕ × ℕ) Refused) (ds : List ℕ) (h : FillsAll s ns ts at r ds) where
+module _ (s ns ts : List ℕ) (at p n : ℕ) (r : Result (ℕ × ℕ) Refused) (ds : Table) (h : FillsAll s ns ts at r ds) where
   closing : Store → Reader Given
   closing st = read_close >>= (λ _. give (record { title = spelling s (p + 1) n; store = st }))
 
@@ -155,11 +156,11 @@ module _ (s ns ts : List ℕ) (at p n : ℕ) (r : Result (ℕ × ℕ) Refused) (
     closed-done b d = by-close (Ok (record { place = p; length = n; count = count; next = b })) (λ st w. rw (l.is s, d) (refl, refl, w))
 
 module _ (s ns ts : List ℕ) (at : ℕ) (r : Result Title Refused) (h : Says titled read_string ts at r) where
-  pub data-title : (e : Refused) (ds : List ℕ) → r ≡ Err e → Sections data_of s ns ts at (Err e) ds
+  pub data-title : (e : Refused) (ds : Table) → r ≡ Err e → Sections data_of s ns ts at (Err e) ds
   unfolding data_of
   data-title z ds e = record { is = λ g. rw (h.is s, e) (refl, refl) }
 
-  pub data-rest : (w : Titled) (z : Result Section Refused) (ds : List ℕ) → r ≡ Ok w → Sections (rest_in s w.place w.length) s ns ts w.next z ds → Sections data_of s ns ts at z ds
+  pub data-rest : (w : Titled) (z : Result Section Refused) (ds : Table) → r ≡ Ok w → Sections (rest_in s w.place w.length) s ns ts w.next z ds → Sections data_of s ns ts at z ds
   unfolding data_of rest_in
   data-rest y z ds e w = record { is = λ g. rw (h.is s, e) (w.is g) }
 
@@ -174,7 +175,7 @@ module _ (s ns ts : List ℕ) (at : ℕ) (t : Result Seen Refused) (l : Looks ts
   sees-at : (w : Result Seen Refused) → t ≡ w → Sees s ts at w
   sees-at w q = subst (Sees s ts at) q (l.sees s)
 
-  pub section-wrong : (e : Refused) (ds : List ℕ) → t ≡ Err e → Sections section_in s ns ts at (Err e) ds
+  pub section-wrong : (e : Refused) (ds : Table) → t ≡ Err e → Sections section_in s ns ts at (Err e) ds
   unfolding section_in
   section-wrong z ds e = record { is = λ g. rw (sees-at (Err z) e).nexts (refl, refl) }
 
@@ -189,7 +190,7 @@ module _ (s ns ts : List ℕ) (at : ℕ) (t : Result Seen Refused) (l : Looks ts
         ap (λ r. follow r (λ t. section_by names t (is_mark init_word t))) (next-is s ts at y (sees-at (Ok y) e))
         ∙ ap (λ b. section_by names (token s y.kind y.place y.payload) b (from s ts y.next)) (is-mark 132 b (omega arith) q)
 
-    pub section-data : (z : Result Section Refused) (ds : List ℕ) → y.kind ≡ 132 → Sections data_of s ns ts y.next z ds → Sections section_in s ns ts at z ds
+    pub section-data : (z : Result Section Refused) (ds : Table) → y.kind ≡ 132 → Sections data_of s ns ts y.next z ds → Sections section_in s ns ts at z ds
     unfolding section_by
     section-data z ds q w = record { is = λ g. subst (λ o. SectionIs o s ts ds z) (sym (by_word g.names true (eq-eqb y.kind 132 q))) (w.is g) }
 
@@ -200,11 +201,11 @@ module _ (s ns ts : List ℕ) (at : ℕ) (t : Result Seen Refused) (l : Looks ts
       by-close-word names b w =
           by_word names false (ne_eqb y.kind 132 q) ∙ ap (λ b. follow (require b Misplaced y.place (from s ts y.next)) (λ _. give (record { title = []; store = [] }))) (is-mark 129 b (omega arith) w)
 
-      pub section-none : (ds : List ℕ) → y.kind ≡ 129 → Sections section_in s ns ts at (Ok (record { place = 0; length = 0; count = 0; next = y.next })) ds
+      pub section-none : (ds : Table) → y.kind ≡ 129 → Sections section_in s ns ts at (Ok (record { place = 0; length = 0; count = 0; next = y.next })) ds
       unfolding require spelling bytes_from
       section-none ds w = record { is = λ g. subst (λ o. SectionIs o s ts ds (Ok (record { place = 0; length = 0; count = 0; next = y.next }))) (sym (by-close-word g.names true (eq-eqb y.kind 129 w))) (refl, refl, stores-none ds) }
 
-      pub section-other : (ds : List ℕ) → (y.kind ≡ 129 → ⊥) → Sections section_in s ns ts at (Err (record { refusal = Misplaced; place = y.place })) ds
+      pub section-other : (ds : Table) → (y.kind ≡ 129 → ⊥) → Sections section_in s ns ts at (Err (record { refusal = Misplaced; place = y.place })) ds
       unfolding require
       section-other ds w = record { is = λ g. subst (λ o. SectionIs o s ts ds (Err (record { refusal = Misplaced; place = y.place }))) (sym (by-close-word g.names false (ne_eqb y.kind 129 w))) (refl, refl) }
 
@@ -217,7 +218,7 @@ data-joined : (names : List Name) (l : List Token) → read_data names l ≡ fol
 unfolding read_data section_in ending
 data-joined names l = sym (follow-follow (next l) _ _)
 
-module _ (s ns ts : List ℕ) (at : ℕ) (r : Result Section Refused) (ds : List ℕ) (h : Sections section_in s ns ts at r ds) where
+module _ (s ns ts : List ℕ) (at : ℕ) (r : Result Section Refused) (ds : Table) (h : Sections section_in s ns ts at r ds) where
   section-as : (g : Ground s ns ts) (z : Result Section Refused) → r ≡ z → SectionIs (section_in g.names (from s ts at)) s ts ds z
   section-as g z e = subst (SectionIs (section_in g.names (from s ts at)) s ts ds) e (h.is g)
 

@@ -48,6 +48,7 @@ use Rattle.data.specs.Taking.{TakenIs}
 use Rattle.data.specs.Carrying.{RunsTo}
 use Rattle.data.specs.Portions.{head_for, carry_in, Declares, CarriesOut, used_in, Names, Uses, Fills}
 use Rattle.data.proofs.Smalls.{Fitting, SmallEntry, fitting-from, made, entries-small, positions-small}
+use Rattle.store.specs.Table.{Table}
 
 -- ---- the head of a portion
 
@@ -117,16 +118,16 @@ carry-joined names x st l = go (is_point x.domain) refl
     go true e = sym (ap (λ o. follow o (λ (h : Head). runs x h.positions (bound_of h.entries) st)) (head-point x.place names l x.domain e))
     go false e = portion-joined names x st l ∙ ap (λ o. follow o (λ (h : Head). runs x h.positions (bound_of h.entries) st)) (head-span x.place names l x.domain e)
 
-module _ (s ns ts ds : List ℕ) (given at i c p : ℕ) (whole : Bool) (h : Result Plan Refused) (w : Heads (head_for p c) s ns ts at c h) where
+module _ (s ns ts : List ℕ) (ds : Table) (given at i c p : ℕ) (whole : Bool) (h : Result Plan Refused) (w : Heads (head_for p c) s ns ts at c h) where
   head-is : (x : Portion) (d : Declares s ns ts i c p whole x) (o : Result Plan Refused) → h ≡ o → head_for x.place (size x.domain) d.ground.names (from s ts at) ≡ planned s ts o
   unfolding index_limit
   head-is x d o e = rw (d.place, d.long) (w.is d.ground.names d.ground.named (omega (arith, d.domain.few, d.long)) ∙ ap (planned s ts) e)
 
-  pub carry-refused : (e : Refused) (ds' : List ℕ) → h ≡ Err e → CarriesOut s ns ts ds given at i c p whole (Err e) ds'
+  pub carry-refused : (e : Refused) (ds' : Table) → h ≡ Err e → CarriesOut s ns ts ds given at i c p whole (Err e) ds'
   unfolding carry_in
   carry-refused z ds' e = record { is = λ x d st g. rw (head-is x d (Err z) e) (refl, refl) }
 
-  pub carry-runs : (w : Plan) (q : ℕ) (y : Layout) (r : Result (ℕ × ℕ) Refused) (ds' : List ℕ) → h ≡ Ok w → q ≡ row_word ns i 4 → Lays s ns ts i q c y
+  pub carry-runs : (w : Plan) (q : ℕ) (y : Layout) (r : Result (ℕ × ℕ) Refused) (ds' : Table) → h ≡ Ok w → q ≡ row_word ns i 4 → Lays s ns ts i q c y
       → RunsTo ns ts ds given w.next (record { name = i; place = p; whole = whole; start = q; layout = y; order = w.runs }) 0 w.entries r ds' → CarriesOut s ns ts ds given at i c p whole r ds'
   unfolding carry_in index_limit
   carry-runs w q y r ds' k v l z =
@@ -152,8 +153,8 @@ module _ (s ns ts ds : List ℕ) (given at i c p : ℕ) (whole : Bool) (h : Resu
 
 -- ---- behind a name
 
-module _ (s ns ts ds : List ℕ) (given at i k c p : ℕ) where
-  pub name-other : (ds' : List ℕ) → (eqb k 1 || eqb k 2) ≡ false → Uses s ns ts ds given at i k c p (Err (record { refusal = Misplaced; place = p })) ds'
+module _ (s ns ts : List ℕ) (ds : Table) (given at i k c p : ℕ) where
+  pub name-other : (ds' : Table) → (eqb k 1 || eqb k 2) ≡ false → Uses s ns ts ds given at i k c p (Err (record { refusal = Misplaced; place = p })) ds'
   unfolding used_in demand portion_by
   name-other ds' e = record { is = λ u d st g. go u d st u.sort refl d.shaped }
     where
@@ -165,7 +166,7 @@ module _ (s ns ts ds : List ℕ) (given at i k c p : ℕ) where
       go u d st (Syntax.discrete b) q w = rw q (refl, d.place)
       go u d st (Syntax.continuous b) q w = rw q (refl, d.place)
 
-  pub name-carries : (r : Result (ℕ × ℕ) Refused) (ds' : List ℕ) → (eqb k 1 || eqb k 2) ≡ true → CarriesOut s ns ts ds given at i c p (eqb k 1) r ds' → Uses s ns ts ds given at i k c p r ds'
+  pub name-carries : (r : Result (ℕ × ℕ) Refused) (ds' : Table) → (eqb k 1 || eqb k 2) ≡ true → CarriesOut s ns ts ds given at i c p (eqb k 1) r ds' → Uses s ns ts ds given at i k c p r ds'
   unfolding used_in demand portion_by
   name-carries r ds' e h = record { is = λ u d st g. go u d st g u.sort refl d.shaped }
     where
@@ -208,11 +209,11 @@ named-is s ns ts g l x i k c p e n w q =
       sorted = y.sorted;
     }
 
-module _ (s ns ts ds : List ℕ) (given at : ℕ) (r : Result Known Refused) (told : KnownAt s ns ts at r) where
+module _ (s ns ts : List ℕ) (ds : Table) (given at : ℕ) (r : Result Known Refused) (told : KnownAt s ns ts at r) where
   h : Knows s ns ts at r
   h = knows-of s ns ts at r told
 
-  pub portion-unknown : (e : Refused) (ds' : List ℕ) → r ≡ Err e → Fills portion_of s ns ts ds given at (Err e) ds'
+  pub portion-unknown : (e : Refused) (ds' : Table) → r ≡ Err e → Fills portion_of s ns ts ds given at (Err e) ds'
   unfolding portion_of used_in
   portion-unknown z ds' e =
       record { is = λ g st _. go g st (read_known g.names (from s ts at)) (subst (Knowing (read_known g.names (from s ts at)) s ts) e (h.knows g.names g.named)) }
@@ -221,7 +222,7 @@ module _ (s ns ts ds : List ℕ) (given at : ℕ) (r : Result Known Refused) (to
       go g st (done x) k = absurd k
       go g st (refused m q) k = k
 
-  pub portion-named : (w : Known) (z : Result (ℕ × ℕ) Refused) (ds' : List ℕ) → r ≡ Ok w → Uses s ns ts ds given w.next w.number w.sort w.count w.place z ds' → Fills portion_of s ns ts ds given at z ds'
+  pub portion-named : (w : Known) (z : Result (ℕ × ℕ) Refused) (ds' : Table) → r ≡ Ok w → Uses s ns ts ds given w.next w.number w.sort w.count w.place z ds' → Fills portion_of s ns ts ds given at z ds'
   unfolding portion_of used_in named-is
   portion-named v z ds' e w =
       record { is = λ g st b. go g st b (read_known g.names (from s ts at)) refl (subst (Knowing (read_known g.names (from s ts at)) s ts) e (h.knows g.names g.named)) }

@@ -43,10 +43,11 @@ use Rattle.data.specs.Running.{before, Before, Carries, RunsFrom, PositionRuns}
 use Rattle.data.proofs.Rows.{stores-given}
 use Rattle.data.proofs.Laying.{laid-places, laid-numbers}
 use Rattle.data.proofs.Positions.{bound-length}
+use Rattle.store.specs.Table.{Table}
 
 -- ---- what evaluation reads while data is read
 
-unfoldable pub world : (s ns ts ds : List ℕ) (given : ℕ) (st : Store) → Ground s ns ts → Stores ds given st → World ns ts ds given
+unfoldable pub world : (s ns ts : List ℕ) (ds : Table) (given : ℕ) (st : Store) → Ground s ns ts → Stores ds given st → World ns ts ds given
 world s ns ts ds given st g h = world_on g (stores-given ds given st h)
 
 -- ---- the run of an entry
@@ -119,7 +120,7 @@ limits-done (refused n p) i q l b m e = absurd (refused-done e)
 
 -- ---- the run of a position
 
-module _ (ns ts ds : List ℕ) (given : ℕ) (h : Worked) (e : Entries) (j : ℕ) where
+module _ (ns ts : List ℕ) (ds : Table) (given : ℕ) (h : Worked) (e : Entries) (j : ℕ) where
   pub position_past : (n : ℕ) → n ≡ length (numbers_of h.layout.starts) → n ≤ j → PositionRuns ns ts ds given h e j (Ok ((record { lower = pos 1; upper = pos 0 }), 0))
   unfolding mantissa_limit
   position_past n f i =

@@ -1,11 +1,11 @@
 -- Laws of the store's table: what it holds by name and element, and one datum more.
 use Rattle.std.specs.Prelude.{Result, Err, Ok, Option, Some, None}
 use mathlib.Core.Path.{◌≡◌, refl, sym, ◌∙◌, ap, subst}
-use mathlib.Core.Bool.{Bool, true, false, cond, ◌&&◌}
+use mathlib.Core.Bool.{Bool, true, false, ◌&&◌}
 use mathlib.Core.List.{List, [], ◌∷◌, map}
 use Prim.Native.Nat.{ℕ, zero, suc, ◌+◌, ◌<◌, ◌≤◌}
 use native.Mathlib.Omega.{arith}
-use borrow.Author.Tests.{lt-ltb, le-ltb}
+use borrow.Author.Tests.{ltb-true}
 use lib.Dec.{eqb, ltb}
 use lib.ListN.{length, get_or}
 use lib.IntN.{ℤ, pos, nat_abs}
@@ -20,7 +20,7 @@ use Rattle.language.proofs.ValidStore.{scope-valid}
 use Rattle.store.specs.declared.InsertError.{InsertError}
 use Rattle.store.specs.declared.InsertError.TheVariants.{Present, NoRoom}
 use Rattle.store.specs.Key.{key_of}
-use Rattle.store.specs.Table.{has_room, Says, Inserted}
+use Rattle.store.specs.Table.{Table, place_of, has_room, insertion_at, insertion_of, Says, Inserted}
 use Rattle.store.specs.Packed.{packed}
 use Rattle.store.specs.Entries.{Keyed, word_of, Holds}
 use Rattle.store.proofs.Words.{unpacked-packed}
@@ -55,14 +55,14 @@ stored-word (x ∷ st) h i l = go (eqb x.name i && same_element x.element l) (st
     go true f = ap Some (sym (unpacked-packed x.value h.0.value.small h.0.value.places))
     go false f = f
 
-pub stores-none : (ds : List ℕ) → Stores ds 0 []
+pub stores-none : (ds : Table) → Stores ds 0 []
 stores-none ds = record { holds = holds-none ds; valid = tt }
 
 rows-length : (st : Store) → length (map row_of st) ≡ length st
 rows-length [] = refl
 rows-length (x ∷ st) = ap suc (rows-length st)
 
-module _ (ds : List ℕ) (n : ℕ) (st : Store) (h : Stores ds n st) where
+module _ (ds : Table) (n : ℕ) (st : Store) (h : Stores ds n st) where
   pub stores-count : length st ≡ n
   stores-count = sym (h.holds.count ∙ rows-length st)
 
@@ -78,7 +78,17 @@ module _ (ds : List ℕ) (n : ℕ) (st : Store) (h : Stores ds n st) where
 
 -- ---- one datum more
 
-module _ (ds : List ℕ) (given i : ℕ) (e : List ℤ) (p : ℕ) (v : Value) (key word : ℕ) (r : Result (Unit {0}) InsertError) (ds' : List ℕ) (k : key ≡ key_of i e) (w : word ≡ packed v)
+-- a row that was inserted has room
+pub inserted-room : (ds : Table) (given key word : ℕ) (r : Result (Unit {0}) InsertError) (ds' : Table) → Inserted ds given key word r ds' → r ≡ Ok tt → given < length ds
+unfolding has_room insertion_of
+inserted-room ds given key word r ds' f d = ltb-true given (length ds) (go (place_of ds given key) (ltb given (length ds)) (sym f.answer ∙ d))
+  where
+    go : (x : Result ℕ ℕ) (b : Bool) → insertion_at x b ≡ Ok tt → b ≡ true
+    go (Ok i) b e = absurd (let z : ◌≡◌ {A = ℕ} 0 1 = cc in omega arith)
+    go (Err at) true e = refl
+    go (Err at) false e = absurd (let z : ◌≡◌ {A = ℕ} 0 1 = cc in omega arith)
+
+module _ (ds : Table) (given i : ℕ) (e : List ℤ) (p : ℕ) (v : Value) (key word : ℕ) (r : Result (Unit {0}) InsertError) (ds' : Table) (k : key ≡ key_of i e) (w : word ≡ packed v)
     (f : Inserted ds given key word r ds') where
   -- what the answer says of the store
   says : (st : Store) → Stores ds given st → Keyed i e → Says r (word_of (map row_of st) i e) (has_room ds given)
@@ -96,7 +106,7 @@ module _ (ds : List ℕ) (given i : ℕ) (e : List ℤ) (p : ℕ) (v : Value) (k
             rw (ap is_none (stored-word st h.valid i e ∙ ap value_in o)) (refl, refl);
       }
 
-  module _ (size : length ds ≡ 8192) where
+  module _ (size : length ds ≡ 2048) where
     room : (st : Store) → Stores ds given st → (b : Bool) → has_room ds given ≡ b → ltb (length st) data_limit ≡ b
     unfolding data_limit
     room st h b o = ap (λ n. ltb n 2048) (stores-count ds given st h) ∙ sym (room-rows ds given 2048 size) ∙ o
@@ -110,27 +120,15 @@ module _ (ds : List ℕ) (given i : ℕ) (e : List ℤ) (p : ℕ) (v : Value) (k
               rw (unset st h o, room st h false q) (refl, refl);
         }
 
-    pub enter-done : (c : ℕ) → r ≡ Ok tt → c ≡ cond (ltb given data_limit) (given + 1) given → Enters ds given i e p v (Ok c) ds'
+    pub enter-done : r ≡ Ok tt → Enters ds given i e p v (Ok (given + 1)) ds'
     unfolding entering
-    enter-done c d g =
+    enter-done d =
         record {
           is = λ st h a u.
               let (o, q) = subst (λ r. Says r (word_of (map row_of st) i e) (has_room ds given)) d (says st h a) in
-              let few : ltb given data_limit ≡ true = ap (λ n. ltb n data_limit) (sym (stores-count ds given st h)) ∙ room st h true q in
-              let count : c ≡ given + 1 = g ∙ ap (λ b. cond b (given + 1) given) few in
-              rw (unset st h o, room st h true q, count)
+              rw (unset st h o, room st h true q)
               (record {
                 holds = subst (λ w. Holds ds' (given + 1) (record { name = i; element = e; word = w } ∷ map row_of st)) w (holds-insert ds given (map row_of st) i e key h.holds a k word r ds' f d);
                 valid = (record { value = u; element = small-element e a.subscripts.small }, h.valid);
               });
         }
-
--- ---- a count
-
-pub more-below : (n : ℕ) → n < 2048 → n + 1 ≡ cond (ltb n data_limit) (n + 1) n
-unfolding data_limit
-more-below n h = rw (lt-ltb n 2048 h)
-
-pub more-full : (n : ℕ) → 2048 ≤ n → n ≡ cond (ltb n data_limit) (n + 1) n
-unfolding data_limit
-more-full n h = rw (le-ltb n 2048 h)

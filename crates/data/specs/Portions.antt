@@ -12,6 +12,7 @@ use Rattle.evaluator.specs.Ground.{Ground}
 use Rattle.data.specs.Reading.Lists.{Head, head_in}
 use Rattle.data.specs.Stores.{Stores}
 use Rattle.data.specs.Taking.{TakenIs}
+use Rattle.store.specs.Table.{Table}
 
 -- the head of a portion with n indices; a scalar has none
 unfoldable pub head_for : ℕ → ℕ → List Name → Reader Head
@@ -34,7 +35,7 @@ pub record Declares (s ns ts : List ℕ) (i c p : ℕ) (whole : Bool) (x : Porti
   pub domain : DomainAt s ts (take i ground.names) x.domain (row_word ns i 4)
   pub long : size x.domain ≡ c
 
-pub record CarriesOut (s ns ts ds : List ℕ) (given at i c p : ℕ) (whole : Bool) (r : Result (ℕ × ℕ) Refused) (ds' : List ℕ) : Type 0 where
+pub record CarriesOut (s ns ts : List ℕ) (ds : Table) (given at i c p : ℕ) (whole : Bool) (r : Result (ℕ × ℕ) Refused) (ds' : Table) : Type 0 where
   pub is : (x : Portion) (d : Declares s ns ts i c p whole x) (st : Store) → Stores ds given st → TakenIs (carry_in x st d.ground.names (from s ts at)) s ts ds' r
 
 -- behind a name
@@ -53,9 +54,9 @@ pub record Names (s ns ts : List ℕ) (i k c p : ℕ) (u : Used) : Type 0 where
   pub stands : slice_get ground.names i ≡ Some name
   pub sorted : u.sort ≡ name.sort
 
-pub record Uses (s ns ts ds : List ℕ) (given at i k c p : ℕ) (r : Result (ℕ × ℕ) Refused) (ds' : List ℕ) : Type 0 where
+pub record Uses (s ns ts : List ℕ) (ds : Table) (given at i k c p : ℕ) (r : Result (ℕ × ℕ) Refused) (ds' : Table) : Type 0 where
   pub is : (u : Used) (d : Names s ns ts i k c p u) (st : Store) → Stores ds given st → TakenIs (used_in d.ground.names st u (from s ts at)) s ts ds' r
 
 -- the reader m, from the store on that the table holds
-pub record Fills (m : List Name → Store → Reader Store) (s ns ts ds : List ℕ) (given at : ℕ) (r : Result (ℕ × ℕ) Refused) (ds' : List ℕ) : Type 0 where
+pub record Fills (m : List Name → Store → Reader Store) (s ns ts : List ℕ) (ds : Table) (given at : ℕ) (r : Result (ℕ × ℕ) Refused) (ds' : Table) : Type 0 where
   pub is : (g : Ground s ns ts) (st : Store) → Stores ds given st → TakenIs (m g.names st (from s ts at)) s ts ds' r

@@ -28,6 +28,7 @@ use Rattle.data.specs.declared.running.Portion.{Portion as Worked}
 use Rattle.data.specs.Stores.{Stores}
 use Rattle.evaluator.specs.Ground.{Ground}
 use Rattle.data.specs.Layouts.{LaidBy}
+use Rattle.store.specs.Table.{Table}
 
 -- the scope of position j: its earlier positions that are bound by now, with the indices l
 unfoldable pub before : List ℕ → Bound → ℕ → Scope → Scope
@@ -81,6 +82,6 @@ pub record RunsFrom (sc : Held) (b : Bounds) (r : Result (Limits × ℕ) Refused
   pub is : SmallLimits b.limits → (known : ℕ → List ℤ → Option Value) → run_of (limits_in b.limits) b.number (scope_of known sc) b.place ≡ run_outcome r
   pub short : SmallLimits b.limits → ShortRun r
 
-pub record PositionRuns (ns ts ds : List ℕ) (given : ℕ) (h : Worked) (e : Entries) (j : ℕ) (r : Result (Limits × ℕ) Refused) : Type 0 where
+pub record PositionRuns (ns ts : List ℕ) (ds : Table) (given : ℕ) (h : Worked) (e : Entries) (j : ℕ) (r : Result (Limits × ℕ) Refused) : Type 0 where
   pub is : (s : List ℕ) (x : Portion) → Carries s ns ts h e x → (st : Store) → Stores ds given st → position_run x.domain (bound_of (entries_of e)) j (Store.scope_of st) ≡ run_outcome r
   pub short : (s : List ℕ) (x : Portion) → Carries s ns ts h e x → (st : Store) → Stores ds given st → ShortRun r

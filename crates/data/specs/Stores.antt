@@ -11,18 +11,19 @@ use Rattle.language.specs.Store.{Datum, Store, stored}
 use Rattle.language.specs.Valid.{ValidStore}
 use Rattle.store.specs.Packed.{packed}
 use Rattle.store.specs.Entries.{Keyed, Entry, Holds}
+use Rattle.store.specs.Table.{Table}
 
 -- a datum's row
 abbrev pub row_of : Datum → Entry
 row_of x = record { name = x.name; element = x.element; word = packed x.value }
 
 -- the first n rows of a table hold the store
-pub record Stores (ds : List ℕ) (n : ℕ) (st : Store) : Type 0 where
+pub record Stores (ds : Table) (n : ℕ) (st : Store) : Type 0 where
   pub holds : Holds ds n (map row_of st)
   pub valid : ValidStore st
 
 -- the same refusal, or a table that holds the store
-abbrev pub StoreIs : Outcome Store → List ℕ → Result ℕ Refused → Type 0
+abbrev pub StoreIs : Outcome Store → Table → Result ℕ Refused → Type 0
 StoreIs (done st) ds (Ok n) = Stores ds n st
 StoreIs (done st) ds (Err e) = ⊥
 StoreIs (refused r q) ds (Ok n) = ⊥
@@ -35,5 +36,5 @@ entering i e p v st = do
   _ ← check Full p (ltb (length st) data_limit)
   done (record { name = i; element = e; value = v } ∷ st)
 
-pub record Enters (ds : List ℕ) (given i : ℕ) (e : List ℤ) (p : ℕ) (v : Value) (r : Result ℕ Refused) (ds' : List ℕ) : Type 0 where
+pub record Enters (ds : Table) (given i : ℕ) (e : List ℤ) (p : ℕ) (v : Value) (r : Result ℕ Refused) (ds' : Table) : Type 0 where
   pub is : (st : Store) → Stores ds given st → Keyed i e → Valid v → StoreIs (entering i e p v st) ds' r

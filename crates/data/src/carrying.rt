@@ -10,7 +10,8 @@ use super::reading::heads::Plan;
 use super::running::Portion;
 use super::{layouts, running};
 use rules::{Refused, refused};
-use tokens::{Known, Text, sorts};
+use store::Row;
+use tokens::{Known, Sort, Text};
 
 // The head of a portion whose name stands at `place` and has `count` indices; without indices there is none.
 fn head_of(text: Text<'_>, at: usize, place: u64, count: usize) -> Result<Plan, Refused>
@@ -29,7 +30,7 @@ fn head_of(text: Text<'_>, at: usize, place: u64, count: usize) -> Result<Plan, 
 // The head and the numbers of a portion behind its name; whether the name is an integer.
 fn carry_out(
     text: Text<'_>,
-    table: &mut [u64; 8192],
+    table: &mut [Row; 2048],
     given: usize,
     name: Known,
     whole: bool,
@@ -63,14 +64,14 @@ fn carry_out(
 // The portion of a name that was read: an integer or a real.
 fn of_name(
     text: Text<'_>,
-    table: &mut [u64; 8192],
+    table: &mut [Row; 2048],
     given: usize,
     name: Known,
 ) -> Result<(usize, usize), Refused>
     ensures { In Uses text.entry table.old given name.next name.number name.sort name.count name.place result table.new }
 {
-    let whole = name.sort == sorts::INTEGER;
-    if whole | (name.sort == sorts::REAL) {
+    let whole = name.sort == Sort::Integer as u64;
+    if whole | (name.sort == Sort::Real as u64) {
         return carry_out(text, table, given, name, whole);
     }
     refused!(Misplaced, name.place)
@@ -79,7 +80,7 @@ fn of_name(
 // The portion at a position.
 pub fn portion(
     text: Text<'_>,
-    table: &mut [u64; 8192],
+    table: &mut [Row; 2048],
     given: usize,
     at: usize,
 ) -> Result<(usize, usize), Refused>

@@ -1,6 +1,4 @@
 // One number: its tests, and its row in the store.
-ghost use Rattle.std.specs.Prelude.{◌≡◌, cond, ◌+◌, ltb};
-ghost use Rattle.rules.specs.Limits.{data_limit};
 ghost use Rattle.store.specs.Element.{list_of};
 ghost use Rattle.data.specs.Stores.{Enters};
 ghost use Rattle.data.specs.Taking.{Suits, Accepts, Takes};
@@ -10,22 +8,12 @@ use super::reading::numbers::Numbered;
 use super::running::Portion;
 use evaluator::Stored;
 use rules::{Refused, refused};
-use store::{Element, InsertError};
+use store::{Element, InsertError, Row};
 use value::Value;
-
-// One more, up to the limit.
-fn one_more(n: usize) -> usize
-    ensures { result ≡ cond (ltb n data_limit) (n + 1) n }
-{
-    if n < rules::DATA_LIMIT {
-        return n + 1;
-    }
-    n
-}
 
 // A new datum, whose sign stands at p: refused if there is one already, or if the table is full.
 fn enter(
-    table: &mut [u64; 8192],
+    table: &mut [Row; 2048],
     given: usize,
     name: usize,
     e: Element,
@@ -37,7 +25,7 @@ fn enter(
     let key = store::key_of(name, e);
     let word = store::pack(v);
     match store::insert(table, given, key, word) {
-        Ok(()) => Ok(one_more(given)),
+        Ok(()) => Ok(given + 1),
         Err(InsertError::Present) => refused!(Missing, p),
         Err(InsertError::NoRoom) => refused!(Full, p),
     }
@@ -50,14 +38,14 @@ fn suits(whole: bool, v: Value) -> bool
     if !whole {
         return true;
     }
-    value::whole_of(v).is_some()
+    i64::try_from(v).is_ok()
 }
 
 // A number for the element e: whole for an integer, inside the domain, given once.
 fn accept(
     names: &[u64],
     tokens: &[u64],
-    table: &mut [u64; 8192],
+    table: &mut [Row; 2048],
     given: usize,
     x: Portion,
     e: Element,
@@ -82,7 +70,7 @@ fn accept(
 pub fn take(
     names: &[u64],
     tokens: &[u64],
-    table: &mut [u64; 8192],
+    table: &mut [Row; 2048],
     given: usize,
     at: usize,
     x: Portion,

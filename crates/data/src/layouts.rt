@@ -4,7 +4,7 @@ ghost use Rattle.data.specs.Layouts.{Passes, LaysOut, Lays};
 ghost use Rattle.tokens.specs.Text.{In};
 
 use super::reading::few::Few;
-use lexer::marks;
+use lexer::Mark;
 use tokens::Text;
 
 #[derive(Clone, Copy)]
@@ -17,7 +17,7 @@ pub struct Layout {
 fn pass_entry(text: Text<'_>, level: usize, at: usize) -> Option<(usize, usize)>
     ensures { In Passes text.entry level at result }
 {
-    let lower = formulas::part(text, at, rules::NESTING_LIMIT, marks::AT_MOST);
+    let lower = formulas::part(text, at, rules::NESTING_LIMIT, Mark::AtMost);
     let Ok(index) = lower else {
         return None;
     };

@@ -12,6 +12,7 @@ ghost use Rattle.data.specs.Sections.{ReadsData};
 ghost use Rattle.tokens.specs.Text.{In};
 
 use rules::Refused;
+use store::Row;
 use tokens::Text;
 
 // The place of the data section's title and the number of its bytes, 0 where there is no data section; and how many data
@@ -24,7 +25,7 @@ pub struct Given {
 }
 
 // At most one data section, `CLOSE` and the text's end. The store starts empty.
-pub fn read(text: Text<'_>, table: &mut [u64; 8192], at: usize) -> Result<Given, Refused>
+pub fn read(text: Text<'_>, table: &mut [Row; 2048], at: usize) -> Result<Given, Refused>
     ensures { In ReadsData text.entry at result table.new }
 {
     let section = sections::optional_section(text, table, at)?;

@@ -16,7 +16,7 @@ use evaluator::steps::values;
 use evaluator::steps::values::Limits;
 use evaluator::{Context, Stored};
 use rules::Refused;
-use store::Element;
+use store::{Element, Row};
 
 // A portion: its name's number and place, whether it is an integer, its declared domain, and the positions that run, the
 // outermost first.
@@ -90,7 +90,7 @@ fn position_run(
 pub fn runs(
     names: &[u64],
     tokens: &[u64],
-    table: &mut [u64; 8192],
+    table: &mut [Row; 2048],
     given: usize,
     at: usize,
     x: Portion,
@@ -120,7 +120,7 @@ pub fn runs(
 fn each(
     names: &[u64],
     tokens: &[u64],
-    table: &mut [u64; 8192],
+    table: &mut [Row; 2048],
     given: usize,
     at: usize,
     x: Portion,

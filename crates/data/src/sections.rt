@@ -6,9 +6,10 @@ ghost use Rattle.tokens.specs.Text.{In};
 use super::carrying::portion;
 use super::reading::ends;
 use super::reading::ends::Titled;
-use lexer::marks;
+use lexer::Mark;
 use rules::{Refused, refused};
-use tokens::{Text, kinds};
+use store::Row;
+use tokens::{Kind, Text};
 
 // The title's place and the number of its bytes, how many data elements there are, and the position behind `CLOSE`.
 #[derive(Clone, Copy)]
@@ -22,7 +23,7 @@ pub struct Section {
 // One or more portions, into an empty store.
 fn portions_of(
     text: Text<'_>,
-    table: &mut [u64; 8192],
+    table: &mut [Row; 2048],
     at: usize,
 ) -> Result<(usize, usize), Refused>
     ensures { In FillsAll text.entry at result table.new }
@@ -32,7 +33,7 @@ fn portions_of(
     for _ in 0..rules::BYTE_LIMIT {
         let (next, n) = portion(text, table, count, a)?;
         let token = tokens::token_at(text.tokens, next)?;
-        if token.kind != kinds::NAME {
+        if token.kind != Kind::Name as u64 {
             return Ok((next, n));
         }
         a = next;
@@ -42,7 +43,7 @@ fn portions_of(
 }
 
 // The portions and `CLOSE`, behind a title.
-fn closed(text: Text<'_>, table: &mut [u64; 8192], title: Titled) -> Result<Section, Refused>
+fn closed(text: Text<'_>, table: &mut [Row; 2048], title: Titled) -> Result<Section, Refused>
     ensures { In (Sections (rest_in text.entry.bytes.now title.place title.length)) text.entry title.next result table.new }
 {
     let (close, count) = portions_of(text, table, title.next)?;
@@ -56,7 +57,7 @@ fn closed(text: Text<'_>, table: &mut [u64; 8192], title: Titled) -> Result<Sect
 }
 
 // A data section behind its `INIT`.
-fn data_of(text: Text<'_>, table: &mut [u64; 8192], at: usize) -> Result<Section, Refused>
+fn data_of(text: Text<'_>, table: &mut [Row; 2048], at: usize) -> Result<Section, Refused>
     ensures { In (Sections data_of) text.entry at result table.new }
 {
     let title = ends::title(text.tokens, at)?;
@@ -66,16 +67,16 @@ fn data_of(text: Text<'_>, table: &mut [u64; 8192], at: usize) -> Result<Section
 // A data section and its `CLOSE`, or `CLOSE` alone.
 pub fn optional_section(
     text: Text<'_>,
-    table: &mut [u64; 8192],
+    table: &mut [Row; 2048],
     at: usize,
 ) -> Result<Section, Refused>
     ensures { In (Sections section_in) text.entry at result table.new }
 {
     let token = tokens::token_at(text.tokens, at)?;
-    if token.kind == marks::INIT as u64 {
+    if token.kind == Mark::Init as u64 {
         return data_of(text, table, token.next);
     }
-    if token.kind != marks::CLOSE as u64 {
+    if token.kind != Mark::Close as u64 {
         return refused!(Misplaced, token.place);
     }
     Ok(Section {

@@ -4,10 +4,10 @@ use Rattle.rules.specs.declared.Refused.{Refused}
 use mathlib.Core.Path.{◌≡◌, refl, sym, ◌∙◌, ap, subst}
 use mathlib.Core.Bool.{Bool, true, false}
 use mathlib.Core.List.{List, [], ◌∷◌, ◌++◌, append_assoc, append-nil}
-use Prim.Native.Nat.{ℕ, suc, ◌+◌, ◌*◌, ◌-◌, ◌/◌, ◌<◌, ◌≤◌}
+use Prim.Native.Nat.{ℕ, zero, suc, ◌+◌, ◌*◌, ◌-◌, ◌/◌, ◌<◌, ◌≤◌}
 use native.Mathlib.Omega.{arith}
 use lib.Dec.{eqb}
-use lib.ListN.{length}
+use lib.ListN.{length, get_or}
 use lib.Seq.{length-take-le}
 use borrow.Author.Tests.{eq-eqb, ne_eqb}
 use Rattle.rules.specs.declared.Refusal.TheVariants.{Misplaced, Full}
@@ -19,7 +19,9 @@ use Rattle.language.specs.Syntax.{Name, Sort}
 use Rattle.language.specs.Reader.{Reader, Read, follow, ◌>>=◌, give, next, look, is_mark, require, Titled}
 use Rattle.language.specs.Declarations.{new_name, entries_from, list_of, declarations}
 use Rattle.tokens.specs.declared.Seen.{Seen}
-use Rattle.tokens.specs.Stored.{spelling, from, Sees, Looks, Shaped, Named, rows_of, Put, Moves}
+use Rattle.tokens.specs.declared.Sort.{Sort as CodeSort}
+use Rattle.tokens.specs.declared.Sort.TheVariants.{Index, Integer, Real, Formula, Discrete, Continuous}
+use Rattle.tokens.specs.Stored.{spelling, sort_number, from, Sees, Looks, Shaped, Named, rows_of, Put, Moves}
 use Rattle.tokens.proofs.Tables.{put-rows}
 use Rattle.tokens.proofs.Moved.{Got, got, stuck, follow-same, look_is, next-is, is-mark}
 use Rattle.declarations.specs.declared.Row.{Row}
@@ -155,7 +157,10 @@ module _ (s ts ns : List ℕ) (k count at : ℕ) where
           let x = o.reached start d in
           x.same ∙ one x.names ∙ ap (λ o. follow o (entries_then k (4096 - (i + 1)) x.names)) (stuck (row_in k) s (rows_of n ns') ts a (Err z) h x.names x.are.named z refl))
 
-      module _ (row : Row) (b : ℕ) (h : RowedAt s (rows_of n ns') ts k a row b) (ns'' : List ℕ) (room : 320 ≤ length ns) (l : k ≤ 5) (w : Put ns' n (row.place ∷ row.bytes ∷ k ∷ row.count ∷ row.position ∷ []) ns'') where
+      module _ (row : Row) (b : ℕ) (h : RowedAt s (rows_of n ns') ts k a row b) (ns'' : List ℕ) (room : 320 ≤ length ns) (l : k ≤ 5) (x : ℕ) (w' : Put ns' n (row.place ∷ row.bytes ∷ x ∷ row.count ∷ row.position ∷ []) ns'') (same : x ≡ k) where
+        w : Put ns' n (row.place ∷ row.bytes ∷ k ∷ row.count ∷ row.position ∷ []) ns''
+        w = rw same at w'
+
         below : n < 64
         below =
             let r : length (rows_of n ns') / 5 < 64 = h.room in
@@ -223,25 +228,25 @@ module _ (s ts ns : List ℕ) (k count at : ℕ) (t : Result Seen Refused) (l : 
       list-is names ∙ ap (λ o. follow o (λ t. list_turn (is_mark (index_word + k) t) names)) (look_is s ts at z (subst (Sees s ts at) e (l.sees s)))
       ∙ ap (λ v. list_turn v names (from s ts at)) (is-mark s (index_word + k) z.kind z.place z.payload (omega arith) ∙ i)
 
-  pub list-word : (w : Seen) (r : Result (ℕ × ℕ) Refused) (ns' : List ℕ) → t ≡ Ok w → w.kind ≡ index_word + k → Lists (entries_in k token_limit) s ts ns count w.next r ns' → Lists (list_in k) s ts ns count at r ns'
+  pub list-word : (w : Seen) (r : Result (ℕ × ℕ) Refused) (ns' : List ℕ) (x : ℕ) → t ≡ Ok w → x ≡ k → w.kind ≡ index_word + x → Lists (entries_in k token_limit) s ts ns count w.next r ns' → Lists (list_in k) s ts ns count at r ns'
   unfolding list_turn
-  list-word z r ns' e i h =
+  list-word z r ns' x e j i h =
       record {
         size = h.size;
         within = h.within;
         lists = λ names d.
             subst (λ o. Listing o s ts r ns')
-            (sym (list-by z true names e (eq-eqb z.kind (index_word + k) i) ∙ ap (λ o. follow o (λ _. entries_in k token_limit names)) (next-is s ts at z (subst (Sees s ts at) e (l.sees s)))))
+            (sym (list-by z true names e (eq-eqb z.kind (index_word + k) (i ∙ ap (λ y. index_word + y) j)) ∙ ap (λ o. follow o (λ _. entries_in k token_limit names)) (next-is s ts at z (subst (Sees s ts at) e (l.sees s)))))
             (h.lists names d);
       }
 
-  pub list-none : (w : Seen) → count ≤ 64 → t ≡ Ok w → (w.kind ≡ index_word + k → ⊥) → Lists (list_in k) s ts ns count at (Ok (count, at)) ns
+  pub list-none : (w : Seen) (x : ℕ) → count ≤ 64 → t ≡ Ok w → x ≡ k → (w.kind ≡ index_word + x → ⊥) → Lists (list_in k) s ts ns count at (Ok (count, at)) ns
   unfolding list_turn
-  list-none z w e i =
+  list-none z x w e j i =
       record {
         size = refl;
         within = w;
-        lists = λ names d. subst (λ o. Listing o s ts (Ok (count, at)) ns) (sym (list-by z false names e (ne_eqb z.kind (index_word + k) i))) (refl, d);
+        lists = λ names d. subst (λ o. Listing o s ts (Ok (count, at)) ns) (sym (list-by z false names e (ne_eqb z.kind (index_word + k) (λ f. i (f ∙ ap (λ y. index_word + y) (sym j)))))) (refl, d);
       }
 
   pub list-wrong : (e : Refused) → t ≡ Err e → Lists (list_in k) s ts ns count at (Err e) ns
@@ -266,6 +271,19 @@ pub record ListsOn (s ts ns : List ℕ) (at k n a : ℕ) (ns' : List ℕ) : Type
   pub within : n ≤ 64
   pub gone : (start : List Name) → NamesAre s ts (rows_of 0 ns) start → Gone s ts k start at a (rows_of n ns')
 
+-- the k-th sort
+abbrev sort_at : ℕ → CodeSort
+sort_at k = get_or (Index ∷ Integer ∷ Real ∷ Formula ∷ Discrete ∷ Continuous ∷ []) k Index
+
+sort-listed : (k : ℕ) → k < 6 → sort_number (sort_at k) ≡ k
+sort-listed zero h = refl
+sort-listed (suc zero) h = refl
+sort-listed (suc (suc zero)) h = refl
+sort-listed (suc (suc (suc zero))) h = refl
+sort-listed (suc (suc (suc (suc zero)))) h = refl
+sort-listed (suc (suc (suc (suc (suc zero))))) h = refl
+sort-listed (suc (suc (suc (suc (suc (suc k)))))) h = absurd (omega arith)
+
 module _ (s ts ns : List ℕ) (at : ℕ) where
   pub lists-start : ListsOn s ts ns at 0 0 at ns
   lists-start = record { size = refl; within = omega arith; gone = λ start d. record { names = start; are = d; same = refl } }
@@ -284,6 +302,9 @@ module _ (s ts ns : List ℕ) (at : ℕ) where
         }
 
     module _ (m : k < 6) (ns'' : List ℕ) where
+      this : sort_number (sort_at k) ≡ k
+      this = sort-listed k m
+
       first : (names : List Name) → lists_in (6 - k) k names (from s ts a) ≡ follow (list_in k names (from s ts a)) (lists_in (6 - (k + 1)) (k + 1))
       unfolding lists_in
       first names =
@@ -291,8 +312,9 @@ module _ (s ts ns : List ℕ) (at : ℕ) where
           let f : k + 1 ≡ suc k = omega arith in
           ap (λ j. lists_in j k names (from s ts a)) e ∙ ap (λ i. follow (list_in k names (from s ts a)) (lists_in (6 - (k + 1)) i)) (sym f)
 
-      pub lists-refused : (e : Refused) → Lists (list_in k) s ts ns' n a (Err e) ns'' → Lists (lists_in 6 0) s ts ns 0 at (Err e) ns''
-      lists-refused e h =
+      pub lists-refused : (e : Refused) → Lists (list_in (sort_number (sort_at k))) s ts ns' n a (Err e) ns'' → Lists (lists_in 6 0) s ts ns 0 at (Err e) ns''
+      lists-refused e h' =
+          let h : Lists (list_in k) s ts ns' n a (Err e) ns'' = subst (λ j. Lists (list_in j) s ts ns' n a (Err e) ns'') this h' in
           record {
             size = h.size ∙ o.size;
             within = tt;
@@ -305,8 +327,9 @@ module _ (s ts ns : List ℕ) (at : ℕ) where
           go (done x) i = absurd i
           go (refused j q) i = i
 
-      pub lists-on : (c b : ℕ) → Lists (list_in k) s ts ns' n a (Ok (c, b)) ns'' → ListsOn s ts ns at (k + 1) c b ns''
-      lists-on c b h =
+      pub lists-on : (c b : ℕ) → Lists (list_in (sort_number (sort_at k))) s ts ns' n a (Ok (c, b)) ns'' → ListsOn s ts ns at (k + 1) c b ns''
+      lists-on c b h' =
+          let h : Lists (list_in k) s ts ns' n a (Ok (c, b)) ns'' = subst (λ j. Lists (list_in j) s ts ns' n a (Ok (c, b)) ns'') this h' in
           record {
             size = h.size ∙ o.size;
             within = h.within;

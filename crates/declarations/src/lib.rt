@@ -3,16 +3,16 @@
 
 ghost use Rattle.std.specs.Prelude.{Ok, Err, MatchResult, ◌≤◌, length};
 ghost use Rattle.rules.specs.Limits.{token_limit};
-ghost use Rattle.tokens.specs.Stored.{Moves, Gives};
+ghost use Rattle.tokens.specs.Stored.{Moves, Gives, sort_number};
 ghost use Rattle.tokens.specs.Pieces.{index_in};
 ghost use Rattle.tokens.specs.Text.{In};
 ghost use Rattle.domains.specs.Domains.{entry_with};
 ghost use Rattle.declarations.specs.Readers.{due_with, due_in, joint_in, indices_in, subscripted_in, domain_in, entry_in, new_name_in, separator_in, row_in, entries_in, list_in, lists_in};
 ghost use Rattle.declarations.specs.Tables.{IsNumber, IsMore, Indexed, Spanning, Entered, TitledAt, RowedAt, Lists, Declared};
 
-use lexer::marks;
+use lexer::Mark;
 use rules::{Refused, refused};
-use tokens::{Text, kinds, sorts};
+use tokens::{Kind, Sort, Text};
 
 // The numbers of a list's indices, the first `count` of these.
 #[derive(Clone, Copy)]
@@ -61,9 +61,9 @@ fn due_entry(text: Text<'_>, at: usize, i: usize, taken: bool) -> Result<usize, 
     ensures { In (Moves (entry_with (due_with i taken))) text.entry at result }
 {
     let nest = rules::NESTING_LIMIT;
-    let lower = formulas::part(text, at, nest, marks::AT_MOST)?;
+    let lower = formulas::part(text, at, nest, Mark::AtMost)?;
     let index = due_index(text, lower, i, taken)?;
-    let sign = tokens::expect(text, index, marks::AT_MOST)?;
+    let sign = tokens::expect(text, index, Mark::AtMost)?;
     formulas::inside(text, sign, nest)
 }
 
@@ -77,9 +77,9 @@ fn due(text: Text<'_>, at: usize, list: &[usize]) -> Result<usize, Refused>
         let taken = list[..k].contains(&i);
         let end = due_entry(text, start, i, taken)?;
         if k + 1 == list.len() {
-            return tokens::expect(text, end, marks::RIGHT_PAREN);
+            return tokens::expect(text, end, Mark::RightParen);
         }
-        start = tokens::expect(text, end, marks::COMMA)?;
+        start = tokens::expect(text, end, Mark::Comma)?;
     }
     Ok(start)
 }
@@ -91,7 +91,7 @@ fn index_number(text: Text<'_>, at: usize) -> Result<(usize, usize), Refused>
         (λ e. In (Moves index_in) text.entry at (Err e)) }
 {
     let name = tokens::known_name(text, at)?;
-    if name.sort != sorts::INDEX {
+    if name.sort != Sort::Index as u64 {
         return refused!(Misplaced, name.place);
     }
     Ok((name.number, name.next))
@@ -104,10 +104,10 @@ fn index_joint(text: Text<'_>, at: usize, left: usize) -> Result<(bool, usize), 
         (λ e. In (Moves (joint_in left)) text.entry at (Err e)) }
 {
     let token = tokens::token_at(text.tokens, at)?;
-    if (0 < left) & (token.kind == marks::COMMA as u64) {
+    if (0 < left) & (token.kind == Mark::Comma as u64) {
         return Ok((true, token.next));
     }
-    let next = tokens::expect(text, at, marks::RIGHT_BRACKET)?;
+    let next = tokens::expect(text, at, Mark::RightBracket)?;
     Ok((false, next))
 }
 
@@ -139,9 +139,9 @@ fn domain(text: Text<'_>, at: usize) -> Result<(Entry, usize), Refused>
         (λ e. In (Moves domain_in) text.entry at (Err e)) }
 {
     let nest = rules::NESTING_LIMIT;
-    let open = tokens::bracket(text, at, nest, marks::LEFT_BRACKET)?;
+    let open = tokens::bracket(text, at, nest, Mark::LeftBracket)?;
     let (list, next) = read_indices(text, open)?;
-    let first = tokens::bracket(text, next, nest, marks::LEFT_PAREN)?;
+    let first = tokens::bracket(text, next, nest, Mark::LeftParen)?;
     let end = due(text, first, &list.numbers[..list.count])?;
     let entry = Entry {
         count: list.count as u64,
@@ -157,7 +157,7 @@ fn subscripted(text: Text<'_>, at: usize) -> Result<(Entry, usize), Refused>
         (λ e. In (Moves subscripted_in) text.entry at (Err e)) }
 {
     let token = tokens::token_at(text.tokens, at)?;
-    if token.kind == marks::LEFT_BRACKET as u64 {
+    if token.kind == Mark::LeftBracket as u64 {
         return domain(text, at);
     }
     let none = Entry {
@@ -168,28 +168,30 @@ fn subscripted(text: Text<'_>, at: usize) -> Result<(Entry, usize), Refused>
 }
 
 // What stands behind a declared name of the given sort, and the position after it.
-fn read_entry(text: Text<'_>, at: usize, sort: u64) -> Result<(Entry, usize), Refused>
+fn read_entry(text: Text<'_>, at: usize, sort: Sort) -> Result<(Entry, usize), Refused>
     ensures { MatchResult result
-        (λ w. In (Gives (entry_in sort) (Entered text.entry.bytes.now text.entry.tokens.now sort w.0.count w.0.position)) text.entry at (Ok w.1))
-        (λ e. In (Moves (entry_in sort)) text.entry at (Err e)) }
+        (λ w. In (Gives (entry_in (sort_number sort)) (Entered text.entry.bytes.now text.entry.tokens.now (sort_number sort) w.0.count w.0.position)) text.entry at (Ok w.1))
+        (λ e. In (Moves (entry_in (sort_number sort))) text.entry at (Err e)) }
 {
-    if sort == sorts::INDEX {
-        let none = Entry {
-            count: 0,
-            position: 0,
-        };
-        return Ok((none, at));
+    match sort {
+        Sort::Index => {
+            let none = Entry {
+                count: 0,
+                position: 0,
+            };
+            Ok((none, at))
+        }
+        Sort::Formula => {
+            let first = tokens::expect(text, at, Mark::Equals)?;
+            let end = formulas::formula(text, first, rules::NESTING_LIMIT)?;
+            let entry = Entry {
+                count: 0,
+                position: first as u64,
+            };
+            Ok((entry, end))
+        }
+        _ => subscripted(text, at),
     }
-    if sort == sorts::FORMULA {
-        let first = tokens::expect(text, at, marks::EQUALS)?;
-        let end = formulas::formula(text, first, rules::NESTING_LIMIT)?;
-        let entry = Entry {
-            count: 0,
-            position: first as u64,
-        };
-        return Ok((entry, end));
-    }
-    subscripted(text, at)
 }
 
 // A new name, and the position after it: 3 if there is none, 4 if it is declared again, 6 if it is the 65th.
@@ -200,7 +202,7 @@ fn new_name(text: Text<'_>, at: usize) -> Result<(Title, usize), Refused>
 {
     let token = tokens::token_at(text.tokens, at)?;
     let place = token.place;
-    if token.kind != kinds::NAME {
+    if token.kind != Kind::Name as u64 {
         return refused!(Misplaced, place);
     }
     let bytes = token.payload % tokens::NAME_UNIT;
@@ -220,20 +222,20 @@ fn separator(text: Text<'_>, at: usize) -> Result<(bool, usize), Refused>
         (λ e. In (Moves separator_in) text.entry at (Err e)) }
 {
     let token = tokens::token_at(text.tokens, at)?;
-    if token.kind == marks::COMMA as u64 {
+    if token.kind == Mark::Comma as u64 {
         return Ok((true, token.next));
     }
-    if token.kind == marks::SEMICOLON as u64 {
+    if token.kind == Mark::Semicolon as u64 {
         return Ok((false, token.next));
     }
     refused!(Misplaced, token.place)
 }
 
 // A name of the given sort, what stands behind it, and the sign that ends its entry.
-fn read_row(text: Text<'_>, at: usize, sort: u64) -> Result<(Row, usize), Refused>
+fn read_row(text: Text<'_>, at: usize, sort: Sort) -> Result<(Row, usize), Refused>
     ensures { MatchResult result
-        (λ w. In RowedAt text.entry sort at w.0 w.1)
-        (λ e. In (Moves (row_in sort)) text.entry at (Err e)) }
+        (λ w. In RowedAt text.entry (sort_number sort) at w.0 w.1)
+        (λ e. In (Moves (row_in (sort_number sort))) text.entry at (Err e)) }
 {
     let (title, next) = new_name(text, at)?;
     let (entry, next) = read_entry(text, next, sort)?;
@@ -256,10 +258,10 @@ fn entries(
     names: &mut [u64],
     at: usize,
     count: usize,
-    sort: u64,
+    sort: Sort,
 ) -> Result<(usize, usize), Refused>
-    requires { (320 ≤ length names.old) × (count ≤ 64) × (sort ≤ 5) }
-    ensures { Lists (entries_in sort token_limit) text.now tokens.now names.old count at result names.new }
+    requires { (320 ≤ length names.old) × (count ≤ 64) }
+    ensures { Lists (entries_in (sort_number sort) token_limit) text.now tokens.now names.old count at result names.new }
 {
     let mut n = count;
     let mut start = at;
@@ -276,7 +278,7 @@ fn entries(
             n,
             row.place,
             row.bytes,
-            sort,
+            sort.number(),
             row.count,
             row.position,
         );
@@ -296,13 +298,13 @@ fn list(
     names: &mut [u64],
     at: usize,
     count: usize,
-    sort: u64,
+    sort: Sort,
 ) -> Result<(usize, usize), Refused>
-    requires { (320 ≤ length names.old) × (count ≤ 64) × (sort ≤ 5) }
-    ensures { Lists (list_in sort) text.now tokens.now names.old count at result names.new }
+    requires { (320 ≤ length names.old) × (count ≤ 64) }
+    ensures { Lists (list_in (sort_number sort)) text.now tokens.now names.old count at result names.new }
 {
     let token = tokens::token_at(tokens, at)?;
-    if token.kind != marks::INDEX as u64 + sort {
+    if token.kind != Mark::Index as u64 + sort.number() {
         return Ok((count, at));
     }
     entries(text, tokens, names, token.next, count, sort)
@@ -320,7 +322,14 @@ fn lists(
 {
     let mut n = 0;
     let mut start = at;
-    for sort in 0..6 {
+    for sort in [
+        Sort::Index,
+        Sort::Integer,
+        Sort::Real,
+        Sort::Formula,
+        Sort::Discrete,
+        Sort::Continuous,
+    ] {
         let (count, next) = list(text, tokens, names, start, n, sort)?;
         n = count;
         start = next;

@@ -6,7 +6,7 @@ ghost use Rattle.tokens.specs.Pieces.{index_in};
 ghost use Rattle.tokens.specs.Text.{In};
 ghost use Rattle.domains.specs.Domains.{entry_with, entries_in, domain_in, optional_in};
 
-use lexer::marks;
+use lexer::Mark;
 use rules::Refused;
 use tokens::Text;
 
@@ -14,9 +14,9 @@ use tokens::Text;
 pub fn entry(text: Text<'_>, at: usize) -> Result<usize, Refused>
     ensures { In (Moves (entry_with index_in)) text.entry at result }
 {
-    let lower = formulas::part(text, at, rules::NESTING_LIMIT, marks::AT_MOST)?;
+    let lower = formulas::part(text, at, rules::NESTING_LIMIT, Mark::AtMost)?;
     let i = tokens::index(text, lower)?;
-    let sign = tokens::expect(text, i, marks::AT_MOST)?;
+    let sign = tokens::expect(text, i, Mark::AtMost)?;
     formulas::inside(text, sign, rules::NESTING_LIMIT)
 }
 
@@ -26,11 +26,11 @@ fn entries(text: Text<'_>, at: usize, left: usize) -> Result<usize, Refused>
 {
     let first = entry(text, at)?;
     if left == 0 {
-        return tokens::expect(text, first, marks::RIGHT_PAREN);
+        return tokens::expect(text, first, Mark::RightParen);
     }
     let token = tokens::token_at(text.tokens, first)?;
-    if token.kind != marks::COMMA as u64 {
-        return tokens::expect(text, first, marks::RIGHT_PAREN);
+    if token.kind != Mark::Comma as u64 {
+        return tokens::expect(text, first, Mark::RightParen);
     }
     entries(text, token.next, left - 1)
 }
@@ -39,7 +39,7 @@ fn entries(text: Text<'_>, at: usize, left: usize) -> Result<usize, Refused>
 fn domain(text: Text<'_>, at: usize) -> Result<usize, Refused>
     ensures { In (Moves domain_in) text.entry at result }
 {
-    let open = tokens::bracket(text, at, rules::NESTING_LIMIT, marks::LEFT_PAREN)?;
+    let open = tokens::bracket(text, at, rules::NESTING_LIMIT, Mark::LeftParen)?;
     entries(text, open, rules::INDEX_LIMIT - 1)
 }
 
@@ -48,7 +48,7 @@ pub fn optional_domain(text: Text<'_>, at: usize) -> Result<usize, Refused>
     ensures { In (Moves optional_in) text.entry at result }
 {
     let token = tokens::token_at(text.tokens, at)?;
-    if token.kind != marks::LEFT_PAREN as u64 {
+    if token.kind != Mark::LeftParen as u64 {
         return Ok(at);
     }
     domain(text, at)

@@ -5,26 +5,27 @@ use mathlib.Core.Bool.{Bool, true, false, not}
 use mathlib.Core.List.{List, [], ◌∷◌, ◌++◌, map, map-append}
 use Prim.Native.Nat.{ℕ, zero, suc, ◌+◌, ◌<◌}
 use native.Mathlib.Omega.{arith}
-use borrow.Author.Tests.{lt-ltb, ltb-true}
+use borrow.Author.Tests.{ltb-true}
 use lib.Dec.{ltb}
 use lib.ListN.{length, take, drop, get_or, length-map, get_or-map}
 use lib.Seq.{take-suc, drop-cons}
 use lib.IntN.{ℤ, pos, ◌+ℤ◌}
-use lib.Signed.{◌≤ℤ◌, lt_z}
+use lib.Signed.{lt_z}
 use Rattle.rules.specs.Limits.{index_limit}
 use Rattle.value.specs.declared.Value.{Value}
-use Rattle.rational.proofs.Integer.{add_parts, le-of-parts}
 use Rattle.lexer.specs.Text.{Token}
 use Rattle.language.specs.Scope.{Scope, Binding, bind}
 use Rattle.evaluator.specs.declared.steps.scope.Scope.{Scope as HeldScope}
 use Rattle.evaluator.specs.Steps.Scopes.{bindings_of, scope_of, AllSmall, Small}
+use Rattle.store.specs.Few.{one_more}
+use Rattle.store.proofs.Fews.{more-room}
 use Rattle.elements.specs.declared.here.Level.{Level as HeldLevel}
 use Rattle.elements.specs.declared.here.Here.{Here as HeldHere}
 use Rattle.elements.specs.Levels.{Level, here_of, at_number}
-use Rattle.elements.specs.Held.{stepped, StepsUp, held, one_more, no-level, bound, level_at, levels_of}
+use Rattle.elements.specs.Held.{stepped, StepsUp, held, no-level, bound, level_at, levels_of}
 use Rattle.elements.specs.Steps.{SmallRun, SmallRuns}
 use Rattle.elements.proofs.Numbers.{not-false, next-size}
-use Rattle.elements.proofs.Held.{map-take}
+use Rattle.std.proofs.lemmas.List.{take-map}
 
 -- ---- what runs bind
 
@@ -36,8 +37,8 @@ scope-more s (q ∷ p) l = scope-more (bind q.name q.number s) p l
 
 -- one more, where there is room
 pub more_room : (ls : List HeldLevel) (l : HeldLevel) → length ls < index_limit → one_more ls l ≡ ls ++ (l ∷ [])
-unfolding one_more
-more_room ls l h = rw (lt-ltb (length ls) index_limit h)
+unfolding index_limit
+more_room ls l h = more-room ls l h
 
 bound-length : (ls : List HeldLevel) (b : List Binding) → length (bound ls b) ≡ length ls + length b
 unfolding bound
@@ -87,7 +88,7 @@ module _ (view : ℕ → List Token) where
 
     pub runs-cut : (r : HeldHere) (m : ℕ) → held r ≡ take m (held h) → levels_of view r ≡ take m (levels_of view h)
     unfolding levels_of
-    runs-cut r m e = ap (map (level_at view)) e ∙ map-take (level_at view) m (held h)
+    runs-cut r m e = ap (map (level_at view)) e ∙ sym (take-map (level_at view) m (held h))
 
     module _ (m : ℕ) (l : HeldLevel) (e : l ≡ get_or (held h) m no-level) (b : m < length (levels_of view h)) where
       level-is : get_or (levels_of view h) m (level_at view no-level) ≡ level_at view l
@@ -130,9 +131,6 @@ module _ (l q : HeldLevel) (y : Bool) (a : y ≡ lt_z l.number l.upper) (b : not
 
   pub next-number : q.number ≡ l.number +ℤ pos 1
   next-number = ap (λ (z : HeldLevel). z.number) next-is
-
-  pub next-above : l.number ≤ℤ q.number
-  next-above = rw next-number (le-of-parts _ _ (omega (arith, add_parts l.number (pos 1))))
 
   module _ (view : ℕ → List Token) where
     pub next-run : level_at view q ≡ at_number (level_at view l) (l.number +ℤ pos 1)

@@ -3,12 +3,12 @@ use Rattle.std.specs.Prelude.{Err, None, Ok, Option, Result, Some}
 use Rattle.std.specs.Option.{is_some}
 use Rattle.rules.specs.declared.Refused.{Refused}
 use mathlib.Core.Path.{◌≡◌, refl, sym, ◌∙◌, ap, subst}
-use mathlib.Core.Bool.{Bool, true, false, not}
+use mathlib.Core.Bool.{Bool, true, false}
 use mathlib.Core.List.{List, [], ◌∷◌, ◌++◌, append-nil, append_assoc}
 use Prim.Native.Nat.{ℕ, suc, ◌-◌, ◌<◌}
 use native.Mathlib.Omega.{arith}
 use lib.ListN.{length}
-use lib.IntN.{pos, ◌+ℤ◌}
+use lib.IntN.{ℤ, pos, ◌+ℤ◌}
 use lib.Signed.{◌≤ℤ◌, lt_z, le_z, ≤ℤ_refl}
 use Rattle.rules.specs.declared.Refusal.{Refusal}
 use Rattle.rules.specs.Limits.{index_limit, nesting_limit}
@@ -25,16 +25,18 @@ use Rattle.evaluator.specs.Steps.Values.{limits_in, SmallLimits, run_outcome, ru
 use Rattle.evaluator.proofs.steps.Runs.{run_is}
 use Rattle.evaluator.specs.Tables.{World}
 use Rattle.evaluator.specs.Cycle.{entry_in, EntryIs, bounds_outcome, SmallEntered, seen_by, nothing_bound, tokens_at}
+use Rattle.store.specs.Few.{one_more}
 use Rattle.elements.specs.declared.here.Level.{Level as HeldLevel}
 use Rattle.elements.specs.declared.here.Here.{Here as HeldHere}
 use Rattle.elements.specs.Elements.{Walked, finished, stopped, followed, chained, mapped}
 use Rattle.elements.specs.Levels.{Level, here_of, deeper, at_number, turn_of, run_from}
-use Rattle.elements.specs.Held.{StepsUp, held, one_more, bound}
+use Rattle.elements.specs.Held.{held, bound}
 use Rattle.elements.specs.Steps.{SmallRun, SmallRuns, runs_of, run_of, scope_in, entries_in, Reached, Shows, FirstIs, Grown, GrownBy, Turned, TurnedBy, InsideIs, TurnsAre}
 use Rattle.elements.proofs.Levels.{first-none, first-limit, first_run, first_of}
 use Rattle.elements.proofs.Runs.{range_none, range-here}
-use Rattle.elements.proofs.Numbers.{not-true, above, last}
-use Rattle.elements.proofs.Bound.{scope-more, held-scope, held_small, room-held, more_room, runs_none, runs-length, runs-with, small-append, next-run, next_small, next-upper, next-above}
+use Rattle.elements.proofs.Numbers.{above, last, between_size, next-above}
+use Rattle.elements.proofs.Bound.{scope-more, held-scope, held_small, room-held, more_room, runs_none, runs-length, runs-with, small-append}
+use Rattle.store.specs.Table.{Table}
 
 -- ---- the element of an answer
 
@@ -48,7 +50,7 @@ none-here None x e f = refl
 
 -- ---- what is shown inside one run more
 
-module _ {ns ts ds : List ℕ} {given : ℕ} (w : World ns ts ds given) (p : List Level) where
+module _ {ns ts : List ℕ} {ds : Table} {given : ℕ} (w : World ns ts ds given) (p : List Level) where
   pub shows-as : (u v : Walked (List Level)) (r : Result (Option HeldHere) Refused) → u ≡ v → Shows w p v r → Shows w p u r
   shows-as u v r e h = subst (λ x. Shows w p x r) (sym e) h
 
@@ -78,7 +80,7 @@ turned-grown outer l count some (Ok (Some h)) x = record { inner = x.run ∷ x.i
 turned-grown outer l count some (Ok None) x = tt
 turned-grown outer l count some (Err e) x = tt
 
-module _ (ns ts ds : List ℕ) (given level count at : ℕ) (outer : HeldHere) where
+module _ (ns ts : List ℕ) (ds : Table) (given level count at : ℕ) (outer : HeldHere) where
   pub inside-none : count ≡ 0 → InsideIs ns ts ds given level count at outer (Ok (Some outer))
   inside-none e = record {
     is = λ w m. record {
@@ -160,38 +162,47 @@ module _ (W : Scope → List Token → Walked (List Level)) (s : Scope) (l : Lev
   unfolding run_from chained
   run-last e = ap (chained (turn_of W s l)) (range_none (l.number +ℤ pos 1) l.upper (last l.number l.upper e))
 
--- a run has come from the number of `run` to that of l, and nothing was reached on the way
-pub record TurnsOn (ns ts ds : List ℕ) (given level count : ℕ) (outer : HeldHere) (run l : HeldLevel) : Type 0 where
+-- a run has come from its number to k, and nothing was reached on the way
+pub record TurnsOn (ns ts : List ℕ) (ds : Table) (given level count : ℕ) (outer : HeldHere) (run : HeldLevel) (k : ℤ) : Type 0 where
   pub is : (w : World ns ts ds given) → SmallRuns (runs_of w outer) → SmallRun (run_of w run) → length (runs_of w outer) < index_limit
-      → run_from (entries_in w level count) (scope_in w (runs_of w outer)) (run_of w run) ≡ run_from (entries_in w level count) (scope_in w (runs_of w outer)) (run_of w l)
-  pub small : (w : World ns ts ds given) → SmallRun (run_of w run) → SmallRun (run_of w l)
-  pub upper : l.upper ≡ run.upper
-  pub number : run.number ≤ℤ l.number
+      → run_from (entries_in w level count) (scope_in w (runs_of w outer)) (run_of w run)
+      ≡ run_from (entries_in w level count) (scope_in w (runs_of w outer)) (at_number (run_of w run) k)
+  pub number : run.number ≤ℤ k
 
-module _ (ns ts ds : List ℕ) (given level count : ℕ) (outer : HeldHere) (run : HeldLevel) where
-  pub turns-start : TurnsOn ns ts ds given level count outer run run
-  turns-start = record { is = λ w m n room. refl; small = λ w m. m; upper = refl; number = ≤ℤ_refl run.number }
+-- a run at another of its numbers, as code holds it
+abbrev pub held_at : HeldLevel → ℤ → HeldLevel
+held_at run k = record { name = run.name; number = k; upper = run.upper; behind = run.behind }
 
-  module _ (l : HeldLevel) (o : TurnsOn ns ts ds given level count outer run l) (x : Bool) (e : x ≡ le_z l.number l.upper) where
-    pub turns-end : x ≡ false → TurnsAre ns ts ds given level count outer run (Ok None)
-    turns-end f = record { is = λ w m n room. o.is w m n room ∙ run_none _ _ (run_of w l) (sym e ∙ f); turned = λ room. tt }
+module _ (ns ts : List ℕ) (ds : Table) (given level count : ℕ) (outer : HeldHere) (run : HeldLevel) where
+  pub turns-start : TurnsOn ns ts ds given level count outer run run.number
+  turns-start = record { is = λ w m n room. refl; number = ≤ℤ_refl run.number }
 
-    module _ (f : x ≡ true) (inner : HeldHere) (g : held inner ≡ one_more (held outer) l) (r : Result (Option HeldHere) Refused) (i : InsideIs ns ts ds given level count l.behind inner r) where
+  module _ (k : ℤ) (o : TurnsOn ns ts ds given level count outer run k) where
+    pub turns-end : le_z k run.upper ≡ false → TurnsAre ns ts ds given level count outer run (Ok None)
+    turns-end f = record { is = λ w m n room. o.is w m n room ∙ run_none _ _ (at_number (run_of w run) k) f; turned = λ room. tt }
+
+    module _ (f : le_z k run.upper ≡ true) (inner : HeldHere) (g : held inner ≡ one_more (held outer) (held_at run k)) (r : Result (Option HeldHere) Refused) (i : InsideIs ns ts ds given level count run.behind inner r) where
+      abbrev l : HeldLevel
+      l = held_at run k
+
       -- what the run still has, from its number on
       turn : (w : World ns ts ds given) → SmallRuns (runs_of w outer) → SmallRun (run_of w run) → length (runs_of w outer) < index_limit
           → run_from (entries_in w level count) (scope_in w (runs_of w outer)) (run_of w run)
-          ≡ followed (deeper (run_of w l) (entries_in w level count (bind l.name l.number (scope_in w (runs_of w outer))) (tokens_at w l.behind)))
-          (run_from (entries_in w level count) (scope_in w (runs_of w outer)) (at_number (run_of w l) (l.number +ℤ pos 1)))
-      turn w m n room = o.is w m n room ∙ run-here _ _ (run_of w l) (sym e ∙ f)
+          ≡ followed (deeper (run_of w l) (entries_in w level count (bind run.name k (scope_in w (runs_of w outer))) (tokens_at w run.behind)))
+          (run_from (entries_in w level count) (scope_in w (runs_of w outer)) (at_number (run_of w run) (k +ℤ pos 1)))
+      turn w m n room = o.is w m n room ∙ run-here _ _ (run_of w l) f
+
+      small : (w : World ns ts ds given) → SmallRun (run_of w run) → SmallRun (run_of w l)
+      small w m = record { number = between_size run.number k run.upper o.number (le_z-true k run.upper f) m.number m.upper; upper = m.upper }
 
       -- what is shown at this number
       shown : (w : World ns ts ds given) → SmallRuns (runs_of w outer) → SmallRun (run_of w run) → length (runs_of w outer) < index_limit
-          → Shows w (runs_of w outer ++ (run_of w l ∷ [])) (entries_in w level count (bind l.name l.number (scope_in w (runs_of w outer))) (tokens_at w l.behind)) r
+          → Shows w (runs_of w outer ++ (run_of w l ∷ [])) (entries_in w level count (bind run.name k (scope_in w (runs_of w outer))) (tokens_at w run.behind)) r
       shown w m n room =
           let same = runs-with (tokens_at w) outer inner l g room in
-          let small = small-append (runs_of w outer) (run_of w l ∷ []) m (o.small w n, tt) in
-          subst (λ s. Shows w (runs_of w outer ++ (run_of w l ∷ [])) (entries_in w level count s (tokens_at w l.behind)) r) (scope-more (nothing_bound w) (runs_of w outer) (run_of w l))
-          (subst (λ p. Shows w p (entries_in w level count (scope_in w p) (tokens_at w l.behind)) r) same (i.is w (subst SmallRuns (sym same) small)))
+          let all = small-append (runs_of w outer) (run_of w l ∷ []) m (small w n, tt) in
+          subst (λ s. Shows w (runs_of w outer ++ (run_of w l ∷ [])) (entries_in w level count s (tokens_at w run.behind)) r) (scope-more (nothing_bound w) (runs_of w outer) (run_of w l))
+          (subst (λ p. Shows w p (entries_in w level count (scope_in w p) (tokens_at w run.behind)) r) same (i.is w (subst SmallRuns (sym same) all)))
 
       -- the runs at an element that is reached
       within : (h : HeldHere) → length (held outer) < index_limit → Grown inner count h → Turned outer run count h
@@ -200,7 +211,7 @@ module _ (ns ts ds : List ℕ) (given level count : ℕ) (outer : HeldHere) (run
         inner = x.inner;
         is = x.is ∙ ap (λ p. p ++ x.inner) (g ∙ more_room (held outer) l room) ∙ append_assoc (held outer) (l ∷ []) x.inner;
         size = x.size;
-        upper = o.upper;
+        upper = refl;
         number = o.number;
       }
 
@@ -215,19 +226,15 @@ module _ (ns ts ds : List ℕ) (given level count : ℕ) (outer : HeldHere) (run
           let (h, d) = some-here p y s t in
           subst (λ p. TurnsAre ns ts ds given level count outer run (Ok p)) (sym d) (turns_at h (subst (λ p. r ≡ Ok p) d k))
 
-      module _ (p : Option HeldHere) (at_p : r ≡ Ok p) (z : Bool) (s : z ≡ is_some p) (t : z ≡ false) (y : Bool) (a : y ≡ lt_z l.number l.upper) where
-        k : r ≡ Ok None
-        k = subst (λ p. r ≡ Ok p) (none-here p z s t) at_p
+      module _ (p : Option HeldHere) (at_p : r ≡ Ok p) (y : Bool) (s : y ≡ is_some p) (t : y ≡ false) where
+        none : r ≡ Ok None
+        none = subst (λ p. r ≡ Ok p) (none-here p y s t) at_p
 
-        pub turns-last : not y ≡ true → TurnsAre ns ts ds given level count outer run (Ok None)
-        turns-last b = record { is = λ w m n room. turn w m n room ∙ deeper-done w (runs_of w outer) _ _ _ (subst (Shows w _ _) k (shown w m n room)) ∙ run-last _ _ (run_of w l) (sym a ∙ not-true y b); turned = λ room. tt }
+        pub turns-last : lt_z k run.upper ≡ false → TurnsAre ns ts ds given level count outer run (Ok None)
+        turns-last b = record { is = λ w m n room. turn w m n room ∙ deeper-done w (runs_of w outer) _ _ _ (subst (Shows w _ _) none (shown w m n room)) ∙ run-last _ _ (run_of w l) b; turned = λ room. tt }
 
-        pub turns_more : not y ≡ false → (q : HeldLevel) → StepsUp l q → TurnsOn ns ts ds given level count outer run q
-        turns_more b q c = record {
-          is = λ w m n room.
-              turn w m n room ∙ deeper-done w (runs_of w outer) _ _ _ (subst (Shows w _ _) k (shown w m n room))
-              ∙ ap (run_from (entries_in w level count) (scope_in w (runs_of w outer))) (sym (next-run l q y a b c (tokens_at w)));
-          small = λ w n. next_small l q y a b c (tokens_at w) (o.small w n);
-          upper = next-upper l q y a b c ∙ o.upper;
-          number = ≤ℤ-trans o.number (next-above l q y a b c);
+        pub turns_more : TurnsOn ns ts ds given level count outer run (k +ℤ pos 1)
+        turns_more = record {
+          is = λ w m n room. turn w m n room ∙ deeper-done w (runs_of w outer) _ _ _ (subst (Shows w _ _) none (shown w m n room));
+          number = ≤ℤ-trans o.number (next-above k);
         }

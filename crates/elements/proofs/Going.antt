@@ -19,11 +19,12 @@ use Rattle.lexer.specs.Text.{Token}
 use Rattle.language.specs.Scope.{bind}
 use Rattle.evaluator.specs.Tables.{World}
 use Rattle.evaluator.specs.Cycle.{nothing_bound, tokens_at}
+use Rattle.store.specs.Few.{one_more}
 use Rattle.elements.specs.declared.here.Level.{Level as HeldLevel}
 use Rattle.elements.specs.declared.here.Here.{Here as HeldHere}
 use Rattle.elements.specs.Elements.{Walked, finished, reaches, followed, Behind}
 use Rattle.elements.specs.Levels.{Level, here_of, deeper, at_number, run_from}
-use Rattle.elements.specs.Held.{word_base, StepsUp, held, one_more, no-level}
+use Rattle.elements.specs.Held.{word_base, StepsUp, held, no-level}
 use Rattle.elements.specs.Steps.{SmallRuns, runs_of, run_of, scope_in, entries_in, Shows, TurnedBy, Lowered, LoweredBy, turns_left, TurnsAre, AfterIs, NextIs}
 use Rattle.elements.proofs.Levels.{first-none, Next, next_of, element-length}
 use Rattle.elements.proofs.Numbers.{not-true, not-false, next-stands}
@@ -31,6 +32,7 @@ use Rattle.elements.proofs.Ranked.{ahead-less, rank-first, rank-inner}
 use Rattle.elements.proofs.Held.{length-few}
 use Rattle.elements.proofs.Bound.{scope-more, runs-length, runs-cut, runs-at, runs-before, small-take, small-drop, next-run, next_small, next-upper, next-number}
 use Rattle.elements.proofs.Entering.{some-here, none-here, shows-as, deeper-at, deeper-refused, deeper-done, inside-none, run-last, turns-start, turns_at}
+use Rattle.store.specs.Table.{Table}
 
 tail_of : {A : Type 0} {a b : A} {l k : List A} → a ∷ l ≡ b ∷ k → l ≡ k
 tail_of e = cc
@@ -64,7 +66,7 @@ module _ (h : HeldHere) (m : ℕ) (f : m < length (held h)) where
     lowered-turned (Ok None) x = tt
     lowered-turned (Err e) x = tt
 
-module _ (ns ts ds : List ℕ) (given level m : ℕ) (h : HeldHere) (n : ℕ) (e : n ≡ length (held h)) where
+module _ (ns ts : List ℕ) (ds : Table) (given level m : ℕ) (h : HeldHere) (n : ℕ) (e : n ≡ length (held h)) where
   size : (w : World ns ts ds given) → length (runs_of w h) ≡ n
   size w = runs-length (tokens_at w) h ∙ sym e
 
@@ -182,7 +184,7 @@ lowered-falls h (Ok (Some g)) x = rw x.is (omega (arith, x.lower))
 lowered-falls h (Ok None) x = omega arith
 lowered-falls h (Err e) x = omega arith
 
-pub next-is : (ns ts ds : List ℕ) (given level : ℕ) (h : HeldHere) (r : Result (Option HeldHere) Refused) → AfterIs ns ts ds given level 0 h r → NextIs ns ts ds given level h r
+pub next-is : (ns ts : List ℕ) (ds : Table) (given level : ℕ) (h : HeldHere) (r : Result (Option HeldHere) Refused) → AfterIs ns ts ds given level 0 h r → NextIs ns ts ds given level h r
 unfolding here_of
 next-is ns ts ds given level h r i = record {
   is = λ w s n us u b.
@@ -193,7 +195,7 @@ next-is ns ts ds given level h r i = record {
 
 -- ---- the innermost run goes on
 
-module _ (ns ts ds : List ℕ) (given level : ℕ) (h : HeldHere) (n : ℕ) (e : n ≡ length (held h)) where
+module _ (ns ts : List ℕ) (ds : Table) (given level : ℕ) (h : HeldHere) (n : ℕ) (e : n ≡ length (held h)) where
   -- what comes next inside m runs comes next inside none
   outwards : (g : HeldHere) (m : ℕ) → m ≤ n → AfterIs ns ts ds given level m h (Ok (Some g)) → AfterIs ns ts ds given level 0 h (Ok (Some g))
   outwards g zero f i = i
@@ -206,9 +208,9 @@ module _ (ns ts ds : List ℕ) (given level : ℕ) (h : HeldHere) (n : ℕ) (e :
       let m : ℕ = n - 1 in
       let more : lt_z l.number l.upper ≡ true = sym a ∙ b in
       let not_last : not y ≡ false = rw b in
-      let stands : true ≡ le_z q.number q.upper = rw (next-number l q y a not_last d, next-upper l q y a not_last d) (sym (next-stands l.number l.upper more)) in
+      let stands : le_z q.number q.upper ≡ true = rw (next-number l q y a not_last d, next-upper l q y a not_last d) (next-stands l.number l.upper more) in
       let inside = inside-none ns ts ds given level (n - m - 1) q.behind g (omega arith) in
-      let turns = turns_at ns ts ds given level (n - m - 1) o q q (turns-start ns ts ds given level (n - m - 1) o q) true stands refl g x (Ok (Some g)) inside g refl in
+      let turns = turns_at ns ts ds given level (n - m - 1) o q q.number (turns-start ns ts ds given level (n - m - 1) o q) stands g x (Ok (Some g)) inside g refl in
       let none = after_none ns ts ds given level (m + 1) h n e (omega arith) in
       let after = after-turns ns ts ds given level m h n e (omega arith) (Ok None) none l c None refl false refl refl y a not_last q d o k (Ok (Some g)) turns in
       next-is ns ts ds given level h (Ok (Some g)) (outwards g m (omega arith) after)

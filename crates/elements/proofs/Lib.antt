@@ -10,3 +10,4 @@ pub mod Entering
 pub mod Going
 pub mod Loops
 pub mod Ranked
+pub mod Walking

@@ -5,7 +5,7 @@ use Rattle.rules.specs.declared.Refused.{Refused}
 use mathlib.Core.Path.{◌≡◌, refl, sym, ◌∙◌, ap, subst, subst₂}
 use mathlib.Core.Logic.{◌⊎◌, inl, inr}
 use mathlib.Core.List.{List, [], ◌∷◌, map}
-use Prim.Native.Nat.{ℕ, zero, suc, ◌≤◌, ◌<◌}
+use Prim.Native.Nat.{ℕ, zero, suc, ◌≤◌}
 use native.Mathlib.Omega.{arith}
 use lib.ListN.{get_or, length-map}
 use lib.IntN.{ℤ, pos, nat_abs}
@@ -30,7 +30,7 @@ use Rattle.elements.specs.declared.here.Here.{Here as HeldHere}
 use Rattle.elements.specs.Elements.{Walked, reaches, Behind, mapped, elements_of, folded}
 use Rattle.elements.specs.Levels.{Level, here_of}
 use Rattle.elements.specs.Held.{held, number_of, bound, level_at, levels_of}
-use Rattle.elements.specs.Steps.{SmallRuns, runs_of, entries_in, FirstIs, NextIs, turns_left}
+use Rattle.elements.specs.Steps.{SmallRuns, runs_of, entries_in, FirstIs, NextIs}
 use Rattle.elements.specs.Loops.{Remains}
 use Rattle.elements.proofs.Walks.{behind-first, behind-next, mapped-reaches, mapped-behind}
 use Rattle.elements.proofs.Folded.{over-elements}
@@ -38,10 +38,7 @@ use Rattle.elements.proofs.Levels.{walk-elements}
 use Rattle.elements.proofs.Rising.{behind-rises, elements-rise}
 use Rattle.elements.proofs.Held.{length-few}
 use Rattle.elements.proofs.Bound.{held-scope, held_small}
-
--- each next element is nearer to the end
-pub next-less : (ns ts ds : List ℕ) (given level : ℕ) (h : HeldHere) (r r' : Result (Option HeldHere) Refused) → r ≡ Ok (Some h) → NextIs ns ts ds given level h r' → turns_left r' < turns_left r
-next-less ns ts ds given level h r r' e x = subst (λ y. turns_left r' < turns_left y) (sym e) x.falls
+use Rattle.store.specs.Table.{Table}
 
 -- ---- the element that the caller stands at
 
@@ -59,7 +56,7 @@ numbers-few : (h : HeldHere) → ((i : ℕ) → nat_abs (get_or (map number_of (
 unfolding index_limit
 numbers-few h m = record { few = rw (length-map (held h) number_of) (length-few h); small = m }
 
-module _ {A : Type 0} {ns ts ds : List ℕ} {given : ℕ} (w : World ns ts ds given) (level count at : ℕ) (f : Scope → List ℤ → A → Outcome A) where
+module _ {A : Type 0} {ns ts : List ℕ} {ds : Table} {given : ℕ} (w : World ns ts ds given) (level count at : ℕ) (f : Scope → List ℤ → A → Outcome A) where
   element-of : (h : HeldHere) (e : Element) → list_of e ≡ map number_of (held h) → list_of e ≡ (here_of (nothing_bound w) (runs_of w h)).element
   unfolding levels_of
   element-of h e q = q ∙ numbers-element (tokens_at w) (nothing_bound w) (held h)

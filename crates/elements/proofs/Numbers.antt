@@ -9,12 +9,12 @@ use lib.Signed.{◌≤ℤ◌, mag, lt_z, le_z}
 use mir.Syntax.{w64}
 use mir.Val.{SFits, to_z, of_z}
 use Rattle.rational.specs.Integer.{up, down}
-use Rattle.rational.proofs.Integer.{add_parts, neg-up, neg-down, le-of-parts, le-le_z}
+use Rattle.rational.proofs.Integer.{add_parts, neg-up, neg-down, le_parts, le-of-parts, le-le_z}
 use Rattle.value.proofs.Integers.{back, mag-le}
 use Rattle.evaluator.proofs.steps.Runs.{parts-size}
 use Rattle.elements.specs.declared.here.Level.{Level}
 use Rattle.elements.specs.Held.{stepped, word_base, StepsUp}
-use Rattle.elements.proofs.Runs.{up_is, range_size}
+use Rattle.elements.proofs.Runs.{up_is}
 
 pub not-true : (x : Bool) → not x ≡ true → x ≡ false
 not-true true e = sym e
@@ -76,14 +76,18 @@ next-parts (negsuc n) =
 pub next-size : (a b : ℤ) {L : ℕ} → lt_z a b ≡ true → nat_abs a ≤ L → nat_abs b ≤ L → nat_abs (a +ℤ pos 1) ≤ L
 next-size a b e h k = omega (arith, less a b e, parts-size a, parts-size b, parts-size (a +ℤ pos 1), next-parts a)
 
-next-mag : (a b : ℤ) {L : ℕ} → lt_z a b ≡ true → mag a < L → mag b < L → mag (a +ℤ pos 1) < L
+pub next-above : (a : ℤ) → a ≤ℤ (a +ℤ pos 1)
+next-above a = le-of-parts _ _ (omega (arith, add_parts a (pos 1)))
+
+-- what lies between two numbers is as small as they are
+pub between_size : (a k b : ℤ) {L : ℕ} → a ≤ℤ k → k ≤ℤ b → nat_abs a ≤ L → nat_abs b ≤ L → nat_abs k ≤ L
+between_size a (pos k) b h i m n = omega (arith, le_parts (pos k) b i, parts-size b)
+between_size a (negsuc k) b h i m n = omega (arith, le_parts a (negsuc k) h, parts-size a)
+
+pub next-mag : (a b : ℤ) {L : ℕ} → lt_z a b ≡ true → mag a < L → mag b < L → mag (a +ℤ pos 1) < L
 next-mag (pos a) (pos b) e h k = omega (arith, ltb-true a b e)
 next-mag (pos a) (negsuc b) e h k = absurd (let z : ◌≡◌ {A = ℕ} 0 1 = cc in omega arith)
 next-mag (negsuc a) b e h k = omega (arith, mag-le (negsuc a +ℤ pos 1), parts-size (negsuc a +ℤ pos 1), next-parts (negsuc a))
-
--- how many numbers a run has from its own on
-abbrev pub left : Level → ℕ
-left l = up (l.upper +ℤ pos 1 +ℤ neg_ℤ l.number)
 
 -- the next number of a run, as the machine reads it
 module _ (l : Level) (x : Bool) (e : x ≡ lt_z l.number l.upper) where
@@ -106,9 +110,3 @@ module _ (l : Level) (x : Bool) (e : x ≡ lt_z l.number l.upper) where
       is = rw (back {z = l.number} a, back {z = l.number +ℤ pos 1} next_fits, back {z = l.upper} b, sym e ∙ not-false x f);
       near = λ t. omega (arith, difference l.number l.upper, mag-parts l.number, mag-parts l.upper);
     }
-
-  pub up-less : not x ≡ false → (r : Level) → StepsUp l r → left r < left l
-  unfolding stepped
-  up-less f r g =
-      let t = sym e ∙ not-false x f in
-      rw (g.is, t) (omega (arith, less l.number l.upper t, range_size l.number l.upper, range_size (l.number +ℤ pos 1) l.upper, add_parts l.number (pos 1)))

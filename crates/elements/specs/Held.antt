@@ -1,10 +1,11 @@
 -- The runs under way as code holds them.
-use Rattle.std.specs.Prelude.{◌≡◌, true, cond, List, [], ◌∷◌, ◌++◌, map, ℕ, ◌+◌, ◌*◌, ◌%◌, ◌^◌, ◌<◌, ltb, length, take, ℤ, pos, ◌+ℤ◌, ◌-ℤ◌}
+use Rattle.std.specs.Prelude.{◌≡◌, true, cond, List, [], ◌∷◌, map, ℕ, ◌+◌, ◌*◌, ◌%◌, ◌^◌, ◌<◌, length, ℤ, pos, ◌+ℤ◌, ◌-ℤ◌}
 use Rattle.std.specs.Int.Signed.{lt_z}
-use Rattle.rules.specs.Limits.{index_limit}
 use Rattle.rational.specs.Integer.{up}
 use Rattle.lexer.specs.Text.{Token}
 use Rattle.language.specs.Scope.{Binding}
+use Rattle.store.specs.Few.{items_of}
+use Rattle.evaluator.specs.declared.steps.scope.Binding.{Binding as HeldBinding}
 use Rattle.evaluator.specs.declared.steps.scope.Scope.{Scope as HeldScope}
 use Rattle.elements.specs.declared.here.Level.{Level as HeldLevel}
 use Rattle.elements.specs.declared.here.Here.{Here as HeldHere}
@@ -16,10 +17,7 @@ stepped l = cond (lt_z l.number l.upper) (record { name = l.name; number = l.num
 
 -- the runs of an element, the outermost first
 unfoldable pub held : HeldHere → List HeldLevel
-held h = take h.count (h.first ∷ h.second ∷ h.third ∷ h.fourth ∷ [])
-
-unfoldable pub one_more : List HeldLevel → HeldLevel → List HeldLevel
-one_more ls l = cond (ltb (length ls) index_limit) (ls ++ (l ∷ [])) ls
+held h = items_of h.levels
 
 abbrev pub no-level : HeldLevel
 no-level = record { name = 0; number = pos 0; upper = pos 0; behind = 0 }
@@ -32,19 +30,13 @@ unfoldable pub bound : List HeldLevel → List Binding → List Binding
 bound [] b = b
 bound (l ∷ ls) b = bound ls (record { name = l.name; at = l.number } ∷ b)
 
+-- a run as a scope holds it
+abbrev pub bound_at : HeldLevel → HeldBinding
+bound_at l = record { name = l.name; at = l.number }
+
 -- a scope in which the runs are bound
 abbrev pub scope_at : HeldHere → HeldScope
-scope_at h = record {
-  count = h.count;
-  first = h.first.name;
-  second = h.second.name;
-  third = h.third.name;
-  fourth = h.fourth.name;
-  a = h.first.number;
-  b = h.second.number;
-  c = h.third.number;
-  d = h.fourth.number;
-}
+scope_at h = record { bound = record { count = h.levels.count; items = map bound_at h.levels.items } }
 
 -- a run of the definition: view is the tokens from a position on
 abbrev pub level_at : (ℕ → List Token) → HeldLevel → Level

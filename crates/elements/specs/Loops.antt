@@ -9,10 +9,11 @@ use Rattle.evaluator.specs.Cycle.{nothing_bound, tokens_at}
 use Rattle.elements.specs.Elements.{Walked, Behind, mapped, folded}
 use Rattle.elements.specs.Levels.{Level, here_of}
 use Rattle.elements.specs.Steps.{entries_in, Shows}
+use Rattle.store.specs.Table.{Table}
 
 -- The answer r of `first` or `next` for `count` entries from a position on, and the state a so far: with the step f at the elements that
 -- r has and those after it, a becomes o.
-pub record Remains {A : Type 0} {ns ts ds : List ℕ} {given : ℕ} (w : World ns ts ds given) (level count at : ℕ) (f : Scope → List ℤ → A → Outcome A) (r : Result (Option HeldHere) Refused) (a : A) (o : Outcome A) : Type 0 where
+pub record Remains {A : Type 0} {ns ts : List ℕ} {ds : Table} {given : ℕ} (w : World ns ts ds given) (level count at : ℕ) (f : Scope → List ℤ → A → Outcome A) (r : Result (Option HeldHere) Refused) (a : A) (o : Outcome A) : Type 0 where
   pub walk : Walked (List Level)
   pub shows : Shows w [] walk r
   pub tail : (entries_in w level count (nothing_bound w) (tokens_at w at) ≡ walk) ⊎ ((x : List Level) × Behind (entries_in w level count (nothing_bound w) (tokens_at w at)) x walk)

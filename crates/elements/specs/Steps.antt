@@ -13,6 +13,7 @@ use Rattle.elements.specs.declared.here.Here.{Here as HeldHere}
 use Rattle.elements.specs.Elements.{Walked, finished, stopped, reaches, Behind}
 use Rattle.elements.specs.Levels.{Level, here_of, run_from, walk_elements}
 use Rattle.elements.specs.Held.{held, rank, level_at, levels_of}
+use Rattle.store.specs.Table.{Table}
 
 -- a run whose number and upper limit are values'
 pub record SmallRun (l : Level) : Type 0 where
@@ -25,7 +26,7 @@ SmallRuns (l ∷ ls) = SmallRun l × SmallRuns ls
 
 -- ---- what a step shows
 
-module _ {ns ts ds : List ℕ} {given : ℕ} (w : World ns ts ds given) where
+module _ {ns ts : List ℕ} {ds : Table} {given : ℕ} (w : World ns ts ds given) where
   -- the runs under way at an element, and one of them
   abbrev pub runs_of : HeldHere → List Level
   runs_of h = levels_of (tokens_at w) h
@@ -55,18 +56,18 @@ module _ {ns ts ds : List ℕ} {given : ℕ} (w : World ns ts ds given) where
   Shows p u (Ok None) = u ≡ finished
   Shows p u (Err e) = u ≡ stopped e.refusal e.place
 
--- a number that falls with each `next`: the measure of a caller's loop
+-- a number that falls with each `next`
 abbrev pub turns_left : Result (Option HeldHere) Refused → ℕ
 turns_left (Ok (Some h)) = suc (rank (held h))
 turns_left (Ok None) = 0
 turns_left (Err e) = 0
 
 -- the first element of `count` entries from a position on
-pub record FirstIs (ns ts ds : List ℕ) (given level count at : ℕ) (r : Result (Option HeldHere) Refused) : Type 0 where
+pub record FirstIs (ns ts : List ℕ) (ds : Table) (given level count at : ℕ) (r : Result (Option HeldHere) Refused) : Type 0 where
   pub is : (w : World ns ts ds given) → Shows w [] (entries_in w level count (nothing_bound w) (tokens_at w at)) r
 
 -- the element after an element of some entries, wherever they stand
-pub record NextIs (ns ts ds : List ℕ) (given level : ℕ) (h : HeldHere) (r : Result (Option HeldHere) Refused) : Type 0 where
+pub record NextIs (ns ts : List ℕ) (ds : Table) (given level : ℕ) (h : HeldHere) (r : Result (Option HeldHere) Refused) : Type 0 where
   pub is : (w : World ns ts ds given) → SmallRuns (runs_of w h) → (n : ℕ) (us : List Token) (u : Walked (List Level))
       → Behind (entries_in w level n (nothing_bound w) us) (runs_of w h) u → Shows w [] u r
   pub falls : turns_left r < turns_left (Ok (Some h))
@@ -111,19 +112,19 @@ LoweredBy m h (Ok None) = Unit {0}
 LoweredBy m h (Err e) = Unit {0}
 
 -- the first element of `count` entries from a position on, inside the runs of an outer element
-pub record InsideIs (ns ts ds : List ℕ) (given level count at : ℕ) (outer : HeldHere) (r : Result (Option HeldHere) Refused) : Type 0 where
+pub record InsideIs (ns ts : List ℕ) (ds : Table) (given level count at : ℕ) (outer : HeldHere) (r : Result (Option HeldHere) Refused) : Type 0 where
   pub is : (w : World ns ts ds given) → SmallRuns (runs_of w outer)
       → Shows w (runs_of w outer) (entries_in w level count (scope_in w (runs_of w outer)) (tokens_at w at)) r
   pub grown : GrownBy outer count r
 
 -- the same at the numbers of a run, from the one on at which it stands, with `count` entries inside it
-pub record TurnsAre (ns ts ds : List ℕ) (given level count : ℕ) (outer : HeldHere) (l : HeldLevel) (r : Result (Option HeldHere) Refused) : Type 0 where
+pub record TurnsAre (ns ts : List ℕ) (ds : Table) (given level count : ℕ) (outer : HeldHere) (l : HeldLevel) (r : Result (Option HeldHere) Refused) : Type 0 where
   pub is : (w : World ns ts ds given) → SmallRuns (runs_of w outer) → SmallRun (run_of w l) → length (runs_of w outer) < index_limit
       → Shows w (runs_of w outer) (run_from (entries_in w level count) (scope_in w (runs_of w outer)) (run_of w l)) r
   pub turned : length (held outer) < index_limit → TurnedBy outer l count r
 
 -- what comes after an element inside its m outermost runs, wherever the entries of the others stand
-pub record AfterIs (ns ts ds : List ℕ) (given level m : ℕ) (h : HeldHere) (r : Result (Option HeldHere) Refused) : Type 0 where
+pub record AfterIs (ns ts : List ℕ) (ds : Table) (given level m : ℕ) (h : HeldHere) (r : Result (Option HeldHere) Refused) : Type 0 where
   pub is : (w : World ns ts ds given) → SmallRuns (runs_of w h) → (us : List Token) (u : Walked (List Level))
       → Behind (entries_in w level (length (runs_of w h) - m) (scope_in w (take m (runs_of w h))) us) (drop m (runs_of w h)) u
       → Shows w (take m (runs_of w h)) u r

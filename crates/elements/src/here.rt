@@ -1,13 +1,15 @@
 // An element of a domain as the runs that are under way at it: at most four, by value.
 ghost use Rattle.std.specs.Prelude.{◌≡◌, [], map, length, get_or, take};
-ghost use Rattle.std.specs.Int.Signed.{le_z, lt_z};
+ghost use Rattle.std.specs.Int.Signed.{lt_z};
+ghost use Rattle.store.specs.Few.{one_more};
 ghost use Rattle.store.specs.Element.{list_of};
 ghost use Rattle.evaluator.specs.Steps.Scopes.{bindings_of};
-ghost use Rattle.elements.specs.Held.{StepsUp, held, one_more, no-level, number_of, bound};
+ghost use Rattle.elements.specs.Held.{StepsUp, held, no-level, number_of, bound_at, bound};
 
-use evaluator::steps::scope::Scope;
+use evaluator::steps::scope::{Binding, Scope};
 use evaluator::steps::values::Bounds;
 use store::Element;
+use store::few::Few;
 
 // A run under way: its index, the number at which it stands, its upper limit, and the position behind its entry.
 #[derive(Clone, Copy)]
@@ -18,14 +20,10 @@ pub struct Level {
     pub behind: usize,
 }
 
-// The first `count` of four runs, the outermost first.
+// The runs under way, the outermost first.
 #[derive(Clone, Copy)]
 pub struct Here {
-    pub count: usize,
-    pub first: Level,
-    pub second: Level,
-    pub third: Level,
-    pub fourth: Level,
+    pub levels: Few<Level>,
 }
 
 impl Level {
@@ -39,13 +37,6 @@ impl Level {
             upper: b.limits.upper,
             behind,
         }
-    }
-
-    // Is there a number to stand at?
-    pub fn stands(self) -> bool
-        ensures { result ≡ le_z self.number self.upper }
-    {
-        self.number <= self.upper
     }
 
     // Is there a number behind this one?
@@ -68,6 +59,16 @@ impl Level {
         }
     }
 
+    // What it binds.
+    pub fn binding(self) -> Binding
+        ensures { result ≡ bound_at self }
+    {
+        Binding {
+            name: self.name,
+            at: self.number,
+        }
+    }
+
     pub fn none() -> Self
         ensures { result ≡ no-level }
     {
@@ -84,53 +85,23 @@ impl Here {
     pub fn none() -> Self
         ensures { held result ≡ [] }
     {
-        let l = Level::none();
         Here {
-            count: 0,
-            first: l,
-            second: l,
-            third: l,
-            fourth: l,
+            levels: Few::none(Level::none()),
         }
     }
 
     pub fn length(self) -> usize
         ensures { result ≡ length (held self) }
     {
-        let n = self.count;
-        if n < rules::INDEX_LIMIT {
-            return n;
-        }
-        rules::INDEX_LIMIT
+        self.levels.length()
     }
 
     // One run more, inside the others; the same where there are four.
-    pub fn with(mut self, l: Level) -> Self
+    pub fn with(self, l: Level) -> Self
         ensures { held result ≡ one_more (held self) l }
     {
-        let n = self.count;
-        match n {
-            0 => {
-                self.count = 1;
-                self.first = l;
-                self
-            }
-            1 => {
-                self.count = 2;
-                self.second = l;
-                self
-            }
-            2 => {
-                self.count = 3;
-                self.third = l;
-                self
-            }
-            3 => {
-                self.count = 4;
-                self.fourth = l;
-                self
-            }
-            _ => self,
+        Here {
+            levels: self.levels.with(l),
         }
     }
 
@@ -138,38 +109,27 @@ impl Here {
     pub fn at(self, i: usize) -> Level
         ensures { result ≡ get_or (held self) i no-level }
     {
-        let n = self.count;
-        if n <= i {
-            return Level::none();
-        }
-        match i {
-            0 => self.first,
-            1 => self.second,
-            2 => self.third,
-            3 => self.fourth,
-            _ => Level::none(),
-        }
+        self.levels.at(i, Level::none())
     }
 
     // The n outermost runs.
-    pub fn cut(mut self, n: usize) -> Self
+    pub fn cut(self, n: usize) -> Self
         ensures { held result ≡ take n (held self) }
     {
-        if n < self.count {
-            self.count = n;
+        Here {
+            levels: self.levels.cut(n),
         }
-        self
     }
 
     pub fn element(self) -> Element
         ensures { list_of result ≡ map number_of (held self) }
     {
+        let [a, b, c, d] = self.levels.items;
         Element {
-            count: self.count,
-            a: self.first.number,
-            b: self.second.number,
-            c: self.third.number,
-            d: self.fourth.number,
+            numbers: Few {
+                count: self.levels.count,
+                items: [a.number, b.number, c.number, d.number],
+            },
         }
     }
 
@@ -177,16 +137,12 @@ impl Here {
     pub fn scope(self) -> Scope
         ensures { bindings_of result ≡ bound (held self) [] }
     {
+        let [a, b, c, d] = self.levels.items;
         Scope {
-            count: self.count,
-            first: self.first.name,
-            second: self.second.name,
-            third: self.third.name,
-            fourth: self.fourth.name,
-            a: self.first.number,
-            b: self.second.number,
-            c: self.third.number,
-            d: self.fourth.number,
+            bound: Few {
+                count: self.levels.count,
+                items: [a.binding(), b.binding(), c.binding(), d.binding()],
+            },
         }
     }
 }

@@ -12,6 +12,7 @@ use here::{Here, Level};
 use rules::Refused;
 
 pub mod here;
+pub mod walk;
 
 // The first element of a domain of `count` entries, the first of which stands at a position.
 pub fn first(cx: &Context<'_>, count: usize, at: usize) -> Result<Option<Here>, Refused>
@@ -60,17 +61,12 @@ fn inside(cx: &Context<'_>, count: usize, at: usize, outer: Here) -> Result<Opti
 fn turns(cx: &Context<'_>, count: usize, outer: Here, run: Level) -> Result<Option<Here>, Refused>
     ensures { Over TurnsAre cx.now.stored cx.now.level count outer run result }
 {
-    let mut l = run;
-    while l.stands() {
-        let inner = outer.with(l);
-        let found = inside(cx, count, l.behind, inner)?;
+    for number in run.number..=run.upper {
+        let inner = outer.with(Level { number, ..run });
+        let found = inside(cx, count, run.behind, inner)?;
         if found.is_some() {
             return Ok(found);
         }
-        if !l.has_more() {
-            return Ok(None);
-        }
-        l = l.up();
     }
     Ok(None)
 }

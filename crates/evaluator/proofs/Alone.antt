@@ -15,7 +15,6 @@ use mir.Syntax.{w64}
 use mir.Val.{to_z, of_z}
 use borrow.Author.Tests.{ne_eqb, not-true, not-false}
 use Rattle.rules.specs.declared.Refusal.TheVariants.{Outside}
-use Rattle.rules.specs.Limits.{index_limit}
 use Rattle.value.specs.declared.Value.{Value}
 use Rattle.value.specs.Decimal.{floor_of, ceiling_of}
 use Rattle.value.proofs.Integers.{back}
@@ -23,9 +22,15 @@ use Rattle.tokens.specs.declared.Seen.{Seen}
 use Rattle.tokens.specs.Stored.{Looks}
 use Rattle.tokens.proofs.Tables.{false-true}
 use Rattle.store.specs.declared.Element.{Element}
+use Rattle.store.specs.declared.Key.{Key}
 use Rattle.store.specs.Element.{list_of}
+use Rattle.store.specs.Key.{key_number, key_of}
+use Rattle.store.specs.Table.{word_in, Finds}
+use Rattle.store.specs.Few.{items_of, one_more}
+use Rattle.store.proofs.Fews.{none-is, length-few, length-more, items-are}
 use Rattle.onepass.specs.Walk.{walk_within, in_domain_walk}
 use Rattle.language.specs.Model.{what_of}
+use Rattle.evaluator.specs.declared.steps.scope.Binding.{Binding as HeldBinding}
 use Rattle.evaluator.specs.declared.steps.scope.Scope.{Scope as Held}
 use Rattle.evaluator.specs.declared.steps.names.Listed.{Listed}
 use Rattle.evaluator.specs.declared.steps.values.Limits.{Limits}
@@ -33,18 +38,20 @@ use Rattle.evaluator.specs.declared.steps.values.Bounds.{Bounds}
 use Rattle.evaluator.specs.Steps.Names.{number_part, listed_of, index_number}
 use Rattle.evaluator.specs.Steps.Passing.{Skips}
 use Rattle.evaluator.specs.Steps.Scopes.{bindings_of, bound_more}
-use Rattle.evaluator.specs.Steps.Values.{signed_value, bound_answer, inside_limits, KnownEarly}
+use Rattle.evaluator.specs.Steps.Values.{signed_value, bound_answer, inside_limits, word_answer}
 use Rattle.evaluator.specs.Tables.{World}
 use Rattle.evaluator.specs.Cycle.{part_in, Values, NamedIs, DatumIs, WithinIs, seen_by, nothing_bound, tokens_at}
 use Rattle.evaluator.specs.Alone.{BoundAs, NameIs, NameAlone, TokenValue, TokenIs, TokenAlone, SingleIs, FormulaAlone, EntryLimits, EntryFixed, WithinFixed}
+use Rattle.evaluator.proofs.steps.Answers.{early-is}
 use Rattle.evaluator.proofs.steps.Passed.{skips-seen, leads-none}
-use Rattle.evaluator.proofs.steps.Scopes.{bind-none}
+use Rattle.evaluator.proofs.steps.Scopes.{none-bound, bind-more}
 use Rattle.evaluator.proofs.Laws.{term-rest, formula-rest, inside-formula, part-skip}
 use Rattle.evaluator.proofs.Loops.{factors-start, factors-end, summands-start, summands-end}
 use Rattle.evaluator.proofs.Primaries.{primary-literal, primary-name}
 use Rattle.evaluator.proofs.Names.{named-index, named-datum, datum-known}
 use Rattle.evaluator.proofs.Entries.{bounds-both, entry-bounds}
 use Rattle.evaluator.proofs.Lists.{WithinOn, subscripts-point, within-start, within_end, within-outside, within_on}
+use Rattle.store.specs.Table.{Table}
 
 -- a token that was seen, by the `Option` of the call's `Result`
 pub seen-ok : (t : Result Seen Refused) (o : Option Seen) (w : Seen) → o ≡ result_ok t → o ≡ Some w → t ≡ Ok w
@@ -52,7 +59,7 @@ seen-ok (Ok x) o w f e = let y : ◌≡◌ {A = Option Seen} (Some x) (Some w) =
 seen-ok (Err x) o w f e = absurd (let z : ◌≡◌ {A = ℕ} 0 1 = cc in omega arith)
 
 -- an element without numbers is in its domain
-within_none : (ns ts ds : List ℕ) (given level at : ℕ) (e : Element) (p : ℕ) → list_of e ≡ [] → WithinIs ns ts ds given level at e p (Ok tt)
+within_none : (ns ts : List ℕ) (ds : Table) (given level at : ℕ) (e : Element) (p : ℕ) → list_of e ≡ [] → WithinIs ns ts ds given level at e p (Ok tt)
 unfolding walk_within
 within_none ns ts ds given level at e p f = record {
   is = λ w s. ap (λ ks. what_of (walk_within (seen_by w level) (in_domain_walk (seen_by w level)) ks (nothing_bound w) p (tokens_at w at))) f;
@@ -60,7 +67,7 @@ within_none ns ts ds given level at e p f = record {
 
 -- ---- a name
 
-module _ (ds : List ℕ) (given level : ℕ) (o : Option Held) (at : ℕ) (x : Option Listed) (p : ℕ) (y : Listed) (e : x ≡ Some y) (h : y.number < level) (r : Result (Value × ℕ) Refused) (u : Option (Value × ℕ)) (f : u ≡ result_ok r) where
+module _ (ds : Table) (given level : ℕ) (o : Option Held) (at : ℕ) (x : Option Listed) (p : ℕ) (y : Listed) (e : x ≡ Some y) (h : y.number < level) (r : Result (Value × ℕ) Refused) (u : Option (Value × ℕ)) (f : u ≡ result_ok r) where
   -- by what the `Result` gives
   alone-ok : ((sc : Held) → BoundAs o sc → (ns ts : List ℕ) (n : ℕ) → NamedIs n p ns ts ds given level sc at x r) → NameAlone ds given level o at x p u
   alone-ok k = record { is = λ sc b. go sc b r refl }
@@ -75,14 +82,15 @@ module _ (ds : List ℕ) (given level : ℕ) (o : Option Held) (at : ℕ) (x : O
       let d : s ≡ sc = subst (λ o. BoundAs o sc) i k in
       named-index ns ts ds given level sc n p at x y e h r z (b ∙ ap (λ s. bound_answer p at s y.number) d))
 
-  pub alone-datum : y.count ≡ 0 → (eqb y.sort 1 || eqb y.sort 2) ≡ true → (l : Element) → list_of l ≡ [] → KnownEarly ds given y.number (list_of l) p at r → NameAlone ds given level o at x p u
-  alone-datum z t l q b = alone-ok (λ sc k ns ts n. named-datum ns ts ds given level sc n p at x y e h r t (datum sc ns ts n))
+  pub alone-datum : y.count ≡ 0 → (eqb y.sort 1 || eqb y.sort 2) ≡ true → (l : Element) → list_of l ≡ [] → (k : Key) → key_number k ≡ key_of y.number (list_of l) → (g : Option ℕ) → Finds ds given (key_number k) g
+      → r ≡ word_answer p at (word_in ds g) → NameAlone ds given level o at x p u
+  alone-datum z t l q k v g b c = alone-ok (λ sc k ns ts n. named-datum ns ts ds given level sc n p at x y e h r t (datum sc ns ts n))
     where
       here : (sc : Held) (ns ts : List ℕ) (n : ℕ) → World ns ts ds given → DatumIs n y.number y.count y.start p ns ts ds given level sc at r
       here sc ns ts n w =
           let none = subscripts-point n p y.count ns ts ds given level sc at l q z in
           let test = within_none ns ts ds given y.number y.start l p q in
-          datum-known ns ts ds given level sc n y.number y.count y.start p at (Ok (l, at)) none l at refl (Ok tt) test refl r (b.is w.tables.stored.sorted)
+          datum-known ns ts ds given level sc n y.number y.count y.start p at (Ok (l, at)) none l at refl (Ok tt) test refl r (early-is ds given y.number p at (list_of l) k g v r c b w.tables.stored.sorted)
 
       datum : (sc : Held) (ns ts : List ℕ) (n : ℕ) → DatumIs n y.number y.count y.start p ns ts ds given level sc at r
       datum sc ns ts n = record { is = λ w. (here sc ns ts n w).is w; valid = λ w. (here sc ns ts n w).valid w }
@@ -99,7 +107,7 @@ no_sign_lem (suc (suc (suc (suc k)))) i =
     let e : (eqb (suc (suc (suc (suc k)))) 2 || eqb (suc (suc (suc (suc k)))) 3) ≡ false = rw (ne_eqb (suc (suc (suc (suc k)))) 2 (λ e. omega arith), ne_eqb (suc (suc (suc (suc k)))) 3 (λ e. omega arith)) refl in
     absurd (false-true (sym e ∙ i))
 
-module _ (ns ts ds : List ℕ) (given level : ℕ) (o : Option Held) (at : ℕ) (t : Result Seen Refused) (h : Looks ts at t) (w : Seen) (e : t ≡ Ok w) where
+module _ (ns ts : List ℕ) (ds : Table) (given level : ℕ) (o : Option Held) (at : ℕ) (t : Result Seen Refused) (h : Looks ts at t) (w : Seen) (e : t ≡ Ok w) where
   pub alone-literal : (v : Value) → (eqb w.kind 2 || eqb w.kind 3) ≡ true → v ≡ record { m = pos (w.payload / 8); s = w.payload % 8 } → TokenAlone ns ts ds given level o at (Some (v, w.next))
   alone-literal v i j = record { is = λ sc b. record { leads = leads-none ts at t h w e (no_sign_lem w.kind i); is = λ n. primary-literal ns ts ds given level sc n at t h w e v i j } }
 
@@ -112,7 +120,7 @@ module _ (ns ts ds : List ℕ) (given level : ℕ) (o : Option Held) (at : ℕ) 
 
 -- ---- a formula
 
-module _ (n : ℕ) (ns ts ds : List ℕ) (given level : ℕ) (sc : Held) (at : ℕ) where
+module _ (n : ℕ) (ns ts : List ℕ) (ds : Table) (given level : ℕ) (sc : Held) (at : ℕ) where
   -- the special case reads as the walk does
   single-value : (v : Value) (a : ℕ) → TokenValue ns ts ds given level sc at v a → (t : Result Seen Refused) → Looks ts a t → (w : Seen) → t ≡ Ok w
       → (n ≡ 0 → ⊥) → (w.kind ≡ 42 → ⊥) → (eqb w.kind 43 || eqb w.kind 45) ≡ false → Values (part_in n) ns ts ds given level sc at (Ok (v, w.next))
@@ -126,18 +134,18 @@ module _ (n : ℕ) (ns ts ds : List ℕ) (given level : ℕ) (sc : Held) (at : �
       let inside = inside-formula ns ts ds given level sc n at (Ok (v, a)) z formula in
       part-skip ns ts ds given level sc n at (Ok (v, a)) inside v a w.next refl (skips-seen ts a w t h e)
 
-module _ (ns ts ds : List ℕ) (given level : ℕ) (o : Option Held) (at : ℕ) where
+module _ (ns ts : List ℕ) (ds : Table) (given level : ℕ) (o : Option Held) (at : ℕ) where
   pub single-is : (r : Option (Value × ℕ)) → TokenAlone ns ts ds given level o at r → (v : Value) (a : ℕ) → r ≡ Some (v, a) → (t : Result Seen Refused) → Looks ts a t → (w : Seen) → t ≡ Ok w
       → (w.kind ≡ 42 → ⊥) → (eqb w.kind 43 || eqb w.kind 45) ≡ false → FormulaAlone ns ts ds given level o at (Some (v, w.next))
   single-is r y v a f t h w e i j = record { is = λ n z sc b. single-value n ns ts ds given level sc at v a (subst (TokenIs ns ts ds given level sc at) f (y.is sc b)) t h w e z i j }
 
-pub part-single : (n : ℕ) (ns ts ds : List ℕ) (given level : ℕ) (sc : Held) (at : ℕ) (r : Option (Value × ℕ)) → FormulaAlone ns ts ds given level (Some sc) at r
+pub part-single : (n : ℕ) (ns ts : List ℕ) (ds : Table) (given level : ℕ) (sc : Held) (at : ℕ) (r : Option (Value × ℕ)) → FormulaAlone ns ts ds given level (Some sc) at r
     → (n ≡ 0 → ⊥) → (x : Value × ℕ) → r ≡ Some x → Values (part_in n) ns ts ds given level sc at (Ok x)
 part-single n ns ts ds given level sc at r y z (v, a) f = subst (SingleIs n ns ts ds given level sc at) f (y.is n z sc refl)
 
 -- ---- the same whatever is bound
 
-module _ (ns ts ds : List ℕ) (given level at : ℕ) where
+module _ (ns ts : List ℕ) (ds : Table) (given level at : ℕ) where
   -- such an entry reads as the walk does
   pub entry-fixed : (r : Option (Value × ℕ)) → FormulaAlone ns ts ds given level None at r → (v : Value) (a : ℕ) → r ≡ Some (v, a)
       → (t : Result Seen Refused) → Looks ts a t → (y : Seen) → t ≡ Ok y → (c : ℕ) → Skips ts y.next c
@@ -157,27 +165,21 @@ module _ (ns ts ds : List ℕ) (given level at : ℕ) where
 
 -- a scope with one index more
 held_more : (s : Held) (i : ℕ) (k : ℤ) → (t : Held) × (bindings_of t ≡ bound_more i k (bindings_of s))
-unfolding bindings_of bound_more index_limit
-held_more s i k = go s.count refl
-  where
-    go : (n : ℕ) → s.count ≡ n → (t : Held) × (bindings_of t ≡ bound_more i k (bindings_of s))
-    go zero e = (record { count = 1; first = i; second = s.second; third = s.third; fourth = s.fourth; a = k; b = s.b; c = s.c; d = s.d }, rw e)
-    go (suc zero) e = (record { count = 2; first = s.first; second = i; third = s.third; fourth = s.fourth; a = s.a; b = k; c = s.c; d = s.d }, rw e)
-    go (suc (suc zero)) e = (record { count = 3; first = s.first; second = s.second; third = i; fourth = s.fourth; a = s.a; b = s.b; c = k; d = s.d }, rw e)
-    go (suc (suc (suc zero))) e = (record { count = 4; first = s.first; second = s.second; third = s.third; fourth = i; a = s.a; b = s.b; c = s.c; d = k }, rw e)
-    go (suc (suc (suc (suc n)))) e = (s, bind-none s i k (λ f. omega arith) (λ f. omega arith) (λ f. omega arith) (λ f. omega arith))
+held_more s i k =
+    let l : List HeldBinding = one_more (items_of s.bound) (record { name = i; at = k }) in
+    let t : Held = record { bound = record { count = 4; items = l } } in
+    (t, bind-more s t i k (items-are l (length-more (items_of s.bound) (record { name = i; at = k }) (length-few s.bound))))
 
-module _ (ns ts ds : List ℕ) (given level at : ℕ) (e : Element) (p : ℕ) where
+module _ (ns ts : List ℕ) (ds : Table) (given level at : ℕ) (e : Element) (p : ℕ) where
   -- the walk has come to position a and the j-th number, under some scope
   pub record FixedOn (a j : ℕ) : Type 0 where
     pub scope : Held
     pub on : WithinOn ns ts ds given level at e p scope a j
 
   pub fixed-start : FixedOn at 0
-  unfolding bindings_of
   fixed-start =
-      let none : Held = record { count = 0; first = 0; second = 0; third = 0; fourth = 0; a = pos 0; b = pos 0; c = pos 0; d = pos 0 } in
-      record { scope = none; on = within-start ns ts ds given level at e p none refl }
+      let none : Held = record { bound = record { count = 0; items = [] } } in
+      record { scope = none; on = within-start ns ts ds given level at e p none (none-bound none (none-is [])) }
 
   module _ (a j n : ℕ) (o : FixedOn a j) (f : n ≡ length (list_of e)) where
     pub fixed-end : n ≤ j → WithinIs ns ts ds given level at e p (Ok tt)

@@ -24,8 +24,9 @@ use Rattle.evaluator.proofs.steps.Numbers.{index_of}
 use Rattle.evaluator.specs.Tables.{World}
 use Rattle.evaluator.specs.Cycle.{part_in, entry_in, bounds_in, seen_by, under, tokens_at, Values, EntryIs, BoundsAre}
 use Rattle.evaluator.proofs.Laws.{stop, rounded-small, refused-is, value-is, value-valid}
+use Rattle.store.specs.Table.{Table}
 
-module _ (ns ts ds : List ℕ) (given level : ℕ) (sc : Held) where
+module _ (ns ts : List ℕ) (ds : Table) (given level : ℕ) (sc : Held) where
   -- ---- behind the lower formula
 
   module _ (n at : ℕ) (v : Value) (t : Result Seen Refused) (h : Looks ts at t) where

@@ -32,6 +32,7 @@ use Rattle.evaluator.specs.Steps.Passing.{Skips, Led, Leads}
 use Rattle.evaluator.specs.Steps.Values.{fitted_at, signed_value, whole_by, whole_answer, limits_in, SmallLimits}
 use Rattle.evaluator.specs.Tables.{World}
 use Rattle.evaluator.specs.Cycle.{inside_in, formula_in, primary_in, term_in, factors_in, summands_in, part_in, subscript_in, limits_walk, value_outcome, whole_outcome, ValidAnswer, seen_by, under, tokens_at, Values, Continues, Wholes, LimitsAre}
+use Rattle.store.specs.Table.{Table}
 
 -- ---- sequences
 
@@ -97,7 +98,7 @@ rounded-small v u h k = record { low = omega (arith, ceiling-size v, h.small); h
 
 -- ---- what an answer says
 
-module _ (ns ts ds : List ℕ) (given level : ℕ) (sc : Held) where
+module _ (ns ts : List ℕ) (ds : Table) (given level : ℕ) (sc : Held) where
   module _ {W : List Name → Walk} {at : ℕ} {r : Result (Value × ℕ) Refused} (h : Values W ns ts ds given level sc at r) where
     pub refused-is : {m : Refusal} {p : ℕ} → r ≡ Err (record { refusal = m; place = p }) → (w : World ns ts ds given) → Small sc → W (seen_by w level) (under w sc) (tokens_at w at) ≡ refused m p
     refused-is e w g = h.is w g ∙ ap (value_outcome w.text ts) e

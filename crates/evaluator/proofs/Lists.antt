@@ -38,6 +38,7 @@ use Rattle.evaluator.proofs.steps.Scopes.{scope-bind, small-none, small-bind}
 use Rattle.evaluator.specs.Tables.{World}
 use Rattle.evaluator.specs.Cycle.{subscript_in, entry_in, bounds_outcome, seen_by, under, nothing_bound, tokens_at, Wholes, EntryIs, SubscriptsAre, WithinIs}
 use Rattle.evaluator.proofs.Laws.{regroup, no_whole, whole_is, whole-small}
+use Rattle.store.specs.Table.{Table}
 
 -- ---- subscripts
 
@@ -58,7 +59,7 @@ list-is n p names s (span i f g q d) l =
     again (done x) f = ap (λ o. follow o (λ ks. give (x.what ∷ ks))) (f x.rest)
     again (refused m q) f = refl
 
-module _ (n p count : ℕ) (ns ts ds : List ℕ) (given level : ℕ) (sc : Held) (at : ℕ) where
+module _ (n p count : ℕ) (ns ts : List ℕ) (ds : Table) (given level : ℕ) (sc : Held) (at : ℕ) where
   -- the numbers of e, and `left` more from a on
   pub record NumbersOn (e : Element) (a left : ℕ) : Type 0 where
     pub sized : count ≤ index_limit → length (list_of e) + left ≡ count
@@ -156,7 +157,7 @@ module _ (n p count : ℕ) (ns ts ds : List ℕ) (given level : ℕ) (sc : Held)
 
 -- ---- the domain test
 
-module _ (ns ts ds : List ℕ) (given level at : ℕ) (e : Element) (p : ℕ) where
+module _ (ns ts : List ℕ) (ds : Table) (given level at : ℕ) (e : Element) (p : ℕ) where
   -- the test of all numbers from the tree's or the code's scope
   abbrev test_of : World ns ts ds given → List ℤ → Scope → ℕ → Outcome (Unit {0})
   test_of w ks s a = what_of (walk_within (seen_by w level) (in_domain_walk (seen_by w level)) ks s p (tokens_at w a))

@@ -33,17 +33,18 @@ use Rattle.evaluator.proofs.steps.Passed.{is-mark, skips-seen}
 use Rattle.evaluator.specs.Tables.{World}
 use Rattle.evaluator.specs.Cycle.{primary_in, term_in, factors_in, summands_in, value_outcome, ValidAnswer, seen_by, under, tokens_at, Values, Continues}
 use Rattle.evaluator.proofs.Laws.{stop, fitted-outcome, fitted-valid, signed_is, signed-valid, refused-is, value-is, value-valid}
+use Rattle.store.specs.Table.{Table}
 
 -- a turn more leaves one less
 next_turn : (turns : ℕ) → turns < 4096 → 4096 - turns - 1 ≡ 4096 - (turns + 1)
 next_turn turns m = omega arith
 
 -- with the value u at a and at most k turns more, a loop gives what it gives from its start, at `at` with v
-pub record LoopOn (W : ℕ → Value → List Name → Walk) (ns ts ds : List ℕ) (given level : ℕ) (sc : Held) (at : ℕ) (v : Value) (k a : ℕ) (u : Value) : Type 0 where
+pub record LoopOn (W : ℕ → Value → List Name → Walk) (ns ts : List ℕ) (ds : Table) (given level : ℕ) (sc : Held) (at : ℕ) (v : Value) (k a : ℕ) (u : Value) : Type 0 where
   pub same : (w : World ns ts ds given) → Small sc → Valid v → W k u (seen_by w level) (under w sc) (tokens_at w a) ≡ W token_limit v (seen_by w level) (under w sc) (tokens_at w at)
   pub valid : World ns ts ds given → Small sc → Valid v → Valid u
 
-module _ (ns ts ds : List ℕ) (given level : ℕ) (sc : Held) (at : ℕ) (v : Value) where
+module _ (ns ts : List ℕ) (ds : Table) (given level : ℕ) (sc : Held) (at : ℕ) (v : Value) where
   -- ---- any such loop
 
   module _ (W : ℕ → Value → List Name → Walk) (k a : ℕ) (u : Value) (o : LoopOn W ns ts ds given level sc at v k a u) where

@@ -32,7 +32,7 @@ use Rattle.tokens.proofs.Tables.{false-true}
 use Rattle.store.specs.declared.Element.{Element}
 use Rattle.store.specs.Element.{list_of, Subscripts}
 use Rattle.store.specs.Key.{name_bound, key_of}
-use Rattle.store.specs.Table.{lookup}
+use Rattle.store.specs.Table.{Table, lookup}
 use Rattle.store.specs.Packed.{unpacked}
 use Rattle.store.specs.Entries.{Keyed}
 use Rattle.evaluator.specs.declared.steps.scope.Scope.{Scope as Held}
@@ -80,7 +80,7 @@ size-count (span i f g p d) = ap suc (size-count d)
 
 -- ---- a name
 
-module _ (ns ts ds : List ℕ) (given level : ℕ) (sc : Held) (n p at : ℕ) (x : Option Listed) where
+module _ (ns ts : List ℕ) (ds : Table) (given level : ℕ) (sc : Held) (n p at : ℕ) (x : Option Listed) where
   pub named-unknown : x ≡ None → NamedIs n p ns ts ds given level sc at x (Err (record { refusal = BadName; place = p }))
   unfolding walk_found
   named-unknown e = record { is = λ w g l t. rw (subst (Told w l p) e t level) refl; valid = λ w g l t. tt }
@@ -189,7 +189,7 @@ module _ (ns ts ds : List ℕ) (given level : ℕ) (sc : Held) (n p at : ℕ) (x
 
 -- ---- a datum
 
-module _ (ns ts ds : List ℕ) (given level : ℕ) (sc : Held) (n i c q p at : ℕ) (y : Result (Element × ℕ) Refused) (h : SubscriptsAre n p c ns ts ds given level sc at y) where
+module _ (ns ts : List ℕ) (ds : Table) (given level : ℕ) (sc : Held) (n i c q p at : ℕ) (y : Result (Element × ℕ) Refused) (h : SubscriptsAre n p c ns ts ds given level sc at y) where
   pub numbers-at : (z : Result (Element × ℕ) Refused) → y ≡ z → (w : World ns ts ds given) → Small sc → (d : Spans) → DomainAt w.text ts (seen_by w i) d q → size d ≡ c
       → walk_subscripts (walk_inside (seen_by w level) n) d (under w sc) p (tokens_at w at) ≡ numbers_outcome w.text ts z
   numbers-at z e w g d a s = h.is w g d s (subst (λ k. k ≤ index_limit) s a.few) ∙ ap (numbers_outcome w.text ts) e

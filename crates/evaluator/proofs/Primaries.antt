@@ -29,8 +29,9 @@ use Rattle.evaluator.proofs.steps.Numbers.{unknown, known, row-of, row-shaped}
 use Rattle.evaluator.specs.Tables.{World}
 use Rattle.evaluator.specs.Cycle.{primary_in, part_in, sum_in, value_outcome, ValidAnswer, seen_by, under, tokens_at, Values, Told, NamedIs}
 use Rattle.evaluator.proofs.Laws.{stop}
+use Rattle.store.specs.Table.{Table}
 
-module _ (ns ts ds : List ℕ) (given level : ℕ) (sc : Held) (n at : ℕ) (t : Result Seen Refused) (h : Looks ts at t) where
+module _ (ns ts : List ℕ) (ds : Table) (given level : ℕ) (sc : Held) (n at : ℕ) (t : Result Seen Refused) (h : Looks ts at t) where
   pub primary-wrong : (e : Refused) → t ≡ Err e → Values (primary_in n) ns ts ds given level sc at (Err e)
   unfolding primary_in walk_primary
   primary-wrong z e = record { is = λ w g. stop _ _ z.refusal z.place (subst (Sees w.text ts at) e (h.sees w.text)).nexts; valid = λ w g. tt }

@@ -20,8 +20,9 @@ use Rattle.evaluator.proofs.steps.Runs.{run_is}
 use Rattle.evaluator.specs.Tables.{World}
 use Rattle.evaluator.specs.Cycle.{sum_in, limits_walk, limits_outcome, SmallLimited, seen_by, under, tokens_at, Values, LimitsAre, Ready, BodyIs}
 use Rattle.evaluator.proofs.Laws.{stop}
+use Rattle.store.specs.Table.{Table}
 
-module _ (ns ts ds : List ℕ) (given level : ℕ) (sc : Held) (n p at : ℕ) (x : Result (ℕ × ℕ) Refused) (hd : Opens ts level at x) where
+module _ (ns ts : List ℕ) (ds : Table) (given level : ℕ) (sc : Held) (n p at : ℕ) (x : Result (ℕ × ℕ) Refused) (hd : Opens ts level at x) where
   head-is : (y : Result (ℕ × ℕ) Refused) → x ≡ y → (w : World ns ts ds given) → walk_head (seen_by w level) (tokens_at w at) ≡ head_outcome w.text ts y
   head-is y e w = (heads-of ts level at x hd).is w.text ns w.names w.tables.named w.tables.resolved ∙ ap (head_outcome w.text ts) e
 

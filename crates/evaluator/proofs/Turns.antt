@@ -32,6 +32,7 @@ use Rattle.evaluator.proofs.steps.Scopes.{scope-bind, small-bind}
 use Rattle.evaluator.specs.Tables.{World}
 use Rattle.evaluator.specs.Cycle.{inside_in, value_outcome, ValidAnswer, seen_by, under, tokens_at, Values, Ready, BodyIs}
 use Rattle.evaluator.proofs.Laws.{fitted-valid}
+use Rattle.store.specs.Table.{Table}
 
 -- the j-th number of a run is a value's
 pub nth-small : (l : code.Limits) (j : ℕ) → SmallLimits l → j < length_of (limits_in l) → nat_abs (l.lower +ℤ pos j) ≤ mantissa_limit
@@ -56,7 +57,7 @@ nth-small l j h b = go l.lower l.upper (l.lower +ℤ pos j) h.low h.high b (add_
         near (pos n) e f = omega arith
         near (negsuc n) e f = omega arith
 
-module _ (n i p : ℕ) (ns ts ds : List ℕ) (given level : ℕ) (sc : Held) (at : ℕ) (l : code.Limits) (k : ℕ) where
+module _ (n i p : ℕ) (ns ts : List ℕ) (ds : Table) (given level : ℕ) (sc : Held) (at : ℕ) (l : code.Limits) (k : ℕ) where
   -- what the body adds at a number, and the turns from a number on
   pub added : World ns ts ds given → ℤ → Value → Outcome Value
   added w x v = add_to p v (what_of (walk_inside (seen_by w level) n (bind i x (under w sc)) (tokens_at w at)))

@@ -25,6 +25,7 @@ use Rattle.evaluator.specs.Steps.Scopes.{bindings_of, scope_of, Small}
 use Rattle.evaluator.specs.Steps.Names.{row_word}
 use Rattle.evaluator.specs.Steps.Values.{limits_in, SmallLimits}
 use Rattle.evaluator.specs.Tables.{DomainAt, World}
+use Rattle.store.specs.Table.{Table}
 
 -- ---- the walks, each a function of the names and the scope
 
@@ -115,7 +116,7 @@ passed_outcome (Err e) = refused e.refusal e.place
 
 -- ---- contracts
 
-module _ {ns ts ds : List ℕ} {given : ℕ} (w : World ns ts ds given) where
+module _ {ns ts : List ℕ} {ds : Table} {given : ℕ} (w : World ns ts ds given) where
   -- the first `level` names, the scope, the tokens from a position on
   abbrev pub seen_by : ℕ → List Name
   seen_by level = take level w.names
@@ -130,36 +131,36 @@ module _ {ns ts ds : List ℕ} {given : ℕ} (w : World ns ts ds given) where
   tokens_at a = from w.text ts a
 
 -- a value that fits, or the refusal
-pub record Values (W : List Name → Walk) (ns ts ds : List ℕ) (given level : ℕ) (sc : Held) (at : ℕ) (r : Result (Value × ℕ) Refused) : Type 0 where
+pub record Values (W : List Name → Walk) (ns ts : List ℕ) (ds : Table) (given level : ℕ) (sc : Held) (at : ℕ) (r : Result (Value × ℕ) Refused) : Type 0 where
   pub is : (w : World ns ts ds given) → Small sc → W (seen_by w level) (under w sc) (tokens_at w at) ≡ value_outcome w.text ts r
   pub valid : World ns ts ds given → Small sc → ValidAnswer r
 
 -- the same behind a value v
-pub record Continues (W : Value → List Name → Walk) (ns ts ds : List ℕ) (given level : ℕ) (sc : Held) (at : ℕ) (v : Value) (r : Result (Value × ℕ) Refused) : Type 0 where
+pub record Continues (W : Value → List Name → Walk) (ns ts : List ℕ) (ds : Table) (given level : ℕ) (sc : Held) (at : ℕ) (v : Value) (r : Result (Value × ℕ) Refused) : Type 0 where
   pub is : (w : World ns ts ds given) → Small sc → Valid v → W v (seen_by w level) (under w sc) (tokens_at w at) ≡ value_outcome w.text ts r
   pub valid : World ns ts ds given → Small sc → Valid v → ValidAnswer r
 
 -- a whole number
-pub record Wholes (W : List Name → Scope → Reader ℤ) (ns ts ds : List ℕ) (given level : ℕ) (sc : Held) (at : ℕ) (r : Result (Value × ℕ) Refused) : Type 0 where
+pub record Wholes (W : List Name → Scope → Reader ℤ) (ns ts : List ℕ) (ds : Table) (given level : ℕ) (sc : Held) (at : ℕ) (r : Result (Value × ℕ) Refused) : Type 0 where
   pub is : (w : World ns ts ds given) → Small sc → W (seen_by w level) (under w sc) (tokens_at w at) ≡ whole_outcome w.text ts r
   pub valid : World ns ts ds given → Small sc → ValidAnswer r
 
 -- two limits
-pub record LimitsAre (W : List Name → Scope → Reader Limits) (ns ts ds : List ℕ) (given level : ℕ) (sc : Held) (at : ℕ) (r : Result (code.Limits × ℕ) Refused) : Type 0 where
+pub record LimitsAre (W : List Name → Scope → Reader Limits) (ns ts : List ℕ) (ds : Table) (given level : ℕ) (sc : Held) (at : ℕ) (r : Result (code.Limits × ℕ) Refused) : Type 0 where
   pub is : (w : World ns ts ds given) → Small sc → W (seen_by w level) (under w sc) (tokens_at w at) ≡ limits_outcome w.text ts r
   pub small : World ns ts ds given → Small sc → SmallLimited r
 
 -- one entry of a domain; the same behind its lower formula's value v
-pub record EntryIs (W : List Name → Scope → Reader Bounds) (ns ts ds : List ℕ) (given level : ℕ) (sc : Held) (at : ℕ) (r : Result (entered.Bounds × ℕ) Refused) : Type 0 where
+pub record EntryIs (W : List Name → Scope → Reader Bounds) (ns ts : List ℕ) (ds : Table) (given level : ℕ) (sc : Held) (at : ℕ) (r : Result (entered.Bounds × ℕ) Refused) : Type 0 where
   pub is : (w : World ns ts ds given) → Small sc → W (seen_by w level) (under w sc) (tokens_at w at) ≡ bounds_outcome w.text ts r
   pub small : World ns ts ds given → Small sc → SmallEntered r
 
-pub record BoundsAre (W : Value → List Name → Scope → Reader Bounds) (ns ts ds : List ℕ) (given level : ℕ) (sc : Held) (at : ℕ) (v : Value) (r : Result (entered.Bounds × ℕ) Refused) : Type 0 where
+pub record BoundsAre (W : Value → List Name → Scope → Reader Bounds) (ns ts : List ℕ) (ds : Table) (given level : ℕ) (sc : Held) (at : ℕ) (v : Value) (r : Result (entered.Bounds × ℕ) Refused) : Type 0 where
   pub is : (w : World ns ts ds given) → Small sc → Valid v → W v (seen_by w level) (under w sc) (tokens_at w at) ≡ bounds_outcome w.text ts r
   pub small : World ns ts ds given → Small sc → Valid v → SmallEntered r
 
 -- the subscripts, at most four, of a name read at p whose domain has k indices
-pub record SubscriptsAre (n p k : ℕ) (ns ts ds : List ℕ) (given level : ℕ) (sc : Held) (at : ℕ) (r : Result (Element × ℕ) Refused) : Type 0 where
+pub record SubscriptsAre (n p k : ℕ) (ns ts : List ℕ) (ds : Table) (given level : ℕ) (sc : Held) (at : ℕ) (r : Result (Element × ℕ) Refused) : Type 0 where
   pub is : (w : World ns ts ds given) → Small sc → (d : Spans) → size d ≡ k → k ≤ index_limit
       → walk_subscripts (walk_inside (seen_by w level) n) d (under w sc) p (tokens_at w at) ≡ numbers_outcome w.text ts r
   pub small : World ns ts ds given → Small sc → k ≤ index_limit → SmallNumbers r
@@ -172,20 +173,20 @@ pub record Ready (sc : Held) (l : code.Limits) (n : ℕ) : Type 0 where
   pub room : ltb (length (bindings_of sc)) index_limit ≡ true
 
 -- a sum's body for each number of its run
-pub record BodyIs (n i p : ℕ) (ns ts ds : List ℕ) (given level : ℕ) (sc : Held) (at : ℕ) (l : code.Limits) (k : ℕ) (r : Result (Value × ℕ) Refused) : Type 0 where
+pub record BodyIs (n i p : ℕ) (ns ts : List ℕ) (ds : Table) (given level : ℕ) (sc : Held) (at : ℕ) (l : code.Limits) (k : ℕ) (r : Result (Value × ℕ) Refused) : Type 0 where
   pub is : (w : World ns ts ds given) → Small sc → Ready sc l k
       → walk_body (walk_inside (seen_by w level) n) i p (under w sc) (up_from l.lower k) (tokens_at w at) ≡ value_outcome w.text ts r
   pub valid : World ns ts ds given → Small sc → Ready sc l k → ValidAnswer r
 
 -- the domain test of the numbers of e, at the declared domain's tokens and with nothing bound
-pub record WithinIs (ns ts ds : List ℕ) (given level at : ℕ) (e : Element) (p : ℕ) (r : Result Unit Refused) : Type 0 where
+pub record WithinIs (ns ts : List ℕ) (ds : Table) (given level at : ℕ) (e : Element) (p : ℕ) (r : Result Unit Refused) : Type 0 where
   pub is : (w : World ns ts ds given) → Subscripts (list_of e)
       → what_of (walk_within (seen_by w level) (in_domain_walk (seen_by w level)) (list_of e) (nothing_bound w) p (tokens_at w at)) ≡ passed_outcome r
 
 -- ---- a name
 
 -- what the table tells of a name l that is read at p: its number i, sort k, number of indices c, and where it was declared
-pub record KnownAs {ns ts ds : List ℕ} {given : ℕ} (w : World ns ts ds given) (l : List ℕ) (p i k c q : ℕ) : Type 0 where
+pub record KnownAs {ns ts : List ℕ} {ds : Table} {given : ℕ} (w : World ns ts ds given) (l : List ℕ) (p i k c q : ℕ) : Type 0 where
   pub name : Name
   pub stands : slice_get w.names i ≡ Some name
   pub found : (level : ℕ) → i < level → find l (seen_by w level) 0 p ≡ Some (record { number = i; sort = name.sort; place = p })
@@ -193,18 +194,18 @@ pub record KnownAs {ns ts ds : List ℕ} {given : ℕ} (w : World ns ts ds given
   pub shaped : Shaped name.sort k c
   pub row : q ≡ row_word ns i 4
 
-abbrev pub Told : {ns ts ds : List ℕ} {given : ℕ} → World ns ts ds given → List ℕ → ℕ → Option Listed → Type 0
+abbrev pub Told : {ns ts : List ℕ} {ds : Table} {given : ℕ} → World ns ts ds given → List ℕ → ℕ → Option Listed → Type 0
 Told w l p None = (level : ℕ) → find l (seen_by w level) 0 p ≡ None
 Told w l p (Some x) = KnownAs w l p x.number x.sort x.count x.start
 
 -- a primary that is a name
-pub record NamedIs (n p : ℕ) (ns ts ds : List ℕ) (given level : ℕ) (sc : Held) (at : ℕ) (x : Option Listed) (r : Result (Value × ℕ) Refused) : Type 0 where
+pub record NamedIs (n p : ℕ) (ns ts : List ℕ) (ds : Table) (given level : ℕ) (sc : Held) (at : ℕ) (x : Option Listed) (r : Result (Value × ℕ) Refused) : Type 0 where
   pub is : (w : World ns ts ds given) → Small sc → (l : List ℕ) → Told w l p x
       → walk_found (walk_inside (seen_by w level) n) p (find l (seen_by w level) 0 p) (under w sc) (tokens_at w at) ≡ value_outcome w.text ts r
   pub valid : (w : World ns ts ds given) → Small sc → (l : List ℕ) → Told w l p x → ValidAnswer r
 
 -- an integer or a real with number i, whose domain has c indices and was declared at q
-pub record DatumIs (n i c q p : ℕ) (ns ts ds : List ℕ) (given level : ℕ) (sc : Held) (at : ℕ) (r : Result (Value × ℕ) Refused) : Type 0 where
+pub record DatumIs (n i c q p : ℕ) (ns ts : List ℕ) (ds : Table) (given level : ℕ) (sc : Held) (at : ℕ) (r : Result (Value × ℕ) Refused) : Type 0 where
   pub is : (w : World ns ts ds given) → Small sc → i < length w.names → (d : Spans) → DomainAt w.text ts (seen_by w i) d q → size d ≡ c
       → walk_datum (walk_inside (seen_by w level) n) i p d (under w sc) (tokens_at w at) ≡ value_outcome w.text ts r
   pub valid : (w : World ns ts ds given) → Small sc → i < length w.names → (d : Spans) → DomainAt w.text ts (seen_by w i) d q → size d ≡ c → ValidAnswer r

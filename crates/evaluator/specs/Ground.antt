@@ -9,6 +9,7 @@ use Rattle.language.specs.Syntax.{Name}
 use Rattle.tokens.specs.Stored.{from, Named}
 use Rattle.evaluator.specs.Steps.Names.{Resolved, row_word}
 use Rattle.evaluator.specs.Tables.{Stands, Given, World}
+use Rattle.store.specs.Table.{Table}
 
 pub record Ground (s ns ts : List ℕ) : Type 0 where
   pub names : List Name
@@ -19,7 +20,7 @@ pub record Ground (s ns ts : List ℕ) : Type 0 where
   pub declared : (i : ℕ) (x : Name) → slice_get names i ≡ Some x → Stands s ts (take i names) x.sort (row_word ns i 4)
 
 -- with n rows that hold what is known, a world
-abbrev pub world_on : {s ns ts ds : List ℕ} {n : ℕ} {known : ℕ → List ℤ → Option Value} → Ground s ns ts → Given ds n known → World ns ts ds n
+abbrev pub world_on : {s ns ts : List ℕ} {ds : Table} {n : ℕ} {known : ℕ → List ℤ → Option Value} → Ground s ns ts → Given ds n known → World ns ts ds n
 world_on {s} {ns} {ts} {ds} {n} {known} g d = record {
   text = s;
   names = g.names;

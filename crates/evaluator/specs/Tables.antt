@@ -12,7 +12,7 @@ use Rattle.language.specs.Formulas.{formula_at}
 use Rattle.onepass.specs.Entries.{ReadsSpans}
 use Rattle.tokens.specs.Stored.{from, Named, size}
 use Rattle.store.specs.Key.{key_of}
-use Rattle.store.specs.Table.{Sorted, lookup}
+use Rattle.store.specs.Table.{Table, Sorted, lookup}
 use Rattle.store.specs.Packed.{unpacked}
 use Rattle.store.specs.Entries.{Keyed}
 use Rattle.evaluator.specs.Steps.Names.{Resolved, row_word}
@@ -44,14 +44,14 @@ value_in None = None
 value_in (Some w) = Some (unpacked w)
 
 -- n rows that hold what is known, each a value
-pub record Given (ds : List ℕ) (n : ℕ) (known : ℕ → List ℤ → Option Value) : Type 0 where
+pub record Given (ds : Table) (n : ℕ) (known : ℕ → List ℤ → Option Value) : Type 0 where
   pub sorted : Sorted ds n
   pub agrees : (i : ℕ) (ks : List ℤ) → Keyed i ks → known i ks ≡ value_in (lookup ds n (key_of i ks))
   pub valid : (i : ℕ) (ks : List ℤ) (v : Value) → known i ks ≡ Some v → Valid v
 
 -- ---- all of them, with the text that the tokens were read from
 
-pub record Tables (s ns ts ds : List ℕ) (given : ℕ) (names : List Name) (known : ℕ → List ℤ → Option Value) : Type 0 where
+pub record Tables (s ns ts : List ℕ) (ds : Table) (given : ℕ) (names : List Name) (known : ℕ → List ℤ → Option Value) : Type 0 where
   pub few : length names ≤ name_limit
   pub named : Named s ns names
   pub resolved : Resolved s ns ts
@@ -60,7 +60,7 @@ pub record Tables (s ns ts ds : List ℕ) (given : ℕ) (names : List Name) (kno
   pub stored : Given ds given known
 
 -- a text, names and data that the tables hold
-pub record World (ns ts ds : List ℕ) (given : ℕ) : Type 0 where
+pub record World (ns ts : List ℕ) (ds : Table) (given : ℕ) : Type 0 where
   pub text : List ℕ
   pub names : List Name
   pub known : ℕ → List ℤ → Option Value

@@ -9,14 +9,14 @@ ghost use Rattle.evaluator.specs.Alone.{NameAlone, TokenAlone, FormulaAlone, Ent
 ghost use Rattle.evaluator.specs.Cycle.{inside_in, formula_in, primary_in, term_in, factors_in, summands_in, part_in, sum_in, subscript_in, limits_walk, entry_in, bounds_in, Values, Continues, Wholes, LimitsAre, EntryIs, BoundsAre, SubscriptsAre, BodyIs, WithinIs, NamedIs, DatumIs};
 ghost use Rattle.evaluator.specs.Context.{Over, Under};
 
-use lexer::marks;
+use lexer::Mark;
 use rules::{Refused, refused};
 use steps::names::Listed;
 use steps::scope::Scope;
 use steps::values::{Bounds, Limits};
 use steps::{passing, values};
-use store::Element;
-use tokens::{kinds, sorts};
+use store::{Element, Row};
+use tokens::{Kind, Sort};
 use value::Value;
 
 // What is stored of a model: its name table, its token table, the rows of its data, and how many of them are given.
@@ -24,7 +24,7 @@ use value::Value;
 pub struct Stored<'a> {
     pub names: &'a [u64],
     pub tokens: &'a [u64],
-    pub table: &'a [u64],
+    pub table: &'a [Row],
     pub given: usize,
 }
 
@@ -68,8 +68,8 @@ fn summands(cx: &Context<'_>, at: usize, v: Value) -> Result<(Value, usize), Ref
     let mut u = v;
     for _ in 0..rules::TOKEN_LIMIT {
         let token = tokens::token_at(cx.stored.tokens, a)?;
-        let minus = token.kind == marks::MINUS as u64;
-        if !((token.kind == marks::PLUS as u64) | minus) {
+        let minus = token.kind == Mark::Minus as u64;
+        if !((token.kind == Mark::Plus as u64) | minus) {
             return Ok((u, a));
         }
         let (w, next) = term(cx, token.next)?;
@@ -96,7 +96,7 @@ fn factors(cx: &Context<'_>, at: usize, v: Value) -> Result<(Value, usize), Refu
     let mut u = v;
     for _ in 0..rules::TOKEN_LIMIT {
         let token = tokens::token_at(cx.stored.tokens, a)?;
-        if token.kind != marks::TIMES as u64 {
+        if token.kind != Mark::Times as u64 {
             return Ok((u, a));
         }
         let (w, next) = primary(cx, token.next)?;
@@ -111,17 +111,17 @@ pub fn primary(cx: &Context<'_>, at: usize) -> Result<(Value, usize), Refused>
     ensures { Under (Values (primary_in cx.now.nest)) cx.now at result }
 {
     let token = tokens::token_at(cx.stored.tokens, at)?;
-    if token.kind == marks::SUM as u64 {
+    if token.kind == Mark::Sum as u64 {
         return sum(cx, token.next, token.place);
     }
-    if token.kind == marks::LEFT_PAREN as u64 {
+    if token.kind == Mark::LeftParen as u64 {
         return part(cx, token.next);
     }
-    if token.kind == kinds::NAME {
+    if token.kind == Kind::Name as u64 {
         let name = steps::names::name_at(cx.stored.names, cx.stored.tokens, at);
         return named(cx, token.next, name, token.place);
     }
-    if (token.kind == kinds::WHOLE) | (token.kind == kinds::POINTED) {
+    if (token.kind == Kind::Whole as u64) | (token.kind == Kind::Pointed as u64) {
         return Ok((values::literal(token.payload), token.next));
     }
     refused!(Misplaced, token.place)
@@ -187,7 +187,7 @@ fn subscript(cx: &Context<'_>, at: usize, p: u64) -> Result<(Value, usize), Refu
 
 // The value of a name that stands alone: a bound index, or an integer or a real without subscripts.
 fn name_alone(
-    table: &[u64],
+    table: &[Row],
     given: usize,
     level: usize,
     bound: Option<Scope>,
@@ -201,15 +201,17 @@ fn name_alone(
     if level <= listed.number {
         return None;
     }
-    if listed.sort == sorts::INDEX {
+    if listed.sort == Sort::Index as u64 {
         let scope = bound?;
         return values::index_value(scope, listed.number, p, at).ok();
     }
     if listed.count != 0 {
         return None;
     }
-    if (listed.sort == sorts::INTEGER) | (listed.sort == sorts::REAL) {
-        return values::known_early(table, given, listed.number, Element::none(), p, at).ok();
+    if (listed.sort == Sort::Integer as u64) | (listed.sort == Sort::Real as u64) {
+        let key = store::key_of(listed.number, Element::none());
+        let row = store::find_early(table, given, key);
+        return values::datum(table, row, p, at).ok();
     }
     None
 }
@@ -224,10 +226,10 @@ fn token_alone(
     ensures { Over TokenAlone stored.entry level bound at result }
 {
     let token = tokens::token_at(stored.tokens, at).ok()?;
-    if (token.kind == kinds::WHOLE) | (token.kind == kinds::POINTED) {
+    if (token.kind == Kind::Whole as u64) | (token.kind == Kind::Pointed as u64) {
         return Some((values::literal(token.payload), token.next));
     }
-    if token.kind != kinds::NAME {
+    if token.kind != Kind::Name as u64 {
         return None;
     }
     let name = steps::names::name_at(stored.names, stored.tokens, at);
@@ -253,10 +255,10 @@ fn formula_alone(
 {
     let (v, next) = token_alone(stored, level, bound, at)?;
     let sign = tokens::token_at(stored.tokens, next).ok()?;
-    if sign.kind == marks::TIMES as u64 {
+    if sign.kind == Mark::Times as u64 {
         return None;
     }
-    if (sign.kind == marks::PLUS as u64) | (sign.kind == marks::MINUS as u64) {
+    if (sign.kind == Mark::Plus as u64) | (sign.kind == Mark::Minus as u64) {
         return None;
     }
     Some((v, sign.next))
@@ -308,10 +310,10 @@ fn named(
     if cx.level <= listed.number {
         return refused!(BadName, p);
     }
-    if listed.sort == sorts::INDEX {
+    if listed.sort == Sort::Index as u64 {
         return values::index_value(cx.scope, listed.number, p, at);
     }
-    if listed.sort == sorts::FORMULA {
+    if listed.sort == Sort::Formula as u64 {
         let before = Context {
             level: listed.number,
             nest: rules::NESTING_LIMIT,
@@ -320,7 +322,7 @@ fn named(
         let (v, _) = formula(&before, listed.start)?;
         return Ok((v, at));
     }
-    if (listed.sort == sorts::INTEGER) | (listed.sort == sorts::REAL) {
+    if (listed.sort == Sort::Integer as u64) | (listed.sort == Sort::Real as u64) {
         return datum(cx, at, listed, p);
     }
     refused!(Misplaced, p)

@@ -21,7 +21,7 @@ use Rattle.language.specs.Listed.{At}
 use Rattle.language.proofs.Listed.{at_length}
 use Rattle.language.specs.Numbering.{Entry, Lp, less_rows, equal_rows, rows, lower_of, upper_of}
 use Rattle.language.specs.Valid.{ValidIfAny}
-use Rattle.store.specs.Table.{word_at}
+use Rattle.store.specs.Table.{Table, word_at}
 use Rattle.store.specs.Packed.{unpacked}
 use Rattle.rows.specs.declared.Sizes.{Sizes}
 use Rattle.rows.specs.Slots.{objective_row, less_slot, Slot}
@@ -63,7 +63,7 @@ cell-shown j i v w k = ap (λ r. cond (is_zero v) [] r) (twice-shown j i v w k)
 
 -- ---- floors
 
-module _ (t : List ℕ) (less : ℕ) where
+module _ (t : Table) (less : ℕ) where
   record FloorTold (i : ℕ) (w : Option Value) : Type 0 where
     value : floor_at t less i ≡ w
     valid : ValidIfAny w
@@ -109,7 +109,7 @@ module _ (m : List ℤ) (less j : ℕ) where
     value : value_of (count_at m (slot_at less i) j) ≡ cell_of j e
     valid : Valid (cell_of j e)
 
-  cells_told : (t : List ℕ) (i : ℕ) (ws : List (Option Value)) (es : List Entry) → FloorsTold t less i ws → ((n : ℕ) (e : Entry) → At es n e → CellTold (i + n) e)
+  cells_told : (t : Table) (i : ℕ) (ws : List (Option Value)) (es : List Entry) → FloorsTold t less i ws → ((n : ℕ) (e : Entry) → At es n e → CellTold (i + n) e)
       → text_from (cell_text t m less j) (length es) i ≡ cell_lines j i ws (map (cell_of j) es)
   unfolding text_from cell_text cell_lines
   cells_told t i ws [] f h = refl
@@ -126,7 +126,7 @@ module _ (m : List ℤ) (less j : ℕ) where
 
 -- ---- right sides
 
-rights-told : (t : List ℕ) (less i : ℕ) (ws : List (Option Value)) (es : List Entry) → FloorsTold t less i ws
+rights-told : (t : Table) (less i : ℕ) (ws : List (Option Value)) (es : List Entry) → FloorsTold t less i ws
     → ((n : ℕ) (e : Entry) → At es n e → (unpacked (word_at t (slot_at less (i + n))) ≡ entry_right e) × Valid (entry_right e))
     → text_from (right_text t less) (length es) i ≡ right_lines i ws (map entry_right es)
 unfolding text_from right_text right_lines
@@ -156,7 +156,7 @@ each-floor P [] h k i = k i (omega arith)
 each-floor P (e ∷ es) h k zero = h 0 e refl
 each-floor P (e ∷ es) h k (suc i) = each-floor (λ n w. P (suc n) w) es (λ n f a. h (suc n) f a) (λ n g. k (suc n) (omega arith)) i
 
-module _ {t b : List ℕ} {m : List ℤ} {z : Sizes} {p : Lp} (h : Held t b m z p) where
+module _ {t : Table} {b : List ℕ} {m : List ℤ} {z : Sizes} {p : Lp} (h : Held t b m z p) where
   count : length (rows p) ≡ z.less + z.equal
   unfolding rows less_rows equal_rows
   count = omega (arith, length-append (less_rows p) (equal_rows p), h.rows.less_count, h.rows.equal_count)
@@ -275,7 +275,7 @@ formed-yes x e =
       sizes = within-yes x (and_right (leb x.discrete x.variables) _ e);
     }
 
-module _ (t b : List ℕ) (m : List ℤ) (z : Sizes) where
+module _ (t : Table) (b : List ℕ) (m : List ℤ) (z : Sizes) where
   pub exports-none : (f : Bool) (l : List ℕ) (r : ℕ) (l' : List ℕ) → f ≡ formed z → not f ≡ true → Exports t b m z l r l'
   exports-none f l r l' e n = record { lines = λ p h. never (sym (all-formed h) ∙ sym e ∙ not-true f n) }
     where

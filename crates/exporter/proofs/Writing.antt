@@ -22,7 +22,7 @@ use Rattle.rows.specs.declared.Sizes.{Sizes}
 use Rattle.rows.specs.Slots.{objective_row, floor_slot}
 use Rattle.rows.specs.Bounds.{lower_word, upper_word}
 use Rattle.rows.specs.Read.{within, slot_at, count_at, value_of, lower_in, end_in}
-use Rattle.store.specs.Table.{word_at}
+use Rattle.store.specs.Table.{Table, word_at}
 use Rattle.store.specs.Packed.{unpacked}
 use Rattle.rows.proofs.Reading.{zero-count}
 use Rattle.mps.specs.Export.{named, less_line, floor_line, equal_line, cell_head, floor_cell_head, objective_head, right_head, floor_head, lower_head, upper_head, no_upper_line}
@@ -106,7 +106,7 @@ module _ (l : List ℕ) (at j i : ℕ) (z : ℤ) (w : Option Value) where
 
 -- ---- floors
 
-module _ (t : List ℕ) (less i : ℕ) where
+module _ (t : Table) (less i : ℕ) where
   pub floor-here : (u : Option Value) → i < less → u ≡ end_in (word_at t (floor_slot i)) → u ≡ floor_at t less i
   unfolding floor_at
   floor-here u h e = rw (lt-ltb i less h) e
@@ -131,16 +131,16 @@ module _ {l : List ℕ} {at r : ℕ} {l' : List ℕ} where
   unfolding floor_row floor_line
   floor-row n u v e w = rw e w
 
-  pub less-line : (t : List ℕ) (less i : ℕ) (u : Option Value) {s : ℕ} {k : List ℕ} → i < less → u ≡ floor_at t less i
+  pub less-line : (t : Table) (less i : ℕ) (u : Option Value) {s : ℕ} {k : List ℕ} → i < less → u ≡ floor_at t less i
       → Written l at (named (bytes " L R") (i + 1) (bytes "\n")) s k → Written k s (floor_row (i + 1) u) r l' → Written l at (row_text t less i) r l'
   unfolding row_text less_line
   less-line t less i u h e w x = rw (lt-ltb i less h, ← e) (written_then _ _ _ _ _ _ _ _ w x)
 
-  pub equal-line : (t : List ℕ) (less i : ℕ) → less ≤ i → Written l at (named (bytes " E R") (i + 1) (bytes "\n")) r l' → Written l at (row_text t less i) r l'
+  pub equal-line : (t : Table) (less i : ℕ) → less ≤ i → Written l at (named (bytes " E R") (i + 1) (bytes "\n")) r l' → Written l at (row_text t less i) r l'
   unfolding row_text equal_line
   equal-line t less i h w = rw (le-ltb i less h) w
 
-  pub cell-told : (t : List ℕ) (m : List ℤ) (less j i k : ℕ) (z : ℤ) (u : Option Value) → k ≡ slot_at less i → z ≡ count_at m k j → u ≡ floor_at t less i
+  pub cell-told : (t : Table) (m : List ℤ) (less j i k : ℕ) (z : ℤ) (u : Option Value) → k ≡ slot_at less i → z ≡ count_at m k j → u ≡ floor_at t less i
       → Written l at (shown_cell (j + 1) (i + 1) (value_of z) u) r l' → Written l at (cell_text t m less j i) r l'
   unfolding cell_text
   cell-told t m less j i k z u e g h w = rw (← e, ← g, ← h) w
@@ -154,7 +154,7 @@ module _ {l : List ℕ} {at r : ℕ} {l' : List ℕ} where
   unfolding shown_floor floor_head
   floor-line n u v e w = rw e w
 
-  pub right-line : (t : List ℕ) (less i k w : ℕ) (v : Value) (u : Option Value) {s : ℕ} {q : List ℕ} → k ≡ slot_at less i → w ≡ word_at t k → v ≡ unpacked w → u ≡ floor_at t less i
+  pub right-line : (t : Table) (less i k w : ℕ) (v : Value) (u : Option Value) {s : ℕ} {q : List ℕ} → k ≡ slot_at less i → w ≡ word_at t k → v ≡ unpacked w → u ≡ floor_at t less i
       → Written l at (shown_line (named (bytes " MODEL R") (i + 1) (bytes " ")) v) s q → Written q s (shown_floor (i + 1) u) r l' → Written l at (right_text t less i) r l'
   unfolding right_text right_head
   right-line t less i k w v u e g h f x y = rw (← e, ← g, ← h, ← f) (written_then _ _ _ _ _ _ _ _ x y)
@@ -175,28 +175,28 @@ module _ {l : List ℕ} {at r : ℕ} {l' : List ℕ} where
 -- ---- columns and sections
 
 module _ {l : List ℕ} {at r : ℕ} {l' : List ℕ} {r' : ℕ} {l'' : List ℕ} where
-  pub column-then : (t : List ℕ) (m : List ℤ) (less n j : ℕ) → Written l at (text_from (cell_text t m less j) n 0) r l' → Written l' r (objective_text m j) r' l''
+  pub column-then : (t : Table) (m : List ℤ) (less n j : ℕ) → Written l at (text_from (cell_text t m less j) n 0) r l' → Written l' r (objective_text m j) r' l''
       → Written l at (column_text t m less n j) r' l''
   unfolding column_text
   column-then t m less n j w x = written_then _ _ _ _ _ _ _ _ w x
 
-  pub rows_then : (t : List ℕ) (less n : ℕ) → Written l at (bytes "NAME MODEL\nROWS\n N OBJ\n") r l' → Written l' r (text_from (row_text t less) n 0) r' l''
+  pub rows_then : (t : Table) (less n : ℕ) → Written l at (bytes "NAME MODEL\nROWS\n N OBJ\n") r l' → Written l' r (text_from (row_text t less) n 0) r' l''
       → Written l at (rows_text t less n) r' l''
   unfolding rows_text
   rows_then t less n w x = written_then _ _ _ _ _ _ _ _ w x
 
-  pub rights-then : (t : List ℕ) (less n : ℕ) → Written l at (bytes "RHS\n") r l' → Written l' r (text_from (right_text t less) n 0) r' l'' → Written l at (rights_text t less n) r' l''
+  pub rights-then : (t : Table) (less n : ℕ) → Written l at (bytes "RHS\n") r l' → Written l' r (text_from (right_text t less) n 0) r' l'' → Written l at (rights_text t less n) r' l''
   unfolding rights_text
   rights-then t less n w x = written_then _ _ _ _ _ _ _ _ w x
 
   module _ {s : ℕ} {k : List ℕ} where
-    pub discrete-then : (t : List ℕ) (m : List ℤ) (less n d : ℕ) → (d ≡ 0 → ⊥) → Written l at (bytes " M 'MARKER' 'INTORG'\n") s k → Written k s (text_from (column_text t m less n) (d - 0) 0) r l'
+    pub discrete-then : (t : Table) (m : List ℤ) (less n d : ℕ) → (d ≡ 0 → ⊥) → Written l at (bytes " M 'MARKER' 'INTORG'\n") s k → Written k s (text_from (column_text t m less n) (d - 0) 0) r l'
         → Written l' r (bytes " M 'MARKER' 'INTEND'\n") r' l'' → Written l at (discrete_text t m less n d) r' l''
     unfolding discrete_text
     discrete-then t m less n zero e w x y = absurd (e refl)
     discrete-then t m less n (suc d) e w x y = written_then _ _ _ _ _ _ _ _ w (written_then _ _ _ _ _ _ _ _ (text-all _ (suc d) x) y)
 
-    pub columns-then : (t : List ℕ) (m : List ℤ) (less n d v : ℕ) → Written l at (bytes "COLUMNS\n") s k → Written k s (discrete_text t m less n d) r l'
+    pub columns-then : (t : Table) (m : List ℤ) (less n d v : ℕ) → Written l at (bytes "COLUMNS\n") s k → Written k s (discrete_text t m less n d) r l'
         → Written l' r (text_from (column_text t m less n) (v - d) d) r' l'' → Written l at (columns_text t m less n d v) r' l''
     unfolding columns_text
     columns-then t m less n d v w x y = written_then _ _ _ _ _ _ _ _ w (written_then _ _ _ _ _ _ _ _ x y)
@@ -206,7 +206,7 @@ module _ {l : List ℕ} {at r : ℕ} {l' : List ℕ} {r' : ℕ} {l'' : List ℕ}
     unfolding bounds_text
     bounds-then b n w x y = written_then _ _ _ _ _ _ _ _ w (written_then _ _ _ _ _ _ _ _ x y)
 
-pub discrete-none : (t : List ℕ) (m : List ℤ) (less n d : ℕ) (l : List ℕ) (at : ℕ) → d ≡ 0 → Written l at (discrete_text t m less n d) at l
+pub discrete-none : (t : Table) (m : List ℤ) (less n d : ℕ) (l : List ℕ) (at : ℕ) → d ≡ 0 → Written l at (discrete_text t m less n d) at l
 unfolding discrete_text
 discrete-none t m less n zero l at e = written_none l at
 discrete-none t m less n (suc d) l at e = absurd (omega arith)

@@ -5,7 +5,7 @@ use Rattle.rules.specs.Characters.{bytes, line_feed}
 use Rattle.value.specs.declared.Value.{Value}
 use Rattle.value.specs.Decimal.{negate, is_zero, in_range}
 use Rattle.value.specs.Printed.{shown}
-use Rattle.store.specs.Table.{word_at}
+use Rattle.store.specs.Table.{Table, word_at}
 use Rattle.store.specs.Packed.{unpacked}
 use Rattle.rows.specs.Slots.{objective_row, floor_slot}
 use Rattle.rows.specs.Bounds.{lower_word, upper_word}
@@ -24,7 +24,7 @@ shown_line h v = h ++ (shown v ++ (line_feed ∷ []))
 -- ---- rows and variables are counted from 0, and numbered from 1
 
 -- the floor of row i, if it is one of the first `less` and has one
-unfoldable pub floor_at : List ℕ → ℕ → ℕ → Option Value
+unfoldable pub floor_at : Table → ℕ → ℕ → Option Value
 floor_at t less i = cond (ltb i less) (end_in (word_at t (floor_slot i))) None
 
 -- the row that a floor adds, by its number
@@ -32,7 +32,7 @@ unfoldable pub floor_row : ℕ → Option Value → List ℕ
 floor_row n w = if_floor w (λ _. floor_line n)
 
 -- the lines of row i, of which the first `less` are those of `<=` and `>=`
-unfoldable pub row_text : List ℕ → ℕ → ℕ → List ℕ
+unfoldable pub row_text : Table → ℕ → ℕ → List ℕ
 row_text t less i = cond (ltb i less) (less_line (i + 1) ++ floor_row (i + 1) (floor_at t less i)) (equal_line (i + 1))
 
 -- the start of a coefficient's line: of variable j in row i or in its floor, by their numbers and the row's first word
@@ -48,7 +48,7 @@ unfoldable pub shown_cell : ℕ → ℕ → Value → Option Value → List ℕ
 shown_cell j i v w = cond (is_zero v) [] (shown_twice j i v w)
 
 -- of variable j in row i
-unfoldable pub cell_text : List ℕ → List ℤ → ℕ → ℕ → ℕ → List ℕ
+unfoldable pub cell_text : Table → List ℤ → ℕ → ℕ → ℕ → List ℕ
 cell_text t m less j i = shown_cell (j + 1) (i + 1) (value_of (count_at m (slot_at less i) j)) (floor_at t less i)
 
 -- the opposite of a value; what is out of range stays
@@ -59,11 +59,11 @@ unfoldable pub objective_text : List ℤ → ℕ → List ℕ
 objective_text m j = shown_line (objective_head (j + 1)) (opposite (value_of (count_at m objective_row j)))
 
 -- variable j in n rows and in the objective
-unfoldable pub column_text : List ℕ → List ℤ → ℕ → ℕ → ℕ → List ℕ
+unfoldable pub column_text : Table → List ℤ → ℕ → ℕ → ℕ → List ℕ
 column_text t m less n j = text_from (cell_text t m less j) n 0 ++ objective_text m j
 
 -- k discrete variables
-unfoldable pub discrete_text : List ℕ → List ℤ → ℕ → ℕ → ℕ → List ℕ
+unfoldable pub discrete_text : Table → List ℤ → ℕ → ℕ → ℕ → List ℕ
 discrete_text t m less n zero = []
 discrete_text t m less n (suc k) = bytes " M 'MARKER' 'INTORG'\n" ++ (text_from (column_text t m less n) (suc k) 0 ++ bytes " M 'MARKER' 'INTEND'\n")
 
@@ -72,7 +72,7 @@ unfoldable pub shown_floor : ℕ → Option Value → List ℕ
 shown_floor n w = if_floor w (λ v. shown_line (floor_head n) v)
 
 -- the right side of row i, and its floor
-unfoldable pub right_text : List ℕ → ℕ → ℕ → List ℕ
+unfoldable pub right_text : Table → ℕ → ℕ → List ℕ
 right_text t less i = shown_line (right_head (i + 1)) (unpacked (word_at t (slot_at less i))) ++ shown_floor (i + 1) (floor_at t less i)
 
 unfoldable pub shown_upper : ℕ → Option Value → List ℕ
@@ -85,14 +85,14 @@ bound_text b j = shown_line (lower_head (j + 1)) (lower_in (lower_word b j)) ++ 
 
 -- ---- sections
 
-unfoldable pub rows_text : List ℕ → ℕ → ℕ → List ℕ
+unfoldable pub rows_text : Table → ℕ → ℕ → List ℕ
 rows_text t less n = bytes "NAME MODEL\nROWS\n N OBJ\n" ++ text_from (row_text t less) n 0
 
-unfoldable pub columns_text : List ℕ → List ℤ → ℕ → ℕ → ℕ → ℕ → List ℕ
+unfoldable pub columns_text : Table → List ℤ → ℕ → ℕ → ℕ → ℕ → List ℕ
 columns_text t m less n discrete variables =
     bytes "COLUMNS\n" ++ (discrete_text t m less n discrete ++ text_from (column_text t m less n) (variables - discrete) discrete)
 
-unfoldable pub rights_text : List ℕ → ℕ → ℕ → List ℕ
+unfoldable pub rights_text : Table → ℕ → ℕ → List ℕ
 rights_text t less n = bytes "RHS\n" ++ text_from (right_text t less) n 0
 
 unfoldable pub bounds_text : List ℕ → ℕ → List ℕ

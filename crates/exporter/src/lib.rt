@@ -1,5 +1,7 @@
 // The export of a problem, written from its tables. Each piece is written from the byte where the last one ended, as far as the
 // output reaches; the export's length is given whether or not the output reaches that far.
+// What writes takes the output and a place in it, and gives the place behind what it wrote: document 01 names this form, where the rest of
+// the output is lent to the writer of a line.
 #![tactic(auto)]
 
 ghost use Rattle.std.specs.Prelude.{◌≡◌, ◌++◌, ◌+◌, ◌-◌, ◌<◌, ◌≤◌, ◌^◌, length};
@@ -9,10 +11,12 @@ ghost use Rattle.mps.specs.Export.{named};
 ghost use Rattle.exporter.specs.Texts.{text_from, shown_line, floor_at, floor_row, cell_start, shown_twice, shown_cell, shown_floor, shown_upper, row_text, cell_text, objective_text, column_text, discrete_text, right_text, bound_text, rows_text, columns_text, rights_text, bounds_text};
 ghost use Rattle.exporter.specs.Exports.{formed, Exports};
 
+use store::Row;
+
 // The tables of n rows, of which the first `less` are those of `<=` and `>=`: their words, and the coefficients.
 #[derive(Clone, Copy)]
 struct Tables<'a> {
-    slots: &'a [u64],
+    slots: &'a [Row],
     counts: &'a [i64],
     less: usize,
     n: usize,
@@ -41,7 +45,7 @@ fn put_number(n: usize, out: &mut [u8], at: usize) -> usize
     requires { (n ≤ 512) × (at < 2 ^ 40) }
     ensures { (Written out.old at (natural n) result out.new) × (result ≤ at + 32) }
 {
-    put_value(value::of_whole(n as i64), out, at)
+    put_value(value::Value::from(n as i64), out, at)
 }
 
 // ---- lines
@@ -169,7 +173,7 @@ fn cell(j: usize, i: usize, z: i64, floor: Option<value::Value>, out: &mut [u8],
         return at;
     }
     let v = rows::value_of(z);
-    if value::is_zero(v) {
+    if v.is_zero() {
         return at;
     }
     cell_lines(j, i, v, floor, out, at)
@@ -195,7 +199,7 @@ fn objective_line(counts: &[i64], j: usize, out: &mut [u8], at: usize) -> usize
     ensures { (Written out.old at (objective_text counts.now j) result out.new) × (result ≤ at + 128) }
 {
     let v = rows::value_of(rows::count_at(counts, rules::ROW_LIMIT, j));
-    let opposite = value::negated(v);
+    let opposite = -v;
     value_line(b" C", j + 1, b" OBJ ", opposite, out, at)
 }
 
@@ -265,7 +269,7 @@ fn right_line(t: Tables, i: usize, out: &mut [u8], at: usize) -> usize
     floor_line(i + 1, floor_at(t, i), out, at)
 }
 
-// The right sides and floors of n rows.
+// The right sides and floors of n rows. A loop beside that of `row_lines`: a line that is handed over as a closure states its bounds again.
 fn rights(t: Tables, out: &mut [u8], at: usize) -> usize
     requires { (t.n ≤ 512) × (at < 2 ^ 37) }
     ensures { (Written out.old at (text_from (right_text t.entry.slots.now t.entry.less) t.entry.n 0) result out.new) × (result ≤ at + 131072) }
@@ -342,7 +346,7 @@ fn is_formed(sizes: rows::Sizes) -> bool
 
 // The export of a problem, from the output's first byte on, and its length. Nothing is written where a number is past its limit.
 pub fn write(
-    slots: &[u64],
+    slots: &[Row],
     bounds: &[u64],
     counts: &[i64],
     sizes: rows::Sizes,

@@ -3,13 +3,14 @@
 #![tactic(auto)]
 
 ghost use Rattle.rules.specs.Limits.{token_limit};
+ghost use Rattle.lexer.specs.Numbers.{number};
 ghost use Rattle.tokens.specs.Stored.{Moves};
 ghost use Rattle.tokens.specs.Text.{In};
 ghost use Rattle.formulas.specs.Cycle.{inside_in, formula_in, primary_in, term_in, part_in, sum_in, nested_in, named_in, Factors, Summands, Subscripts};
 
-use lexer::marks;
+use lexer::Mark;
 use rules::{Refused, refused};
-use tokens::{Text, kinds, sorts};
+use tokens::{Kind, Sort, Text};
 
 // Formula: optional sign, then terms joined by `+` or `-`.
 #[cycle(formulas)]
@@ -29,7 +30,7 @@ fn summands(text: Text<'_>, at: usize, nest: usize) -> Result<usize, Refused>
     let mut a = at;
     for _ in 0..rules::TOKEN_LIMIT {
         let token = tokens::token_at(text.tokens, a)?;
-        let joined = (token.kind == marks::PLUS as u64) | (token.kind == marks::MINUS as u64);
+        let joined = (token.kind == Mark::Plus as u64) | (token.kind == Mark::Minus as u64);
         if !joined {
             return Ok(a);
         }
@@ -55,7 +56,7 @@ fn factors(text: Text<'_>, at: usize, nest: usize) -> Result<usize, Refused>
     let mut a = at;
     for _ in 0..rules::TOKEN_LIMIT {
         let token = tokens::token_at(text.tokens, a)?;
-        if token.kind != marks::TIMES as u64 {
+        if token.kind != Mark::Times as u64 {
             return Ok(a);
         }
         a = primary(text, token.next, nest)?;
@@ -69,17 +70,17 @@ pub fn primary(text: Text<'_>, at: usize, nest: usize) -> Result<usize, Refused>
     ensures { In (Moves (primary_in nest)) text.entry at result }
 {
     let token = tokens::token_at(text.tokens, at)?;
-    if token.kind == marks::SUM as u64 {
+    if token.kind == Mark::Sum as u64 {
         return sum(text, token.next, nest, token.place);
     }
-    if token.kind == marks::LEFT_PAREN as u64 {
+    if token.kind == Mark::LeftParen as u64 {
         return nested(text, token.next, nest, token.place);
     }
-    if token.kind == kinds::NAME {
+    if token.kind == Kind::Name as u64 {
         let length = token.payload % tokens::NAME_UNIT;
         return named(text, token.next, nest, token.place, length);
     }
-    if (token.kind == kinds::WHOLE) | (token.kind == kinds::POINTED) {
+    if (token.kind == Kind::Whole as u64) | (token.kind == Kind::Pointed as u64) {
         return Ok(token.next);
     }
     refused!(Misplaced, token.place)
@@ -91,9 +92,9 @@ fn sum(text: Text<'_>, at: usize, nest: usize, p: u64) -> Result<usize, Refused>
     ensures { In (Moves (sum_in nest p)) text.entry at result }
 {
     let head = tokens::head(text, at, nest)?;
-    let lower = part(text, head, nest, marks::COMMA)?;
-    let upper = part(text, lower, nest, marks::COMMA)?;
-    part(text, upper, nest, marks::RIGHT_PAREN)
+    let lower = part(text, head, nest, Mark::Comma)?;
+    let upper = part(text, lower, nest, Mark::Comma)?;
+    part(text, upper, nest, Mark::RightParen)
 }
 
 // A formula and `)`, behind the `(` at p.
@@ -104,7 +105,7 @@ fn nested(text: Text<'_>, at: usize, nest: usize, p: u64) -> Result<usize, Refus
     if nest == 0 {
         return refused!(Full, p);
     }
-    part(text, at, nest, marks::RIGHT_PAREN)
+    part(text, at, nest, Mark::RightParen)
 }
 
 // A primary that is the name of n bytes at p.
@@ -115,10 +116,10 @@ fn named(text: Text<'_>, at: usize, nest: usize, p: u64, n: u64) -> Result<usize
     let Some(name) = tokens::find(text.bytes, text.names, p, n) else {
         return refused!(BadName, p);
     };
-    if (name.sort == sorts::INDEX) | (name.sort == sorts::FORMULA) {
+    if (name.sort == Sort::Index as u64) | (name.sort == Sort::Formula as u64) {
         return Ok(at);
     }
-    if (name.sort == sorts::INTEGER) | (name.sort == sorts::REAL) {
+    if (name.sort == Sort::Integer as u64) | (name.sort == Sort::Real as u64) {
         return subscripts(text, at, nest, name.count);
     }
     refused!(Misplaced, p)
@@ -132,20 +133,20 @@ pub fn subscripts(text: Text<'_>, at: usize, nest: usize, count: u64) -> Result<
     if count == 0 {
         return Ok(at);
     }
-    let mut a = tokens::bracket(text, at, nest, marks::LEFT_BRACKET)?;
+    let mut a = tokens::bracket(text, at, nest, Mark::LeftBracket)?;
     for _ in 1..count {
-        a = part(text, a, nest, marks::COMMA)?;
+        a = part(text, a, nest, Mark::Comma)?;
     }
-    part(text, a, nest, marks::RIGHT_BRACKET)
+    part(text, a, nest, Mark::RightBracket)
 }
 
-// A formula inside a bracket, and the sign `c` after it.
+// A formula inside a bracket, and the sign `mark` after it.
 #[cycle(formulas)]
-pub fn part(text: Text<'_>, at: usize, nest: usize, c: u8) -> Result<usize, Refused>
-    ensures { In (Moves (part_in nest c)) text.entry at result }
+pub fn part(text: Text<'_>, at: usize, nest: usize, mark: Mark) -> Result<usize, Refused>
+    ensures { In (Moves (part_in nest (number mark))) text.entry at result }
 {
     let next = inside(text, at, nest)?;
-    tokens::expect(text, next, c)
+    tokens::expect(text, next, mark)
 }
 
 // A formula inside one of `nest` brackets; with none it is never read.

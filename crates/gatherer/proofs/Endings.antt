@@ -36,10 +36,11 @@ use Rattle.evaluator.proofs.Laws.{stop, regroup, fitted-outcome, fitted-valid, r
 use Rattle.gatherer.specs.declared.Ending.TheVariants as ending
 use Rattle.gatherer.specs.Cycle.{factor_in, Heads, variable_seen, Carried, term_walk, EndingIs}
 use Rattle.gatherer.proofs.Numbers.{begins-of}
+use Rattle.store.specs.Table.{Table}
 
 -- ---- a primary and its `*`
 
-module _ (ns ts ds : List ℕ) (given level : ℕ) (sc : Scope) (n at : ℕ) (c : Value) (r : Result (Value × ℕ) Refused) (h : Values (primary_in n) ns ts ds given level sc at r) where
+module _ (ns ts : List ℕ) (ds : Table) (given level : ℕ) (sc : Scope) (n at : ℕ) (c : Value) (r : Result (Value × ℕ) Refused) (h : Values (primary_in n) ns ts ds given level sc at r) where
   pub factor-refused : (e : Refused) → r ≡ Err e → Continues (factor_in n) ns ts ds given level sc at c (Err e)
   unfolding factor_in primary_in
   factor-refused z e =
@@ -82,7 +83,7 @@ regroup-two : {A B C D : Type 0} (o : Outcome (Read A)) (K : A → Reader B) (M 
 regroup-two (done x) K M L = regroup (K x.what x.rest) (M x.what) L
 regroup-two (refused m p) K M L = refl
 
-module _ (n : ℕ) (sigmas : Bool) (ns ts ds : List ℕ) (given level : ℕ) (sc : Scope) (at : ℕ) (c : Value) where
+module _ (n : ℕ) (sigmas : Bool) (ns ts : List ℕ) (ds : Table) (given level : ℕ) (sc : Scope) (at : ℕ) (c : Value) where
   -- with the product u at a behind j primaries, the term is what it is from its start
   pub record EndingOn (j a : ℕ) (u : Value) : Type 0 where
     pub same : (w : World ns ts ds given) → Small sc → Valid c → (g : Carried) → term_walk w level n sigmas sc g (4096 - j) u (tokens_at w a) ≡ term_walk w level n sigmas sc g token_limit c (tokens_at w at)

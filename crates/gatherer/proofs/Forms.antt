@@ -39,6 +39,7 @@ use Rattle.gatherer.specs.declared.Running.{Running}
 use Rattle.rows.specs.Counts.{RowOf}
 use Rattle.gatherer.proofs.Forward.{one_fewer}
 use Rattle.gatherer.specs.Cycle.{Gatherers, sigmas_in, term_in, terms_in, form_in, sigma_in, body_in, gather_in, Model, Done, Does, Carried, Ends, term_walk, EndingIs, Gathers, VariableIs, running_outcome, ReadyRun, RunningIs, RunsAre}
+use Rattle.store.specs.Table.{Table}
 
 -- ---- sequences
 
@@ -47,7 +48,7 @@ pub then-does : {A : Type 0} (s ts : List ℕ) (vs : List Variable) (o : Outcome
     → o ≡ read a k → Does s ts vs (f a k) z l → Does s ts vs (follow o f) z l
 then-does s ts vs o f a k z l e d = subst (λ o. Does s ts vs (follow o f) z l) (sym e) d
 
-module _ {ns ts ds : List ℕ} {given : ℕ} {xs : List ℕ} {total level : ℕ} {sc : Scope} {G : Gatherers} {at : ℕ} {c : Value} {m : Bool} {l : List ℤ} {z : Result ℕ Refused} {l' : List ℤ}
+module _ {ns ts : List ℕ} {ds : Table} {given : ℕ} {xs : Table} {total level : ℕ} {sc : Scope} {G : Gatherers} {at : ℕ} {c : Value} {m : Bool} {l : List ℤ} {z : Result ℕ Refused} {l' : List ℤ}
     (h : Gathers G ns ts ds given xs total level sc at c m l z l') (w : Model ns ts ds given xs total) (g : Small sc) (v : Valid c) (r : Row) (x : RowOf w.variables l r) where
   abbrev walk : Outcome (Read Row)
   walk = G w.variables (seen_by w.world level) (under w.world sc) c m r (tokens_at w.world at)
@@ -58,7 +59,7 @@ module _ {ns ts ds : List ℕ} {given : ℕ} {xs : List ℕ} {total level : ℕ}
   pub refused-at : {y : Refused} → z ≡ Err y → G w.variables (seen_by w.world level) (under w.world sc) c m r (tokens_at w.world at) ≡ refused y.refusal y.place
   refused-at e = subst (λ z. Does w.world.text ts w.variables walk z l') e (h.does w g v r x)
 
-module _ (ns ts ds : List ℕ) (given : ℕ) (xs : List ℕ) (total level : ℕ) (sc : Scope) where
+module _ (ns ts : List ℕ) (ds : Table) (given : ℕ) (xs : Table) (total level : ℕ) (sc : Scope) where
   -- ---- a term
 
   module _ (n at : ℕ) (c : Value) (m sigmas : Bool) (l : List ℤ) (x : Result Ending Refused) (h : EndingIs n sigmas ns ts ds given level sc at c x) where
@@ -223,7 +224,7 @@ module _ (ts : List ℕ) (at s : ℕ) where
   pub body-falls : (w : Seen) (t : Result Seen Refused) → Looks ts at t → t ≡ Ok w → 10 * (length ts - at) + 4 ≡ s → 10 * (length ts - w.next) + 6 < s
   body-falls w t h e f = omega (arith, one_fewer ts at w t h e)
 
-  module _ (ns ds : List ℕ) (given level : ℕ) (sc : Scope) (n : ℕ) where
+  module _ (ns : List ℕ) (ds : Table) (given level : ℕ) (sc : Scope) (n : ℕ) where
     pub sigma-falls : (p : ℕ) (w : Running) (x : Result Running Refused) → RunningIs n p ns ts ds given level sc at x → x ≡ Ok w → 10 * (length ts - at) + 6 ≡ s → 10 * (length ts - w.body) + 5 < s
     sigma-falls p w x h e f = omega (arith, h.after w e)
 

@@ -44,10 +44,11 @@ use Rattle.evaluator.proofs.Turns.{nth-small}
 use Rattle.rows.specs.Counts.{RowOf}
 use Rattle.gatherer.specs.Cycle.{term_in, terms_in, body_in, Model, Does, Gathers, RunsAre}
 use Rattle.gatherer.proofs.Forms.{done_at, refused-at}
+use Rattle.store.specs.Table.{Table}
 
 -- ---- terms
 
-module _ (n : ℕ) (sigmas : Bool) (ns ts ds : List ℕ) (given : ℕ) (xs : List ℕ) (total level : ℕ) (sc : Scope) (at : ℕ) (c : Value) (m : Bool) (l₀ : List ℤ) where
+module _ (n : ℕ) (sigmas : Bool) (ns ts : List ℕ) (ds : Table) (given : ℕ) (xs : Table) (total level : ℕ) (sc : Scope) (at : ℕ) (c : Value) (m : Bool) (l₀ : List ℤ) where
   -- at most k terms more, from a on and with the row r
   abbrev on_row : Model ns ts ds given xs total → ℕ → Row → ℕ → Outcome (Read Row)
   on_row w k r a = terms_in sigmas n k w.variables (seen_by w.world level) (under w.world sc) c m r (tokens_at w.world a)
@@ -152,7 +153,7 @@ module _ (n : ℕ) (sigmas : Bool) (ns ts ds : List ℕ) (given : ℕ) (xs : Lis
 
 -- ---- the numbers of a run
 
-module _ (n i : ℕ) (ns ts ds : List ℕ) (given : ℕ) (xs : List ℕ) (total level : ℕ) (sc : Scope) (at : ℕ) (c : Value) (m : Bool) (b : code.Limits) (k : ℕ) (l₀ : List ℤ) where
+module _ (n i : ℕ) (ns ts : List ℕ) (ds : Table) (given : ℕ) (xs : Table) (total level : ℕ) (sc : Scope) (at : ℕ) (c : Value) (m : Bool) (b : code.Limits) (k : ℕ) (l₀ : List ℤ) where
   -- the body at a number
   pub step : Model ns ts ds given xs total → ℤ → Row → Outcome Row
   step w x r = what_of (body_in n w.variables (seen_by w.world level) (bind i x (under w.world sc)) c m r (tokens_at w.world at))

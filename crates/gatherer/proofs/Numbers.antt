@@ -25,7 +25,7 @@ use Rattle.tokens.proofs.Tables.{false-true}
 use Rattle.store.specs.declared.Element.{Element}
 use Rattle.store.specs.Element.{list_of}
 use Rattle.store.specs.Key.{name_bound, key_of}
-use Rattle.store.specs.Table.{found_row}
+use Rattle.store.specs.Table.{Table, found_row}
 use Rattle.store.specs.Entries.{Keyed}
 use Rattle.store.proofs.Halving.{finds-row}
 use Rattle.store.proofs.Held.{numbered-at, numbered-nothing}
@@ -42,7 +42,7 @@ use Rattle.gatherer.specs.Cycle.{Model, Declared, NumberIs, Heads, variable_list
 
 -- ---- a variable's number
 
-module _ (ns ts ds : List ℕ) (given : ℕ) (xs : List ℕ) (total level : ℕ) (sc : Scope) (n i k q p at : ℕ) (y : Result (Element × ℕ) Refused) (h : SubscriptsAre n p k ns ts ds given level sc at y) where
+module _ (ns ts : List ℕ) (ds : Table) (given : ℕ) (xs : Table) (total level : ℕ) (sc : Scope) (n i k q p at : ℕ) (y : Result (Element × ℕ) Refused) (h : SubscriptsAre n p k ns ts ds given level sc at y) where
   pub number-subscripts : (e : Refused) → y ≡ Err e → NumberIs n i k q p ns ts ds given xs total level sc at (Err e)
   unfolding walk_number
   number-subscripts z e =
@@ -113,7 +113,7 @@ module _ (ns ts : List ℕ) (level at k : ℕ) where
   unfolding head_by kind_of
   begins-mark e = record { heads = λ p x b h g t ds given w. go p x g w k e t }
     where
-      go : {ds : List ℕ} {given : ℕ} (p x : ℕ) (g : Bool) (w : World ns ts ds given) (k : ℕ) → (k ≡ 1 → ⊥) → (g && eqb k 134) ≡ false → head_by (seen_by w level) g (kind_of w.text k p x) ≡ a_primary
+      go : {ds : Table} {given : ℕ} (p x : ℕ) (g : Bool) (w : World ns ts ds given) (k : ℕ) → (k ≡ 1 → ⊥) → (g && eqb k 134) ≡ false → head_by (seen_by w level) g (kind_of w.text k p x) ≡ a_primary
       go p x g w zero e t = refl
       go p x g w (suc zero) e t = absurd (e refl)
       go p x g w (suc (suc zero)) e t = refl
@@ -125,12 +125,12 @@ module _ (ns ts : List ℕ) (level at k : ℕ) where
   module _ (one : k ≡ 1) (v : Option Listed) (e : v ≡ listed_of ns (number_part (get_or ts at 0))) where
     -- the head of a name is that of what is found
     by_name : (r : Option Listed)
-        → ((p x b : ℕ) → Looks ts at (Ok (record { kind = k; place = p; payload = x; next = b })) → (ds : List ℕ) (given : ℕ) (w : World ns ts ds given) → Heads w (head_by_name (find (spelling w.text p (name_bytes x)) (seen_by w level) 0 p)) r)
+        → ((p x b : ℕ) → Looks ts at (Ok (record { kind = k; place = p; payload = x; next = b })) → (ds : Table) (given : ℕ) (w : World ns ts ds given) → Heads w (head_by_name (find (spelling w.text p (name_bytes x)) (seen_by w level) 0 p)) r)
         → Begins ns ts level at k r
     unfolding head_by kind_of
     by_name r f = record { heads = λ p x b h g t ds given w. subst (λ o. Heads w o r) (place p x g w) (f p x b h ds given w) }
       where
-        place : {ds : List ℕ} {given : ℕ} (p x : ℕ) (g : Bool) (w : World ns ts ds given)
+        place : {ds : Table} {given : ℕ} (p x : ℕ) (g : Bool) (w : World ns ts ds given)
             → head_by_name (find (spelling w.text p (name_bytes x)) (seen_by w level) 0 p) ≡ head_by (seen_by w level) g (kind_of w.text k p x)
         place p x g w = head-place _ _ 0 p 0 ∙ rw one refl
 
@@ -149,12 +149,12 @@ module _ (ns ts : List ℕ) (level at k : ℕ) where
       module _ (l : u.number < level) where
         -- by the name's sort, which its row tells, and what stands where it was declared
         by-sort : (r : Option Listed)
-            → ((ds : List ℕ) (given : ℕ) (w : World ns ts ds given) → u.number < length w.names → (y : Sort) → Shaped y u.sort u.count → Stands w.text ts (seen_by w u.number) y u.start → Heads w (head_by_sort u.number y) r)
+            → ((ds : Table) (given : ℕ) (w : World ns ts ds given) → u.number < length w.names → (y : Sort) → Shaped y u.sort u.count → Stands w.text ts (seen_by w u.number) y u.start → Heads w (head_by_sort u.number y) r)
             → Begins ns ts level at k r
         unfolding head_by_name
         by-sort r g = by_name r go
           where
-            go : (p x b : ℕ) → Looks ts at (Ok (record { kind = k; place = p; payload = x; next = b })) → (ds : List ℕ) (given : ℕ) (w : World ns ts ds given) → Heads w (head_by_name (find (spelling w.text p (name_bytes x)) (seen_by w level) 0 p)) r
+            go : (p x b : ℕ) → Looks ts at (Ok (record { kind = k; place = p; payload = x; next = b })) → (ds : Table) (given : ℕ) (w : World ns ts ds given) → Heads w (head_by_name (find (spelling w.text p (name_bytes x)) (seen_by w level) 0 p)) r
             go p x b h ds given w =
                 let d = known w.text ns ts w.names w.tables.named w.tables.resolved at (record { kind = k; place = p; payload = x; next = b }) (Ok (record { kind = k; place = p; payload = x; next = b })) h refl one v e u f in
                 let (y, z, row) = row-of w.text ns ts w.names w.tables.named w.tables.resolved at (record { kind = k; place = p; payload = x; next = b }) (Ok (record { kind = k; place = p; payload = x; next = b })) h refl one v e u f in
@@ -167,7 +167,7 @@ module _ (ns ts : List ℕ) (level at k : ℕ) where
         unfolding head_by_sort
         begins-variable t = by-sort (Some u) go
           where
-            go : (ds : List ℕ) (given : ℕ) (w : World ns ts ds given) → u.number < length w.names → (y : Sort) → Shaped y u.sort u.count → Stands w.text ts (seen_by w u.number) y u.start → Heads w (head_by_sort u.number y) (Some u)
+            go : (ds : Table) (given : ℕ) (w : World ns ts ds given) → u.number < length w.names → (y : Sort) → Shaped y u.sort u.count → Stands w.text ts (seen_by w u.number) y u.start → Heads w (head_by_sort u.number y) (Some u)
             go ds given w b Syntax.index s a = absurd (false-true (subst (λ k. (eqb k 4 || eqb k 5) ≡ true) s t))
             go ds given w b (Syntax.integer d) s a = absurd (false-true (subst (λ k. (eqb k 4 || eqb k 5) ≡ true) s.0 t))
             go ds given w b (Syntax.real d) s a = absurd (false-true (subst (λ k. (eqb k 4 || eqb k 5) ≡ true) s.0 t))
@@ -179,7 +179,7 @@ module _ (ns ts : List ℕ) (level at k : ℕ) where
         unfolding head_by_sort
         begins-other t = by-sort None go
           where
-            go : (ds : List ℕ) (given : ℕ) (w : World ns ts ds given) → u.number < length w.names → (y : Sort) → Shaped y u.sort u.count → Stands w.text ts (seen_by w u.number) y u.start → head_by_sort u.number y ≡ a_primary
+            go : (ds : Table) (given : ℕ) (w : World ns ts ds given) → u.number < length w.names → (y : Sort) → Shaped y u.sort u.count → Stands w.text ts (seen_by w u.number) y u.start → head_by_sort u.number y ≡ a_primary
             go ds given w b Syntax.index s a = refl
             go ds given w b (Syntax.integer d) s a = refl
             go ds given w b (Syntax.real d) s a = refl

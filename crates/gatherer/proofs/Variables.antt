@@ -34,10 +34,11 @@ use Rattle.rows.specs.Counts.{RowOf}
 use Rattle.gatherer.specs.Cycle.{Model, Declared, number_outcome, NumberIs, VariableIs, RunningIs}
 use Rattle.gatherer.proofs.Forward.{head-shorter, limits-behind, length_from}
 use Rattle.gatherer.proofs.Rows.{added, not-added}
+use Rattle.store.specs.Table.{Table}
 
 -- ---- a variable's coefficient
 
-module _ (n i k q p : ℕ) (ns ts ds : List ℕ) (given : ℕ) (xs : List ℕ) (total level : ℕ) (sc : Scope) (at : ℕ) (c : Value) (m : Bool) (l : List ℤ) (y : Result (ℕ × ℕ) Refused) (h : NumberIs n i k q p ns ts ds given xs total level sc at y) where
+module _ (n i k q p : ℕ) (ns ts : List ℕ) (ds : Table) (given : ℕ) (xs : Table) (total level : ℕ) (sc : Scope) (at : ℕ) (c : Value) (m : Bool) (l : List ℤ) (y : Result (ℕ × ℕ) Refused) (h : NumberIs n i k q p ns ts ds given xs total level sc at y) where
   number_at : (z : Result (ℕ × ℕ) Refused) → y ≡ z → (w : Model ns ts ds given xs total) → Small sc → (d : Spans) → Declared w.world i d k q
       → walk_number w.variables (seen_by w.world level) n i d p (under w.world sc) (tokens_at w.world at) ≡ number_outcome w.world.text ts z
   number_at z e w g d x = h.is w g d x ∙ ap (number_outcome w.world.text ts) e
@@ -84,7 +85,7 @@ module _ (n i k q p : ℕ) (ns ts ds : List ℕ) (given : ℕ) (xs : List ℕ) (
 
 -- ---- the run of a sigma
 
-module _ (ns ts ds : List ℕ) (given level : ℕ) (sc : Scope) (n p at : ℕ) (x : Result (ℕ × ℕ) Refused) (hd : Opens ts level at x) where
+module _ (ns ts : List ℕ) (ds : Table) (given level : ℕ) (sc : Scope) (n p at : ℕ) (x : Result (ℕ × ℕ) Refused) (hd : Opens ts level at x) where
   head-is : (y : Result (ℕ × ℕ) Refused) → x ≡ y → (w : World ns ts ds given) → walk_head (seen_by w level) (tokens_at w at) ≡ head_outcome w.text ts y
   head-is y e w = (heads-of ts level at x hd).is w.text ns w.names w.tables.named w.tables.resolved ∙ ap (head_outcome w.text ts) e
 

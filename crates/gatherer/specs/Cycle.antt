@@ -28,6 +28,7 @@ use Rattle.gatherer.specs.declared.Ending.{Ending}
 use Rattle.gatherer.specs.declared.Ending.TheVariants as ending
 use Rattle.gatherer.specs.declared.Running.{Running}
 use Rattle.rows.specs.Counts.{RowOf}
+use Rattle.store.specs.Table.{Table}
 
 -- ---- the walks, each a function of the variables and the names
 
@@ -64,7 +65,7 @@ gather_in n vs names = gather_at vs names n
 -- ---- answers
 
 -- a text, names, data and variables that the tables hold
-pub record Model (ns ts ds : List ℕ) (given : ℕ) (xs : List ℕ) (total : ℕ) : Type 0 where
+pub record Model (ns ts : List ℕ) (ds : Table) (given : ℕ) (xs : Table) (total : ℕ) : Type 0 where
   pub world : World ns ts ds given
   pub variables : List Variable
   pub held : Held xs total variables
@@ -80,7 +81,7 @@ Does s ts vs o (Ok a) l = Done s ts vs o a l
 Does s ts vs o (Err e) l = o ≡ refused e.refusal e.place
 
 -- a declared domain with k indices of the name i, declared at q
-pub record Declared {ns ts ds : List ℕ} {given : ℕ} (w : World ns ts ds given) (i : ℕ) (d : Spans) (k q : ℕ) : Type 0 where
+pub record Declared {ns ts : List ℕ} {ds : Table} {given : ℕ} (w : World ns ts ds given) (i : ℕ) (d : Spans) (k q : ℕ) : Type 0 where
   pub below : i < length w.names
   pub stands : DomainAt w.text ts (seen_by w i) d q
   pub count : size d ≡ k
@@ -92,13 +93,13 @@ number_outcome s ts (Ok (j, a)) = done (record { what = j; rest = from s ts a })
 number_outcome s ts (Err e) = refused e.refusal e.place
 
 -- the number of the variable of name i that is read at p
-pub record NumberIs (n i k q p : ℕ) (ns ts ds : List ℕ) (given : ℕ) (xs : List ℕ) (total level : ℕ) (sc : Scope) (at : ℕ) (r : Result (ℕ × ℕ) Refused) : Type 0 where
+pub record NumberIs (n i k q p : ℕ) (ns ts : List ℕ) (ds : Table) (given : ℕ) (xs : Table) (total level : ℕ) (sc : Scope) (at : ℕ) (r : Result (ℕ × ℕ) Refused) : Type 0 where
   pub is : (w : Model ns ts ds given xs total) → Small sc → (d : Spans) → Declared w.world i d k q
       → walk_number w.variables (seen_by w.world level) n i d p (under w.world sc) (tokens_at w.world at) ≡ number_outcome w.world.text ts r
   pub below : Model ns ts ds given xs total → (j a : ℕ) → r ≡ Ok (j, a) → j < total
 
 -- what a token begins: a variable of a declared domain, or a primary
-abbrev pub Heads : {ns ts ds : List ℕ} {given : ℕ} → World ns ts ds given → Head → Option Listed → Type 0
+abbrev pub Heads : {ns ts : List ℕ} {ds : Table} {given : ℕ} → World ns ts ds given → Head → Option Listed → Type 0
 Heads w h None = h ≡ a_primary
 Heads w h (Some x) = (d : Spans) × ((h ≡ a_variable x.number d) × Declared w x.number d x.count x.start)
 
@@ -114,7 +115,7 @@ variable_seen ns ts level at k = cond (eqb k 1) (variable_listed level (listed_o
 -- of the token there, in every world
 pub record Begins (ns ts : List ℕ) (level at k : ℕ) (r : Option Listed) : Type 0 where
   pub heads : (p x b : ℕ) → Looks ts at (Ok (record { kind = k; place = p; payload = x; next = b })) → (sigmas : Bool) → (sigmas && eqb k sigma_word) ≡ false
-      → (ds : List ℕ) (given : ℕ) (w : World ns ts ds given) → Heads w (head_by (seen_by w level) sigmas (kind_of w.text k p x)) r
+      → (ds : Table) (given : ℕ) (w : World ns ts ds given) → Heads w (head_by (seen_by w level) sigmas (kind_of w.text k p x)) r
 
 -- what a term is walked with: variables, what walks a sigma, a sign, a row
 pub record Carried : Type 0 where
@@ -124,7 +125,7 @@ pub record Carried : Type 0 where
   pub row : Row
 
 -- a term's walk o is that of a variable, or that of a sigma, with the product u of the primaries before it
-module _ {ns ts ds : List ℕ} {given : ℕ} (w : World ns ts ds given) (level n : ℕ) (sigmas : Bool) (sc : Scope) (g : Carried) (o : Outcome (Read Row)) where
+module _ {ns ts : List ℕ} {ds : Table} {given : ℕ} (w : World ns ts ds given) (level n : ℕ) (sigmas : Bool) (sc : Scope) (g : Carried) (o : Outcome (Read Row)) where
   pub record AtVariable (u : Value) (i k q p a : ℕ) : Type 0 where
     pub domain : Spans
     pub declared : Declared w i domain k q
@@ -141,25 +142,25 @@ module _ {ns ts ds : List ℕ} {given : ℕ} (w : World ns ts ds given) (level n
   Ends (Err e) = o ≡ refused e.refusal e.place
 
 -- a term with at most k primaries
-unfoldable pub term_walk : {ns ts ds : List ℕ} {given : ℕ} → World ns ts ds given → ℕ → ℕ → Bool → Scope → Carried → ℕ → Value → Reader Row
+unfoldable pub term_walk : {ns ts : List ℕ} {ds : Table} {given : ℕ} → World ns ts ds given → ℕ → ℕ → Bool → Scope → Carried → ℕ → Value → Reader Row
 term_walk w level n sigmas sc g k c = walk_linear_term g.variables (seen_by w level) g.sigma sigmas n k (under w sc) c g.minus g.row
 
-pub record EndingIs (n : ℕ) (sigmas : Bool) (ns ts ds : List ℕ) (given level : ℕ) (sc : Scope) (at : ℕ) (c : Value) (r : Result Ending Refused) : Type 0 where
+pub record EndingIs (n : ℕ) (sigmas : Bool) (ns ts : List ℕ) (ds : Table) (given level : ℕ) (sc : Scope) (at : ℕ) (c : Value) (r : Result Ending Refused) : Type 0 where
   pub is : (w : World ns ts ds given) → Small sc → Valid c → (g : Carried) → Ends w level n sigmas sc g (term_walk w level n sigmas sc g token_limit c (tokens_at w at)) r
   pub allowed : (u : Value) (p a : ℕ) → r ≡ Ok (ending.Sigma u p a) → sigmas ≡ true
 
 -- a linear form, or a part of one, gathered from the row l
-pub record Gathers (G : Gatherers) (ns ts ds : List ℕ) (given : ℕ) (xs : List ℕ) (total level : ℕ) (sc : Scope) (at : ℕ) (c : Value) (m : Bool) (l : List ℤ) (z : Result ℕ Refused) (l' : List ℤ) : Type 0 where
+pub record Gathers (G : Gatherers) (ns ts : List ℕ) (ds : Table) (given : ℕ) (xs : Table) (total level : ℕ) (sc : Scope) (at : ℕ) (c : Value) (m : Bool) (l : List ℤ) (z : Result ℕ Refused) (l' : List ℤ) : Type 0 where
   pub does : (w : Model ns ts ds given xs total) → Small sc → Valid c → (r : Row) → RowOf w.variables l r
       → Does w.world.text ts w.variables (G w.variables (seen_by w.world level) (under w.world sc) c m r (tokens_at w.world at)) z l'
 
 -- a variable's coefficient
-pub record VariableIs (n i k q p : ℕ) (ns ts ds : List ℕ) (given : ℕ) (xs : List ℕ) (total level : ℕ) (sc : Scope) (at : ℕ) (c : Value) (m : Bool) (l : List ℤ) (z : Result ℕ Refused) (l' : List ℤ) : Type 0 where
+pub record VariableIs (n i k q p : ℕ) (ns ts : List ℕ) (ds : Table) (given : ℕ) (xs : Table) (total level : ℕ) (sc : Scope) (at : ℕ) (c : Value) (m : Bool) (l : List ℤ) (z : Result ℕ Refused) (l' : List ℤ) : Type 0 where
   pub does : (w : Model ns ts ds given xs total) → Small sc → Valid c → (r : Row) → RowOf w.variables l r → (d : Spans) → Declared w.world i d k q
       → Does w.world.text ts w.variables (walk_variable w.variables (seen_by w.world level) n i d p (under w.world sc) c m r (tokens_at w.world at)) z l'
 
 -- the run of a sigma, and what is walked with its index and numbers
-abbrev pub running_outcome : {ns ts ds : List ℕ} {given : ℕ} → World ns ts ds given → (ℕ → List ℤ → Reader Row) → Result Running Refused → Outcome (Read Row)
+abbrev pub running_outcome : {ns ts : List ℕ} {ds : Table} {given : ℕ} → World ns ts ds given → (ℕ → List ℤ → Reader Row) → Result Running Refused → Outcome (Read Row)
 running_outcome w K (Ok x) = K x.index (up_from x.limits.lower x.count) (tokens_at w x.body)
 running_outcome w K (Err e) = refused e.refusal e.place
 
@@ -167,13 +168,13 @@ abbrev pub ReadyRun : Scope → Result Running Refused → Type 0
 ReadyRun sc (Ok x) = Ready sc x.limits x.count
 ReadyRun sc (Err e) = Unit {0}
 
-pub record RunningIs (n p : ℕ) (ns ts ds : List ℕ) (given level : ℕ) (sc : Scope) (at : ℕ) (r : Result Running Refused) : Type 0 where
+pub record RunningIs (n p : ℕ) (ns ts : List ℕ) (ds : Table) (given level : ℕ) (sc : Scope) (at : ℕ) (r : Result Running Refused) : Type 0 where
   pub is : (w : World ns ts ds given) → Small sc → (K : ℕ → List ℤ → Reader Row)
       → (walk_head (seen_by w level) >>= (λ i. limits_walk n (seen_by w level) (under w sc) >>= (λ l. lift (run_of l i (under w sc) p) >>= K i))) (tokens_at w at) ≡ running_outcome w K r
   pub ready : World ns ts ds given → Small sc → ReadyRun sc r
   pub after : (w : Running) → r ≡ Ok w → at < w.body
 
 -- a sigma's body for each number of its run
-pub record RunsAre (n i : ℕ) (ns ts ds : List ℕ) (given : ℕ) (xs : List ℕ) (total level : ℕ) (sc : Scope) (at : ℕ) (c : Value) (m : Bool) (b : code.Limits) (k : ℕ) (l : List ℤ) (z : Result ℕ Refused) (l' : List ℤ) : Type 0 where
+pub record RunsAre (n i : ℕ) (ns ts : List ℕ) (ds : Table) (given : ℕ) (xs : Table) (total level : ℕ) (sc : Scope) (at : ℕ) (c : Value) (m : Bool) (b : code.Limits) (k : ℕ) (l : List ℤ) (z : Result ℕ Refused) (l' : List ℤ) : Type 0 where
   pub does : (w : Model ns ts ds given xs total) → Small sc → Ready sc b k → Valid c → (r : Row) → RowOf w.variables l r
       → Does w.world.text ts w.variables (walk_runs w.variables (seen_by w.world level) (body_in n w.variables (seen_by w.world level)) i (under w.world sc) c m r (up_from b.lower k) (tokens_at w.world at)) z l'

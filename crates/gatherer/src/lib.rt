@@ -14,9 +14,10 @@ use evaluator::Context;
 use evaluator::steps::names::Listed;
 use evaluator::steps::values::Limits;
 use evaluator::steps::{passing, values};
-use lexer::marks;
+use lexer::Mark;
 use rules::{Refused, refused};
-use tokens::{kinds, sorts};
+use store::Row;
+use tokens::{Kind, Sort};
 use value::Value;
 
 // What a term ends with behind its primaries, with their product: a variable, by its name, its place and the position behind it; or
@@ -38,7 +39,7 @@ struct Running {
 
 // The number of the variable of a name, read at p.
 pub fn number(
-    variables: &[u64],
+    variables: &[Row],
     total: usize,
     cx: &Context<'_>,
     at: usize,
@@ -60,14 +61,14 @@ pub fn number(
 pub fn variable_at(names: &[u64], tokens: &[u64], level: usize, at: usize, k: u64) -> Option<Listed>
     ensures { result ≡ variable_seen names.now tokens.now level at k }
 {
-    if k != kinds::NAME {
+    if k != Kind::Name as u64 {
         return None;
     }
     let name = evaluator::steps::names::name_at(names, tokens, at)?;
     if level <= name.number {
         return None;
     }
-    if (name.sort == sorts::DISCRETE) | (name.sort == sorts::CONTINUOUS) {
+    if (name.sort == Sort::Discrete as u64) | (name.sort == Sort::Continuous as u64) {
         return Some(name);
     }
     None
@@ -90,7 +91,7 @@ fn end_of(cx: &Context<'_>, at: usize, c: Value, sigmas: bool) -> Result<Ending,
     let mut u = c;
     for _ in 0..rules::TOKEN_LIMIT {
         let token = tokens::token_at(cx.stored.tokens, a)?;
-        if sigmas & (token.kind == marks::SIGMA as u64) {
+        if sigmas & (token.kind == Mark::Sigma as u64) {
             return Ok(Ending::Sigma(u, token.place, token.next));
         }
         if let Some(name) = variable_at(
@@ -107,9 +108,10 @@ fn end_of(cx: &Context<'_>, at: usize, c: Value, sigmas: bool) -> Result<Ending,
     refused!(Full, 0)
 }
 
-// A variable's coefficient c, with its sign, added to the row; refused at its name, p.
+// A variable's coefficient c, with its sign, added to the row; refused at its name, p. Here and below `minus` is the sign that what is
+// read stands under: data, not a step.
 fn variable(
-    variables: &[u64],
+    variables: &[Row],
     total: usize,
     cx: &Context<'_>,
     at: usize,
@@ -141,7 +143,7 @@ fn flipped(minus: bool, negative: bool) -> bool
 
 // A linear form, from the coefficient 1 and without a sign before it.
 pub fn gathered(
-    variables: &[u64],
+    variables: &[Row],
     total: usize,
     cx: &Context<'_>,
     at: usize,
@@ -160,7 +162,7 @@ pub fn gathered(
 // Optional sign, then terms joined by `+` or `-`.
 #[cycle(gathering)]
 fn form(
-    variables: &[u64],
+    variables: &[Row],
     total: usize,
     cx: &Context<'_>,
     at: usize,
@@ -180,7 +182,7 @@ fn form(
 // Terms joined by `+` or `-`, behind the first one.
 #[cycle(gathering)]
 fn terms(
-    variables: &[u64],
+    variables: &[Row],
     total: usize,
     cx: &Context<'_>,
     at: usize,
@@ -194,8 +196,8 @@ fn terms(
     let mut a = at;
     for _ in 0..rules::TOKEN_LIMIT {
         let token = tokens::token_at(cx.stored.tokens, a)?;
-        let negative = token.kind == marks::MINUS as u64;
-        let joined = (token.kind == marks::PLUS as u64) | negative;
+        let negative = token.kind == Mark::Minus as u64;
+        let joined = (token.kind == Mark::Plus as u64) | negative;
         if !joined {
             return Ok(a);
         }
@@ -208,7 +210,7 @@ fn terms(
 // Primaries each followed by `*`, then a variable, or a sigma where `sigmas` are allowed.
 #[cycle(gathering)]
 fn term(
-    variables: &[u64],
+    variables: &[Row],
     total: usize,
     cx: &Context<'_>,
     at: usize,
@@ -231,7 +233,7 @@ fn term(
 // A sigma behind its word, which stands at p.
 #[cycle(gathering)]
 fn sigma(
-    variables: &[u64],
+    variables: &[Row],
     total: usize,
     cx: &Context<'_>,
     at: usize,
@@ -276,7 +278,7 @@ fn run_of(cx: &Context<'_>, at: usize, p: u64) -> Result<Running, Refused>
 // A sigma's body, gathered for each of the n numbers of the run of index i.
 #[cycle(gathering)]
 fn runs(
-    variables: &[u64],
+    variables: &[Row],
     total: usize,
     cx: &Context<'_>,
     at: usize,
@@ -302,7 +304,7 @@ fn runs(
 // A sigma's body: another sigma, or a linear form without sigma.
 #[cycle(gathering)]
 fn body(
-    variables: &[u64],
+    variables: &[Row],
     total: usize,
     cx: &Context<'_>,
     at: usize,
@@ -313,7 +315,7 @@ fn body(
     ensures { Over (Gathers (body_in cx.now.nest)) cx.now.stored variables.now total cx.now.level cx.now.scope at c minus row.old result row.new }
 {
     let token = tokens::token_at(cx.stored.tokens, at)?;
-    if token.kind == marks::SIGMA as u64 {
+    if token.kind == Mark::Sigma as u64 {
         return sigma(variables, total, cx, token.next, c, minus, token.place, row);
     }
     form(variables, total, cx, at, c, minus, false, row)

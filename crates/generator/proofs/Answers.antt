@@ -11,15 +11,13 @@ use Rattle.rules.specs.declared.Refusal.{Refusal}
 use Rattle.rules.specs.declared.Refusal.TheVariants.{LongListing}
 use Rattle.rules.specs.Refusals.{refusal_number}
 use Rattle.language.specs.Outcome.{Outcome, done, refused, ◌>>=◌}
-use Rattle.language.specs.Answer.{Accepted, accepted, fitted, printing, listing, respond, answer}
+use Rattle.language.specs.Answer.{Accepted, accepted, fitted, listing_of, printing, listing, respond, answer}
 use Rattle.language.proofs.Accepted.{kept}
 use Rattle.language.proofs.GrammarHolds.{grammar-holds}
 use Rattle.listing.proofs.Lines.{written-zeros}
 use Rattle.generator.specs.declared.Answer.{Answer}
-use Rattle.generator.specs.declared.Report.{Report}
-use Rattle.generator.specs.declared.Report.TheVariants as report
 use Rattle.generator.specs.Contract.{Gives, Defined, Accepts, Meaning}
-use Rattle.generator.specs.Generated.{report_of, reported, Prints, Generates, Answers}
+use Rattle.generator.specs.Generated.{reported, Prints, Generates, Answers}
 
 -- an answer by its number
 pub numbered : (n m p : ℕ) → n ≡ m → ◌≡◌ {A = Answer} (record { number = n; place = p; length = 0 }) (record { number = m; place = p; length = 0 })
@@ -75,24 +73,24 @@ module _ (out : List ℕ) (g : Result ℕ Refused) where
 
 -- ---- the answer to a text
 
-printing-is : (k : Report) (text : List ℕ) (n : ℕ) → (reported k (accepted text) >>= fitted n) ≡ printing (report_of k) text n
+printing-is : (f : Accepted → List ℕ) (text : List ℕ) (n : ℕ) → (reported f (accepted text) >>= fitted n) ≡ printing f text n
 unfolding printing
-printing-is k text n = go (accepted text)
+printing-is f text n = go (accepted text)
   where
-    go : (o : Outcome Accepted) → (reported k o >>= fitted n) ≡ (o >>= λ a. fitted n (report_of k a))
+    go : (o : Outcome Accepted) → (reported f o >>= fitted n) ≡ (o >>= λ a. fitted n (f a))
     go (done a) = refl
     go (refused r p) = refl
 
-pub report-gives : (k : Report) (text out₀ out₁ : List ℕ) → out₁ ≡ replicate (length out₀) 0 → (g : Result ℕ Refused) (out₂ : List ℕ) → Generates k text out₁ g out₂ → length out₂ ≡ length out₁
-    → (a : Answer) (out₃ : List ℕ) → Answers out₂ g a out₃ → Gives (length out₀) (printing (report_of k) text (length out₀)) a out₃
-report-gives k text out₀ out₁ z g out₂ h same a out₃ d =
+pub report-gives : (f : Accepted → List ℕ) (text out₀ out₁ : List ℕ) → out₁ ≡ replicate (length out₀) 0 → (g : Result ℕ Refused) (out₂ : List ℕ) → Generates f text out₁ g out₂ → length out₂ ≡ length out₁
+    → (a : Answer) (out₃ : List ℕ) → Answers out₂ g a out₃ → Gives (length out₀) (printing f text (length out₀)) a out₃
+report-gives f text out₀ out₁ z g out₂ h same a out₃ d =
     let n = length out₀ in
     let l : length out₂ ≡ n = same ∙ ap length z ∙ length-replicate {A = ℕ} n 0 in
-    subst (λ o. Gives n o a out₃) (printing-is k text n) (d.gives n l (reported k (accepted text)) (subst (λ x. Prints (reported k (accepted text)) x g out₂) z h.prints))
+    subst (λ o. Gives n o a out₃) (printing-is f text n) (d.gives n l (reported f (accepted text)) (subst (λ x. Prints (reported f (accepted text)) x g out₂) z h.prints))
 
 -- ---- of the listing: which texts are accepted, and demand 3
 
-module _ (text out : List ℕ) (a : Answer) (out' : List ℕ) (h : Gives (length out) (printing (report_of report.Listing) text (length out)) a out') where
+module _ (text out : List ℕ) (a : Answer) (out' : List ℕ) (h : Gives (length out) (printing listing_of text (length out)) a out') where
   pub listing-defined : Defined text out a out'
   unfolding listing
   listing-defined = h

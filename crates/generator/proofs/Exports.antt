@@ -9,12 +9,10 @@ use native.Mathlib.Omega.{arith}
 use lib.Dec.{leb}
 use lib.ListN.{length, take, replicate, length-replicate}
 use lib.Seq.{take_at}
-use lib.IntN.{ℤ}
 use Rattle.rules.specs.declared.Refusal.TheVariants.{Misplaced, LongListing}
 use Rattle.language.specs.Outcome.{Outcome, done, refused, ◌>>=◌, check}
 use Rattle.language.specs.Answer.{Accepted, accepted, fitted, printing, respond}
 use Rattle.language.proofs.Accepted.{numbered}
-use Rattle.rows.specs.declared.Sizes.{Sizes}
 use Rattle.listing.proofs.sheet.Listed.{shown-held}
 use Rattle.mps.specs.Sheet.{Sheet}
 use Rattle.language.specs.Listing.{lines_of}
@@ -27,18 +25,15 @@ use Rattle.mps.proofs.Reread.{outcome_of, rereads}
 use Rattle.exporter.specs.Exports as exporter
 use Rattle.importer.specs.Reads.{ReadsAs, Reads}
 use Rattle.generator.specs.declared.Answer.{Answer}
-use Rattle.generator.specs.declared.Report.{Report}
-use Rattle.generator.specs.declared.Report.TheVariants as report
+use Rattle.generator.specs.declared.Posed.{Posed}
 use Rattle.generator.specs.Contract.{Gives, Exports, Carries, ReadsBack}
-use Rattle.generator.specs.Generated.{report_of, Prints, Writes, Rewrites, Answers}
+use Rattle.generator.specs.Generated.{Prints, Writes, Rewrites, Answers}
 
 -- ---- the export of a problem, from its tables
 
-pub written-export : (slots bs : List ℕ) (m : List ℤ) (z : Sizes) (out : List ℕ) (r : ℕ) (out' : List ℕ) → exporter.Exports slots bs m z out r out' → (f : Report) → f ≡ report.Export
-    → (s ns ts cs xs : List ℕ) (title place bytes : ℕ) → Writes f s ns ts cs xs slots bs m z title place bytes out r out'
+pub written-export : (t : Posed) (out : List ℕ) (r : ℕ) (out' : List ℕ) → exporter.Exports t.slots.now t.bounds.now t.counts.now t.sizes out r out' → Writes export_of t out r out'
 unfolding export_of
-written-export slots bs m z out r out' h f e s ns ts cs xs title place bytes =
-    rw e (record { report = λ x p g d. h.lines p (shown-held d (discrete-first x p g)) })
+written-export t out r out' h = record { report = λ x p g d. h.lines p (shown-held d (discrete-first x p g)) }
 
 -- ---- what a reader finds in it
 
@@ -58,7 +53,7 @@ accepted-gives text n a out' h z = go (accepted text) refl h
     go (done x) e g = let k = fits x (leb (length (export_of x)) n) refl g in (x, e, k.0, k.1)
     go (refused r p) e g = absurd (numbered r (sym g.number ∙ z))
 
-module _ (text out : List ℕ) (a : Answer) (out' : List ℕ) (h : Gives (length out) (printing (report_of report.Export) text (length out)) a out') where
+module _ (text out : List ℕ) (a : Answer) (out' : List ℕ) (h : Gives (length out) (printing export_of text (length out)) a out') where
   pub export-defined : Exports text out a out'
   export-defined = h
 

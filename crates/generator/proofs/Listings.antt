@@ -4,7 +4,7 @@ use Rattle.rules.specs.declared.Refused.{Refused}
 use mathlib.Core.Path.{◌≡◌, refl, sym, ◌∙◌, ap, subst, subst₂}
 use mathlib.Core.Bool.{Bool, true, false, cond}
 use mathlib.Core.List.{List}
-use Prim.Native.Nat.{ℕ, zero, suc, ◌+◌, ◌*◌, ◌<◌, ◌≤◌}
+use Prim.Native.Nat.{ℕ, zero, suc, ◌+◌, ◌<◌, ◌≤◌}
 use native.Mathlib.Omega.{arith}
 use borrow.Author.Tests.{leb-true, ltb-false, lt-ltb, le-ltb}
 use lib.Dec.{leb, ltb}
@@ -23,9 +23,10 @@ use Rattle.language.specs.Model.{Model, read_model, model}
 use Rattle.language.specs.Numbering.{Lp, generate}
 use Rattle.language.specs.Listing.{lines_of}
 use Rattle.language.specs.Proper as Proper
-use Rattle.language.specs.Answer.{accepted, listing_of}
+use Rattle.language.specs.Answer.{Accepted, accepted, listing_of}
 use Rattle.language.proofs.ProperText.{accepted-proper}
 use Rattle.tokens.specs.Stored.{spelling, bytes_from, Named, rows_of}
+use Rattle.tokens.specs.Text.{In}
 use Rattle.listing.proofs.Lines.{lines-shown}
 use Rattle.problem.specs.Variables.Order.{InOrder}
 use Rattle.problem.proofs.variables.Order.{declarations-order}
@@ -39,9 +40,9 @@ use Rattle.rows.specs.declared.Sizes.{Sizes}
 use Rattle.listing.specs.Sheet.Shown.{Shown}
 use Rattle.listing.specs.Sheet.Shown as sheet
 use Rattle.listing.proofs.sheet.Texts.{visible-inside}
-use Rattle.generator.specs.declared.Report.{Report}
-use Rattle.generator.specs.declared.Report.TheVariants as report
+use Rattle.generator.specs.declared.Posed.{Posed}
 use Rattle.generator.specs.Generated.{reported, Prints, behind_brace, Writes, PrintsModel, PrintsIn, Generates}
+use Rattle.store.specs.Table.{Table}
 
 -- ---- a text that was read is not too long
 
@@ -81,12 +82,18 @@ brace-outside p h = ap (λ b. cond b (p + 1) 0) (sym (le-ltb p 16384 h))
 
 -- ---- what is written from the tables
 
-pub written-listing : (s ns ts cs xs t bs : List ℕ) (c : List ℤ) (z : Sizes) (title q bytes n k : ℕ) (p : ℕ) → k ≡ n * 5 → q ≡ behind_brace p → (out : List ℕ) (r : ℕ) (out' : List ℕ)
-    → sheet.Lists s ns ts (take k cs) xs t bs c z title q bytes out r out' → (f : Report) → f ≡ report.Listing → Writes f s ns ts (rows_of n cs) xs t bs c z title (behind_brace p) bytes out r out'
+pub written-listing : (t : Posed) (out : List ℕ) (r : ℕ) (out' : List ℕ)
+    → In sheet.Lists t.text t.constraints.now t.variables.now t.slots.now t.bounds.now t.counts.now t.sizes t.title t.place t.bytes out r out' → Writes listing_of t out r out'
 unfolding listing_of
-written-listing s ns ts cs xs t bs c z title q bytes n k p e i out r out' h f w =
-    let l = subst₂ (λ k q. sheet.Lists s ns ts (take k cs) xs t bs c z title q bytes out r out') e i h in
-    rw w (record { report = λ x y g d. subst (λ b. Written out 0 b r out') (lines-shown (lines_of x y) d.proper) (l.lines x y d) })
+written-listing t out r out' l = record { report = λ x y g d. subst (λ b. Written out 0 b r out') (lines-shown (lines_of x y) d.proper) (l.lines x y d) }
+
+-- of every model and problem that the tables are of, the report f was written
+abbrev Told : (Accepted → List ℕ) → List ℕ → List ℕ → List ℕ → List ℕ → Table → Table → List ℕ → List ℤ → Sizes → ℕ → ℕ → ℕ → List ℕ → ℕ → List ℕ → Type 0
+Told f s ns ts cs vs rows bs m z title place bytes out r out' =
+    (x : Model) (p : Lp) → generate x ≡ done p → Shown s ns ts cs vs rows bs m z title place bytes x p → Written out 0 (f (record { model = x; problem = p })) r out'
+
+abbrev sizes_of : Problem → Sizes
+sizes_of w = record { discrete = w.discrete; variables = w.total; less = w.filled.less; equal = w.filled.equal }
 
 -- ---- what is accepted
 
@@ -110,7 +117,7 @@ zeros-at zero k = refl
 zeros-at (suc n) zero = refl
 zeros-at (suc n) (suc k) = zeros-at n k
 
-module _ (s ts ns cs ds : List ℕ) (r : Tables) (few : r.constraints ≤ 64) (bs : List ℕ) (unstated : bs ≡ replicate 1024 0) (m : Model) (reads : read_model s ≡ done m) (h : ModelAt s ts ns cs ds r m) where
+module _ (s ts ns cs : List ℕ) (ds : Table) (r : Tables) (few : r.constraints ≤ 64) (bs : List ℕ) (unstated : bs ≡ replicate 1024 0) (m : Model) (reads : read_model s ≡ done m) (h : ModelAt s ts ns cs ds r m) where
   -- the tables tell of the model
   poses : Poses (rows_of r.names ns) ts ds r.given r.objective r.minimize cs r.constraints bs (model-holds s ts ns cs ds r m h).world m
   unfolding constraint_limit
@@ -129,29 +136,29 @@ module _ (s ts ns cs ds : List ℕ) (r : Tables) (few : r.constraints ≤ 64) (b
         unbound = λ k. ap (λ l. get_or l k 0) unstated ∙ zeros-at 1024 k;
       }
 
-  module _ (k : Report) (xs t bs' : List ℕ) (c : List ℤ) (out out' : List ℕ) where
+  module _ (f : Accepted → List ℕ) (xs t : Table) (bs' : List ℕ) (c : List ℤ) (out out' : List ℕ) where
     made-refused : (e : Refused) → GeneratesAs (rows_of r.names ns) ts ds r.given r.objective r.minimize cs r.constraints bs (Err e) xs t bs' c
-        → Prints (reported k (accepted s)) out (Err e) out'
+        → Prints (reported f (accepted s)) out (Err e) out'
     made-refused z g = go (generate m) refl (g.is _ m poses)
       where
-        go : (o : Outcome Lp) → generate m ≡ o → Generating o m.structure.constraints (Err z) xs t bs' c → Prints (reported k (accepted s)) out (Err z) out'
+        go : (o : Outcome Lp) → generate m ≡ o → Generating o m.structure.constraints (Err z) xs t bs' c → Prints (reported f (accepted s)) out (Err z) out'
         go (done p) i w = absurd w
-        go (refused n' q') i w = subst (λ o. Prints (reported k o) out (Err z) out') (sym (problem-refused s m reads n' q' i)) w
+        go (refused n' q') i w = subst (λ o. Prints (reported f o) out (Err z) out') (sym (problem-refused s m reads n' q' i)) w
 
     made-printed : (w : Problem) → GeneratesAs (rows_of r.names ns) ts ds r.given r.objective r.minimize cs r.constraints bs (Ok w) xs t bs' c → (size : ℕ)
-        → Writes k s (rows_of r.names ns) ts (rows_of r.constraints cs) xs t bs' c (record { discrete = w.discrete; variables = w.total; less = w.filled.less; equal = w.filled.equal }) r.title (behind_brace r.section) r.bytes out size out'
-        → Prints (reported k (accepted s)) out (Ok size) out'
+        → Told f s (rows_of r.names ns) ts (rows_of r.constraints cs) xs t bs' c (sizes_of w) r.title (behind_brace r.section) r.bytes out size out'
+        → Prints (reported f (accepted s)) out (Ok size) out'
     unfolding lines_of
     made-printed z g size l = go (generate m) refl (g.is _ m poses)
       where
-        go : (o : Outcome Lp) → generate m ≡ o → Generating o m.structure.constraints (Ok z) xs t bs' c → Prints (reported k (accepted s)) out (Ok size) out'
+        go : (o : Outcome Lp) → generate m ≡ o → Generating o m.structure.constraints (Ok z) xs t bs' c → Prints (reported f (accepted s)) out (Ok size) out'
         go (refused n' q') i w = absurd w
         go (done p) i w =
             let acc = problem-accepted s m reads p i in
             let proper : All Proper.Proper (lines_of m p) = accepted-proper s (record { model = m; problem = p }) acc in
             let short = read_short s m reads in
             let titled : Proper.Text m.given.title = proper.0.data-title in
-            let shown : Shown s (rows_of r.names ns) ts (rows_of r.constraints cs) xs t bs' c (record { discrete = z.discrete; variables = z.total; less = z.filled.less; equal = z.filled.equal }) r.title (behind_brace r.section) r.bytes m p =
+            let shown : Shown s (rows_of r.names ns) ts (rows_of r.constraints cs) xs t bs' c (sizes_of z) r.title (behind_brace r.section) r.bytes m p =
             record {
               short = short;
               title_place = h.structure.place;
@@ -169,32 +176,32 @@ module _ (s ts ns cs ds : List ℕ) (r : Tables) (few : r.constraints ≤ 64) (b
               bounds = w.bounds;
               proper = proper;
             } in
-            subst (λ o. Prints (reported k o) out (Ok size) out') (sym acc) (l.report m p i shown)
+            subst (λ o. Prints (reported f o) out (Ok size) out') (sym acc) (l m p i shown)
 
 -- the same, of the rows of the names alone
-module _ (k : Report) (s ns ts cs ds : List ℕ) (r : Tables) (few : r.constraints ≤ 64) (bs : List ℕ) (x : Result Problem Refused) (xs t bs' : List ℕ) (c : List ℤ) (g : GeneratesAs ns ts ds r.given r.objective r.minimize cs r.constraints bs x xs t bs' c) (out out' : List ℕ) where
+module _ (f : Accepted → List ℕ) (s ns ts cs : List ℕ) (ds : Table) (r : Tables) (few : r.constraints ≤ 64) (bs : List ℕ) (x : Result Problem Refused) (xs t : Table) (bs' : List ℕ) (c : List ℤ) (g : GeneratesAs ns ts ds r.given r.objective r.minimize cs r.constraints bs x xs t bs' c) (out out' : List ℕ) where
   generates-as : (y : Result Problem Refused) → x ≡ y → (t₀ : List ℕ) → ns ≡ rows_of r.names t₀
       → GeneratesAs (rows_of r.names t₀) ts ds r.given r.objective r.minimize cs r.constraints bs y xs t bs' c
   generates-as y e t₀ i = subst₂ (λ l y. GeneratesAs l ts ds r.given r.objective r.minimize cs r.constraints bs y xs t bs' c) i e g
 
-  pub print-refused : (e : Refused) → x ≡ Err e → PrintsIn k s ns ts cs ds r bs out (Err e) out'
-  print-refused z e = record { prints = λ unstated. record { prints = λ m reads t₀ i h. made-refused s ts t₀ cs ds r few bs unstated m reads h k xs t bs' c out out' z (generates-as (Err z) e t₀ i) } }
+  pub print-refused : (e : Refused) → x ≡ Err e → PrintsIn f s ns ts cs ds r bs out (Err e) out'
+  print-refused z e = record { prints = λ unstated. record { prints = λ m reads t₀ i h. made-refused s ts t₀ cs ds r few bs unstated m reads h f xs t bs' c out out' z (generates-as (Err z) e t₀ i) } }
 
-  pub print-done : (w : Problem) → x ≡ Ok w → (size : ℕ)
-      → Writes k s ns ts (rows_of r.constraints cs) xs t bs' c (record { discrete = w.discrete; variables = w.total; less = w.filled.less; equal = w.filled.equal }) r.title (behind_brace r.section) r.bytes out size out'
-      → PrintsIn k s ns ts cs ds r bs out (Ok size) out'
-  print-done w e size l = record {
+  pub print-done : (w : Problem) → x ≡ Ok w → (q size : ℕ) → q ≡ behind_brace r.section
+      → Told f s ns ts (rows_of r.constraints cs) xs t bs' c (sizes_of w) r.title q r.bytes out size out'
+      → PrintsIn f s ns ts cs ds r bs out (Ok size) out'
+  print-done w e q size b l = record {
     prints = λ unstated. record {
-      prints = λ m reads t₀ i h. made-printed s ts t₀ cs ds r few bs unstated m reads h k xs t bs' c out out' w (generates-as (Ok w) e t₀ i) size
-          (subst (λ z. Writes k s z ts (rows_of r.constraints cs) xs t bs' c (record { discrete = w.discrete; variables = w.total; less = w.filled.less; equal = w.filled.equal }) r.title (behind_brace r.section) r.bytes out size out') i l);
+      prints = λ m reads t₀ i h. made-printed s ts t₀ cs ds r few bs unstated m reads h f xs t bs' c out out' w (generates-as (Ok w) e t₀ i) size
+          (subst (λ z. Told f s z ts (rows_of r.constraints cs) xs t bs' c (sizes_of w) r.title (behind_brace r.section) r.bytes out size out') i (rw (← b) l));
     };
   }
 
 -- ---- the report of a text
 
-module _ (k : Report) (s : List ℕ) (r : Result Tables Refused) (ts ns cs ds : List ℕ) (h : ReadAs s r ts ns cs ds) (out : List ℕ) where
-  pub text-unread : (e : Refused) → r ≡ Err e → (out' : List ℕ) → Generates k s out (Err e) out'
-  text-unread z e out' = record { prints = subst (λ o. Prints (reported k o) out (Err z) out') (sym (accepted-refused s z.refusal z.place (text-refused s r ts ns cs ds h z e))) (refl, refl) }
+module _ (f : Accepted → List ℕ) (s : List ℕ) (r : Result Tables Refused) (ts ns cs : List ℕ) (ds : Table) (h : ReadAs s r ts ns cs ds) (out : List ℕ) where
+  pub text-unread : (e : Refused) → r ≡ Err e → (out' : List ℕ) → Generates f s out (Err e) out'
+  text-unread z e out' = record { prints = subst (λ o. Prints (reported f o) out (Err z) out') (sym (accepted-refused s z.refusal z.place (text-refused s r ts ns cs ds h z e))) (refl, refl) }
 
-  pub text-printed : (x : Tables) → r ≡ Ok x → (g : Result ℕ Refused) (out' : List ℕ) → PrintsModel k s (rows_of x.names ns) (take x.tokens ts) cs ds x out g out' → Generates k s out g out'
+  pub text-printed : (x : Tables) → r ≡ Ok x → (g : Result ℕ Refused) (out' : List ℕ) → PrintsModel f s (rows_of x.names ns) (take x.tokens ts) cs ds x out g out' → Generates f s out g out'
   text-printed x e g out' l = let a = text-read s r ts ns cs ds h x e in record { prints = l.prints a.model a.reads ns refl a.tells }

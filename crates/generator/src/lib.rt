@@ -1,18 +1,20 @@
 // The public entry points: a text and a lent output buffer give a number, a place and a length.
 #![tactic(auto)]
 
-ghost use Rattle.std.specs.Prelude.{◌≡◌, ◌≤◌, length, take, replicate};
+ghost use Rattle.std.specs.Prelude.{◌≡◌, ◌≤◌, List, ℕ, length, take, replicate};
 ghost use Rattle.rules.specs.Refusals.{refusal_number};
-ghost use Rattle.language.specs.Answer.{printing};
+ghost use Rattle.language.specs.Answer.{Accepted, listing_of, printing};
+ghost use Rattle.mps.specs.Problem.{export_of};
 ghost use Rattle.tokens.specs.Stored.{rows_of};
 ghost use Rattle.tokens.specs.Text.{In};
 ghost use Rattle.generator.specs.Contract.{Gives, Defined, Accepts, Meaning, Exports, Carries, ReadsBack, Calls};
-ghost use Rattle.generator.specs.Generated.{behind_brace, report_of, Writes, PrintsModel, PrintsIn, Generates, Rewrites, Answers};
+ghost use Rattle.generator.specs.Generated.{behind_brace, Writes, Printer, PrintsModel, PrintsIn, Generates, Rewrites, Answers};
 
 use evaluator::Stored;
 use model::Model;
 use rows::Sizes;
 use rules::{Refused, refused};
+use store::Row;
 use tokens::Text;
 
 // Number 0, place 0 and the report's length; or a refusal's number and place, and length 0.
@@ -32,11 +34,20 @@ pub enum Entry {
     Read,
 }
 
-// What is printed of an accepted model.
+// The tables of a model and of its problem, from which a report is written: the rows of its constraints, the position of its string,
+// and the place and the number of bytes of its data's string.
 #[derive(Clone, Copy)]
-enum Report {
-    Listing,
-    Export,
+struct Posed<'a> {
+    text: Text<'a>,
+    constraints: &'a [u64],
+    variables: &'a [Row],
+    slots: &'a [Row],
+    bounds: &'a [u64],
+    counts: &'a [i64],
+    sizes: Sizes,
+    title: usize,
+    place: u64,
+    bytes: u64,
 }
 
 // The byte behind the opening brace of a string; 0 past the end of every text.
@@ -49,59 +60,49 @@ fn behind_brace(p: u64) -> u64
     0
 }
 
-// The report of a problem, of the first rows of the table of constraints.
-fn write(
-    text: Text<'_>,
-    constraints: &[u64],
-    variables: &[u64; 2048],
-    slots: &[u64; 4104],
-    bounds: &[u64; 1024],
-    counts: &[i64; 263168],
-    model: Model,
-    sizes: Sizes,
-    kind: Report,
-    out: &mut [u8],
-) -> usize
-    requires { (model.constraints ≤ 64) × (320 ≤ length constraints.now) }
-    ensures { In (Writes kind) text.entry (rows_of model.constraints constraints.now) variables.now slots.now bounds.now counts.now sizes model.title (behind_brace model.section) model.bytes out.old result out.new }
+// The listing, from tables.
+fn write_listing(t: Posed<'_>, out: &mut [u8]) -> usize
+    ensures { Writes listing_of t.entry out.old result out.new }
 {
-    match kind {
-        Report::Listing => {
-            let c = model.constraints * 5;
-            listing::sheet::write(
-                text,
-                &constraints[..c],
-                variables,
-                slots,
-                bounds,
-                counts,
-                sizes,
-                model.title as usize,
-                behind_brace(model.section),
-                model.bytes,
-                out,
-            )
-        }
-        Report::Export => exporter::write(slots, bounds, counts, sizes, out),
-    }
+    listing::sheet::write(
+        t.text,
+        t.constraints,
+        t.variables,
+        t.slots,
+        t.bounds,
+        t.counts,
+        t.sizes,
+        t.title,
+        t.place,
+        t.bytes,
+        out,
+    )
 }
 
-// The report of a model that was read into tables, with tables for its problem: no bound is stated in them. `names` are the rows of
-// its names, `tokens` its tokens.
-fn list_in(
+// The export, from tables.
+fn write_export(t: Posed<'_>, out: &mut [u8]) -> usize
+    ensures { Writes export_of t.entry out.old result out.new }
+{
+    exporter::write(t.slots, t.bounds, t.counts, t.sizes, out)
+}
+
+// The report of a model that was read into tables, as `print` writes it, with tables for its problem: no bound is stated in them.
+// The text has the rows of its names and its tokens, and no others.
+fn list_in<P: FnOnce(Posed<'_>, &mut [u8]) -> usize>(
     text: Text<'_>,
     constraints: &[u64; 320],
-    store: &[u64],
+    store: &[Row],
     model: Model,
-    variables: &mut [u64; 2048],
-    slots: &mut [u64; 4104],
+    variables: &mut [Row; 512],
+    slots: &mut [Row; 1026],
     bounds: &mut [u64; 1024],
     counts: &mut [i64; 263168],
-    kind: Report,
+    print: P,
     out: &mut [u8],
 ) -> Result<usize, Refused>
-    requires { model.constraints ≤ 64 }
-    ensures { In (PrintsIn kind) text.entry constraints.now store.now model bounds.old out.old result out.new }
+    requires called { P.IsAlwaysCallable print }
+    requires few { model.constraints ≤ 64 }
+    ensures { (f : Accepted → List ℕ) → Printer f (P.post print) → In (PrintsIn f) text.entry constraints.now store.now model bounds.old out.old result out.new }
 {
     let stored = Stored {
         names: text.names,
@@ -126,34 +127,37 @@ fn list_in(
         less: problem.filled.less,
         equal: problem.filled.equal,
     };
-    Ok(write(
+    let c = model.constraints * 5;
+    let posed = Posed {
         text,
-        constraints,
+        constraints: &constraints[..c],
         variables,
         slots,
         bounds,
         counts,
-        model,
         sizes,
-        kind,
-        out,
-    ))
+        title: model.title as usize,
+        place: behind_brace(model.section),
+        bytes: model.bytes,
+    };
+    Ok(print(posed, out))
 }
 
 // The report of a model that was read into tables.
-fn list(
+fn list<P: FnOnce(Posed<'_>, &mut [u8]) -> usize>(
     text: Text<'_>,
     constraints: &[u64; 320],
-    store: &[u64],
+    store: &[Row],
     model: Model,
-    kind: Report,
+    print: P,
     out: &mut [u8],
 ) -> Result<usize, Refused>
-    requires { model.constraints ≤ 64 }
-    ensures { In (PrintsModel kind) text.entry constraints.now store.now model out.old result out.new }
+    requires called { P.IsAlwaysCallable print }
+    requires few { model.constraints ≤ 64 }
+    ensures { (f : Accepted → List ℕ) → Printer f (P.post print) → In (PrintsModel f) text.entry constraints.now store.now model out.old result out.new }
 {
-    let mut variables = [0u64; 2048];
-    let mut slots = [0u64; 4104];
+    let mut variables = [Row::none(); 512];
+    let mut slots = [Row::none(); 1026];
     let mut bounds = [0u64; 1024];
     let mut counts = [0i64; 263168];
     list_in(
@@ -165,22 +169,23 @@ fn list(
         &mut slots,
         &mut bounds,
         &mut counts,
-        kind,
+        print,
         out,
     )
 }
 
 // The same, of all rows and tokens of the tables.
-fn part(
+fn part<P: FnOnce(Posed<'_>, &mut [u8]) -> usize>(
     text: Text<'_>,
     constraints: &[u64; 320],
-    store: &[u64; 8192],
+    store: &[Row; 2048],
     model: Model,
-    kind: Report,
+    print: P,
     out: &mut [u8],
 ) -> Result<usize, Refused>
-    requires { (model.tokens ≤ length text.tokens.now) × (model.names ≤ 64) × (320 ≤ length text.names.now) × (model.constraints ≤ 64) }
-    ensures { PrintsModel kind text.entry.bytes.now (rows_of model.names text.entry.names.now) (take model.tokens text.entry.tokens.now) constraints.now store.now model out.old result out.new }
+    requires called { P.IsAlwaysCallable print }
+    requires stored { (model.tokens ≤ length text.tokens.now) × (model.names ≤ 64) × (320 ≤ length text.names.now) × (model.constraints ≤ 64) }
+    ensures { (f : Accepted → List ℕ) → Printer f (P.post print) → PrintsModel f text.entry.bytes.now (rows_of model.names text.entry.names.now) (take model.tokens text.entry.tokens.now) constraints.now store.now model out.old result out.new }
 {
     let k = model.names * 5;
     let n = model.tokens;
@@ -189,20 +194,21 @@ fn part(
         names: &text.names[..k],
         tokens: &text.tokens[..n],
     };
-    list(filled, constraints, store, model, kind, out)
+    list(filled, constraints, store, model, print, out)
 }
 
 // The report of a text, as far as the output reaches, with tables to read it into.
-fn generate_in(
+fn generate_in<P: FnOnce(Posed<'_>, &mut [u8]) -> usize>(
     text: &[u8],
     tokens: &mut [u64; 16385],
     names: &mut [u64; 320],
     constraints: &mut [u64; 320],
-    store: &mut [u64; 8192],
-    kind: Report,
+    store: &mut [Row; 2048],
+    print: P,
     out: &mut [u8],
 ) -> Result<usize, Refused>
-    ensures { Generates kind text.now out.old result out.new }
+    requires { P.IsAlwaysCallable print }
+    ensures { (f : Accepted → List ℕ) → Printer f (P.post print) → Generates f text.now out.old result out.new }
 {
     let model = model::read(text, tokens, names, constraints, store)?;
     let read = Text {
@@ -210,24 +216,29 @@ fn generate_in(
         names,
         tokens,
     };
-    part(read, constraints, store, model, kind, out)
+    part(read, constraints, store, model, print, out)
 }
 
 // The report of a text, as far as the output reaches.
-fn generate(text: &[u8], kind: Report, out: &mut [u8]) -> Result<usize, Refused>
-    ensures { Generates kind text.now out.old result out.new }
+fn generate<P: FnOnce(Posed<'_>, &mut [u8]) -> usize>(
+    text: &[u8],
+    print: P,
+    out: &mut [u8],
+) -> Result<usize, Refused>
+    requires { P.IsAlwaysCallable print }
+    ensures { (f : Accepted → List ℕ) → Printer f (P.post print) → Generates f text.now out.old result out.new }
 {
     let mut tokens = [0u64; 16385];
     let mut names = [0u64; 320];
     let mut constraints = [0u64; 320];
-    let mut store = [0u64; 8192];
+    let mut store = [Row::none(); 2048];
     generate_in(
         text,
         &mut tokens,
         &mut names,
         &mut constraints,
         &mut store,
-        kind,
+        print,
         out,
     )
 }
@@ -249,7 +260,7 @@ fn refuse(out: &mut [u8], r: rules::Refusal, p: usize) -> Answer
 {
     listing::clear(out);
     Answer {
-        number: rules::number(r),
+        number: u32::from(r),
         place: p,
         length: 0,
     }
@@ -274,12 +285,17 @@ fn give(out: &mut [u8], generated: Result<usize, Refused>) -> Answer
     }
 }
 
-// A report of a text, or one refusal with its place and every output byte zero.
-fn answer_with(text: &[u8], kind: Report, out: &mut [u8]) -> Answer
-    ensures { Gives (length out.old) (printing (report_of kind) text.now (length out.old)) result out.new }
+// A report of a text, as `print` writes it, or one refusal with its place and every output byte zero.
+fn answer_with<P: FnOnce(Posed<'_>, &mut [u8]) -> usize>(
+    text: &[u8],
+    print: P,
+    out: &mut [u8],
+) -> Answer
+    requires { P.IsAlwaysCallable print }
+    ensures { (f : Accepted → List ℕ) → Printer f (P.post print) → Gives (length out.old) (printing f text.now (length out.old)) result out.new }
 {
     listing::clear(out);
-    let generated = generate(text, kind, out);
+    let generated = generate(text, print, out);
     give(out, generated)
 }
 
@@ -291,7 +307,7 @@ pub fn recipe_generate(text: &[u8], out: &mut [u8]) -> Answer
     ensures accepts { Accepts text.now out.old result }
     ensures meaning { Meaning text.now out.old result out.new }
 {
-    answer_with(text, Report::Listing, out)
+    answer_with(text, write_listing, out)
 }
 
 // The export of a model for a solver.
@@ -299,7 +315,7 @@ pub fn recipe_export(text: &[u8], out: &mut [u8]) -> Answer
     ensures defined { Exports text.now out.old result out.new }
     ensures meaning { Carries text.now out.old result out.new }
 {
-    answer_with(text, Report::Export, out)
+    answer_with(text, write_export, out)
 }
 
 // What an export says: the `row`, `var` and `col` lines of its listing, without strings, names and index values.

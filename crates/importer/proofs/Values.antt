@@ -26,7 +26,7 @@ use Rattle.lexer.specs.Text.{front, behind, same_bytes}
 use Rattle.listing.proofs.Showing.{shown-most, whole_is, natural-read, natural-shown}
 use Rattle.mps.specs.Reading.{Reader, strip, in_line, print_of, value_of, read_value, line_value}
 use Rattle.importer.specs.Steps.{Strips, LineEnds, Finds}
-use Rattle.importer.proofs.Stripping.{drop_here}
+use Rattle.std.proofs.lemmas.List.{drop_more}
 
 -- ---- what was printed into a small buffer
 
@@ -80,19 +80,19 @@ run-first text at h =
 module _ (text : List ℕ) (at i : ℕ) (r : Running text at i) where
   front-more : i < length text → (get_or text i 0 ≡ 10 → ⊥) → front in_line (drop i text) ≡ get_or text i 0 ∷ front in_line (drop (i + 1) text)
   unfolding front
-  front-more h f = rw (drop_here text i h) (rw (in-line (get_or text i 0) f, front))
+  front-more h f = rw (drop_more text i 0 h) (rw (in-line (get_or text i 0) f, front))
 
   behind_more : i < length text → (get_or text i 0 ≡ 10 → ⊥) → behind in_line (drop i text) ≡ behind in_line (drop (i + 1) text)
   unfolding behind
-  behind_more h f = rw (drop_here text i h) (rw (in-line (get_or text i 0) f, behind))
+  behind_more h f = rw (drop_more text i 0 h) (rw (in-line (get_or text i 0) f, behind))
 
   front-stop : i < length text → get_or text i 0 ≡ 10 → front in_line (drop i text) ≡ []
   unfolding front
-  front-stop h e = rw (drop_here text i h) (rw (at-end (get_or text i 0) e, front))
+  front-stop h e = rw (drop_more text i 0 h) (rw (at-end (get_or text i 0) e, front))
 
   behind-stop : i < length text → get_or text i 0 ≡ 10 → behind in_line (drop i text) ≡ drop i text
   unfolding behind
-  behind-stop h e = rw (drop_here text i h) (rw (at-end (get_or text i 0) e, behind))
+  behind-stop h e = rw (drop_more text i 0 h) (rw (at-end (get_or text i 0) e, behind))
 
   pub run_more : i < length text → (get_or text i 0 ≡ 10 → ⊥) → Running text at (i + 1)
   run_more h f =

@@ -1,6 +1,8 @@
 // The reader of an export: the listing's lines of rows, floors, variables and coefficients without strings, names and index values, or that
 // the text is no export. Each line is awaited, so the text is stripped of it; all that is kept is which rows have a floor. A position in the
 // text is at most its length.
+// What writes takes the output and a place in it, and gives the place behind what it wrote: document 01 names this form, where the rest of
+// the output is lent to the writer of a line.
 #![tactic(auto)]
 
 ghost use Rattle.std.specs.Prelude.{◌≡◌, false, cond, [], ◌∷◌, ◌+◌, ◌*◌, ◌<◌, ◌≤◌, ◌^◌, length, get_or};
@@ -92,7 +94,7 @@ fn strip_number(text: &[u8], at: usize, n: usize) -> Option<usize>
     requires { (at ≤ length text.now) × (n < 1024) }
     ensures { Strips (natural n) text.now at result }
 {
-    strip_print(text, at, value::of_whole(n as i64))
+    strip_print(text, at, value::Value::from(n as i64))
 }
 
 // A word, a number and a second word.
@@ -138,7 +140,7 @@ fn signed(t: &[u8]) -> Option<value::Value>
         return value::literal(t);
     };
     let v = value::literal(digits)?;
-    Some(value::negated(v))
+    Some(-v)
 }
 
 // Are these bytes what a value prints as?
@@ -264,10 +266,10 @@ fn cell_at(t: Export, at: usize, j: usize, i: usize) -> Option<(value::Value, us
     ensures { Finds (cell_at t.entry.floors.now j i) t.entry.text.now at result }
 {
     let Some(next) = cell_head(t.text, at, j + 1, b" R", i + 1) else {
-        return Some((value::of_whole(0), at));
+        return Some((value::Value::from(0), at));
     };
     let (v, next) = read_value(t.text, next)?;
-    if value::is_zero(v) {
+    if v.is_zero() {
         return None;
     }
     let next = again(t, next, j, i, v)?;
@@ -287,7 +289,7 @@ fn cell_line(variable: usize, row: usize, v: value::Value, out: &mut [u8], place
     requires { place < 2 ^ 40 }
     ensures { (Written out.old place (shown_lines (cond (is_zero v) [] (col_line variable row v ∷ []))) result out.new) × (result ≤ place + 128) }
 {
-    if value::is_zero(v) {
+    if v.is_zero() {
         return place;
     }
     column_line(variable, row, v, out, place)
@@ -314,7 +316,7 @@ fn column(t: Export, at: usize, j: usize, out: &mut [u8], place: usize) -> Optio
 {
     let (next, to) = cells(t, at, j, out, place)?;
     let (v, next) = line_value(t.text, next, b" C", j + 1, b" OBJ ")?;
-    let to = column_line(j + 1, t.rows + 1, value::negated(v), out, to);
+    let to = column_line(j + 1, t.rows + 1, -v, out, to);
     Some((next, to))
 }
 
@@ -425,16 +427,11 @@ fn low_line(row: usize, floor: Option<value::Value>, out: &mut [u8], place: usiz
     requires { place < 2 ^ 41 }
     ensures { (Written out.old place (shown_lines (low_lines row floor)) result out.new) × (result ≤ place + 128) }
 {
-    match floor {
-        None => place,
-        Some(v) => {
-            let from = listing::rest_from(out.len(), place);
-            place + listing::low(row, v, &mut out[from..])
-        }
-    }
+    let from = listing::rest_from(out.len(), place);
+    place + listing::low(row, floor, &mut out[from..])
 }
 
-// A row's line, and its floor's.
+// A row's line, and its floor's. `equal` is the row's relation: data, not a step.
 fn side_lines(
     number: usize,
     equal: bool,

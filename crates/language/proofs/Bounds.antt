@@ -11,7 +11,7 @@ use Rattle.language.specs.Listed.{In}
 use Rattle.language.proofs.Listed.{in-nil, in-cons, in-here, in-later}
 use Rattle.value.specs.Rational.{◌⊑◌}
 use Rattle.value.proofs.Rational.{⊑_trans, ⊑_refl}
-use Rattle.language.proofs.Outcome.{none-some, some-injective}
+use Rattle.language.proofs.Outcome.{some-injective}
 use Rattle.value.specs.declared.Value.{Value}
 use Rattle.value.specs.Decimal.{zero_value, is_at_most}
 use Rattle.language.specs.Numbering.{Fact, bound, row, Entry, bound_at, floor_for, picked, extreme, is_at_least, largest, smallest}
@@ -24,16 +24,16 @@ floor-bound (bound i v) w j u e = go (eqb i j) e
   where
     go : (t : Bool) → cond t w None ≡ Some u → (b : Value) × (cond t (Some v) None ≡ Some b) × (w ≡ Some u)
     go true e = (v, refl, e)
-    go false e = absurd (none-some e)
-floor-bound (row r v) w j u e = absurd (none-some e)
+    go false e = cc
+floor-bound (row r v) w j u e = cc
 
 pub bound-floor : (f : Fact) (w : Option Value) (j : ℕ) (t : Value) → bound_at f j ≡ Some t → floor_for f w j ≡ w
 bound-floor (bound i v) w j t e = go (eqb i j) e
   where
     go : (b : Bool) → cond b (Some v) None ≡ Some t → cond b w None ≡ w
     go true e = refl
-    go false e = absurd (none-some e)
-bound-floor (row r v) w j t e = absurd (none-some e)
+    go false e = cc
+bound-floor (row r v) w j t e = cc
 
 -- ---- the stated values
 
@@ -45,7 +45,7 @@ in-picked f (d ∷ es) e v h s = go (f d) refl (in-cons d es e h) (λ k. in-pick
     go : (o : Option Value) → f d ≡ o → (d ≡ e) ⊎ In es e → (In es e → In (picked f es) v) → In (elim o [ Some v ↦ v ∷ picked f es | None ↦ picked f es ]) v
     go (Some w) fd (inl k) ih = let same : w ≡ v = some-injective (sym fd ∙ ap f k ∙ s) in record { place = 0; at = same }
     go (Some w) fd (inr k) ih = in-later w (picked f es) v (ih k)
-    go None fd (inl k) ih = absurd (none-some (sym fd ∙ ap f k ∙ s))
+    go None fd (inl k) ih = cc (sym fd ∙ ap f k ∙ s)
     go None fd (inr k) ih = ih k
 
 pub picked-in : (f : Entry → Option Value) (es : List Entry) (v : Value) → In (picked f es) v → (e : Entry) × In es e × (f e ≡ Some v)
@@ -124,16 +124,16 @@ largest-bounds (w ∷ l) v h = extreme-bounds is_at_most (λ v w. exactly v ⊑ 
 pub smallest-none : (l : List Value) → smallest l ≡ None → (v : Value) → In l v → ⊥
 unfolding smallest
 smallest-none [] e v h = in-nil v h
-smallest-none (w ∷ l) e v h = none-some (sym e)
+smallest-none (w ∷ l) e v h = cc
 
 pub smallest-in : (l : List Value) (u : Value) → smallest l ≡ Some u → In l u
 unfolding smallest
-smallest-in [] u e = absurd (none-some e)
+smallest-in [] u e = cc
 smallest-in (w ∷ l) u e = subst (In (w ∷ l)) (some-injective e) (extreme-in is_at_least l w)
 
 pub smallest-bounds : (l : List Value) (u : Value) → smallest l ≡ Some u → (v : Value) → In l v → exactly u ⊑ exactly v
 unfolding smallest
-smallest-bounds [] u e v h = absurd (none-some e)
+smallest-bounds [] u e v h = cc
 smallest-bounds (w ∷ l) u e v h =
     subst (λ x. exactly x ⊑ exactly v) (some-injective e)
     (extreme-bounds is_at_least (λ v w. exactly w ⊑ exactly v) (λ v w. is_at_most-yes w v) (λ v w. is_at_most-no w v) (λ v. ⊑_refl (exactly v)) (λ u v w h k. ⊑_trans k h) l w v h)

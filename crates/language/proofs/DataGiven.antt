@@ -15,7 +15,6 @@ use Rattle.language.specs.Listed.{At, In, Distinct}
 use Rattle.language.proofs.Listed.{at_length, in-nil, in-cons, in-here, in-later, distinct_nil}
 use Rattle.language.specs.All.{All}
 use Rattle.language.proofs.All.{all-at, all-with}
-use Rattle.language.proofs.Outcome.{none-some}
 use Rattle.language.specs.Syntax.{Name, Sort, Spans, Structure, point, span}
 use Rattle.language.specs.Syntax
 use Rattle.language.specs.Scope.{Scope}
@@ -151,7 +150,7 @@ gave-none st = record {
 
 -- an element that is there can be given no more
 clash : (st : Store) (i j : ℕ) (e : List ℤ) → i ≡ j → Has (stored st i e) → stored st j e ≡ None → ⊥
-clash st i j e same h n = none-some (sym n ∙ ap (λ k. stored st k e) (sym same) ∙ h.is)
+clash st i j e same h n = cc (sym n ∙ ap (λ k. stored st k e) (sym same) ∙ h.is)
 
 gave-more : {x : WrittenPortion} {xs : List WrittenPortion} {st mid new : Store} → Gave x st mid → GaveAll xs mid new → GaveAll (x ∷ xs) st new
 gave-more {x} {xs} {st} {mid} {new} a b = record {
@@ -240,7 +239,7 @@ unfolding scope_of stored
 all-supplied xs st g = record {
   filled = g.filled (scope_of st) (extends-refl (scope_of st));
   once = g.once (scope_of st) (extends-refl (scope_of st));
-  no_other = λ i e v h. elim (g.no_other (scope_of st) (extends-refl (scope_of st)) i e v h) [ inl k ↦ absurd (none-some k) | inr k ↦ k ];
+  no_other = λ i e v h. elim (g.no_other (scope_of st) (extends-refl (scope_of st)) i e v h) [ inl k ↦ cc | inr k ↦ k ];
 }
 
 -- all that is stored is what the portions give

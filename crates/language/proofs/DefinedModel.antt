@@ -16,7 +16,7 @@ use Rattle.language.proofs.Listed.{in-nil, in-cons}
 use Rattle.language.specs.All.{All}
 use Rattle.language.proofs.All.{all-at, all_in_lem}
 use Rattle.language.specs.Outcome.{done, check}
-use Rattle.language.proofs.Outcome.{after, refused-done}
+use Rattle.language.proofs.Outcome.{after}
 use Rattle.language.specs.Scope.{Scope, bind}
 use Rattle.language.specs.Syntax.{Name, Sort, Spans, point, span, Constraint}
 use Rattle.language.specs.Syntax
@@ -45,7 +45,7 @@ is-there i p s e u w h = go (s.known i e) refl h
   where
     go : (o : Option Value) → s.known i e ≡ o → check Missing p (not (is_none o)) ≡ done w → Has (s.known i e)
     go (Some v) k h = record { it = v; is = k }
-    go None k h = absurd (refused-done h)
+    go None k h = cc
 
 data-defined : (names : List Name) (i p : ℕ) (d : Spans) (s : Scope) (u : Unit {0}) → NamedDomain names d → over d s (is_given i p) tt ≡ done u
     → DefinedDomain d s × ((e : List ℤ) → InDomain d s e → Has (s.known i e))

@@ -23,7 +23,7 @@ use Rattle.language.specs.Numbering.{Variable, add_variables, same_variable, lat
 use Rattle.language.specs.Written.{InDomain, Declared}
 use Rattle.language.specs.Named.{IsVariable, NamedVariable}
 use Rattle.language.specs.Defined.{Has}
-use Rattle.language.proofs.Numbered.{true-false, variables-made, variable-numbers}
+use Rattle.language.proofs.Numbered.{variables-made, variable-numbers}
 use Rattle.language.proofs.Defined.{many, within-defined}
 
 -- ---- a variable that stands in the list is found
@@ -53,7 +53,7 @@ in-number_of i e (v ∷ vs) h = go (same_variable v i e) refl (in-cons v vs _ h)
     go : (t : Bool) → same_variable v i e ≡ t → (v ≡ record { name = i; element = e }) ⊎ In vs (record { name = i; element = e })
         → (In vs (record { name = i; element = e }) → Has (number_of i e vs)) → Has {A = ℕ} (elim t [ true ↦ Some 0 | false ↦ later (number_of i e vs) ])
     go true q k ih = record { it = 0; is = refl }
-    go false q (inl k) ih = true-false (sym (same_variable-refl i e) ∙ sym (ap (λ (v : Variable). same_variable v i e) k) ∙ q)
+    go false q (inl k) ih = cc (sym (same_variable-refl i e) ∙ sym (ap (λ (v : Variable). same_variable v i e) k) ∙ q)
     go false q (inr k) ih = next (ih k)
 
 -- ---- the variables of a model

@@ -13,7 +13,7 @@ use Rattle.lexer.specs.Marks.{init_word, close_word}
 use Rattle.value.specs.declared.Value.{Value}
 use Rattle.lexer.specs.Text.{Token, literal, tokens}
 use Rattle.language.specs.Outcome.{Outcome, done, refused}
-use Rattle.language.proofs.Outcome.{done-injective, refused-done}
+use Rattle.language.proofs.Outcome.{done-injective}
 use Rattle.language.specs.Syntax.{Name, Sort, Constraint, Structure}
 use Rattle.language.specs.Reader.{Read, Reader, ◌>>=◌, give, next, is_mark, require, read_string}
 use Rattle.language.specs.Grammar.{structure}
@@ -224,7 +224,7 @@ model-read text m e = go (model (tokens text)) refl e
 
     go : (o : Outcome (Read Model)) → model (tokens text) ≡ o → what_of o ≡ done m → ModelRead text m
     go (done r) eo e = parts r eo (done-injective e)
-    go (refused n p) eo e = absurd (refused-done e)
+    go (refused n p) eo e = cc
 
 pub model-facts : (P : Value → Type 0) (text : List ℕ) (m : Model) → AllShaped P (tokens text) → read_model text ≡ done m → ModelFacts P m
 model-facts P text m a e =

@@ -77,7 +77,7 @@ pub printed-some : (v : Value) → Valid v → 0 < length (printed v)
 printed-some v h = go (printed v) (read_back_lem v h)
   where
     go : (s : List ℕ) → read_back s ≡ Some v → 0 < length s
-    go [] e = absurd (let q = read-empty in let z : ◌≡◌ {A = ℕ} 0 1 = cc in omega arith)
+    go [] e = absurd (let q = read-empty in cc)
     go (b ∷ s) e = omega arith
 
 -- ---- read back

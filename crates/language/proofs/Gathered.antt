@@ -17,7 +17,7 @@ use Rattle.value.specs.Rational.{ℚ, 𝟎, ◌⊕◌, ◌⊗◌}
 use Rattle.value.proofs.Rational.{ring, add-zero, zero-add, add_assoc, mul-add, mul_assoc, mul-zero, zero-mul, one-mul, mul-neg, neg-mul, neg-add, neg-neg, neg-zero}
 use Rattle.rules.specs.declared.Refusal.TheVariants.{Outside}
 use Rattle.language.specs.Outcome.{Outcome, done}
-use Rattle.language.proofs.Outcome.{after-fits, none-some, after, some_of, done-injective, some-injective}
+use Rattle.language.proofs.Outcome.{after-fits, after, some_of, done-injective, some-injective}
 use Rattle.value.specs.declared.Value.{Value}
 use Rattle.value.specs.Decimal.{zero_value, one_value, sum_of, product_of}
 use Rattle.language.specs.Scope.{Scope, bind, unbound, same_whole, same_element}
@@ -65,11 +65,11 @@ same_variable-true v i e h = go (eqb v.name i) refl h
 
 pub number_of-at : (i : ℕ) (e : List ℤ) (vs : List Variable) (j : ℕ) → number_of i e vs ≡ Some j → At vs j (record { name = i; element = e })
 unfolding number_of
-number_of-at i e [] j h = absurd (none-some h)
+number_of-at i e [] j h = cc
 number_of-at i e (v ∷ vs) j h = go (same_variable v i e) refl (number_of i e vs) (number_of-at i e vs) h
   where
     step : (o : Option ℕ) → ((k : ℕ) → o ≡ Some k → At vs k (record { name = i; element = e })) → later o ≡ Some j → At (v ∷ vs) j (record { name = i; element = e })
-    step None ih h = absurd (none-some h)
+    step None ih h = cc
     step (Some k) ih h = rw (← (some-injective h)) (ih k refl)
 
     go : (t : Bool) → same_variable v i e ≡ t → (o : Option ℕ) → ((k : ℕ) → o ≡ Some k → At vs k (record { name = i; element = e }))

@@ -8,16 +8,13 @@ use native.Mathlib.Omega.{arith}
 use Rattle.lexer.specs.Text.{same_bytes}
 use Rattle.lexer.proofs.Same.{same-bytes-equal, same-bytes-refl}
 use Rattle.language.specs.Listed.{At}
-use Rattle.language.proofs.Outcome.{some-injective, none-some}
+use Rattle.language.proofs.Outcome.{some-injective}
 use Rattle.language.specs.Syntax.{Name, Sort}
 use Rattle.language.specs.Reader.{Used, find}
 use Rattle.language.specs.Phrases.{Means, Unknown}
 
-true-false : {A : Type 0} → ◌≡◌ {A = Bool} true false → A
-true-false e = let z : ◌≡◌ {A = ℕ} 0 1 = cc in absurd (omega arith)
-
 other : (l k : List ℕ) → same_bytes l k ≡ false → k ≡ l → ⊥
-other l k e s = true-false (sym (same-bytes-refl l) ∙ subst (λ k. same_bytes l k ≡ false) s e)
+other l k e s = cc (sym (same-bytes-refl l) ∙ subst (λ k. same_bytes l k ≡ false) s e)
 
 differs : (l k : List ℕ) → (k ≡ l → ⊥) → same_bytes l k ≡ false
 differs l k h = go (same_bytes l k) refl
@@ -36,7 +33,7 @@ later {x} {xs} {l} {k} {s} h m = record { entry = m.entry; listed = m.listed; sp
 
 found-means : (l : List ℕ) (names : List Name) (i p : ℕ) (u : Used) → find l names i p ≡ Some u → (k : ℕ) × (u.number ≡ i + k) × Means names l k u.sort
 unfolding find
-found-means l [] i p u e = absurd (none-some e)
+found-means l [] i p u e = cc
 found-means l (x ∷ xs) i p u e = go (same_bytes l x.spelling) refl (found-means l xs (suc i) p u) e
   where
     go : (b : Bool) → same_bytes l x.spelling ≡ b → (find l xs (suc i) p ≡ Some u → (k : ℕ) × (u.number ≡ suc i + k) × Means xs l k u.sort)
@@ -78,7 +75,7 @@ missed-unknown l (x ∷ xs) i p e = go (same_bytes l x.spelling) refl (missed-un
   where
     go : (b : Bool) → same_bytes l x.spelling ≡ b → (find l xs (suc i) p ≡ None → Unknown xs l)
         → ◌≡◌ {A = Option Used} (elim b as (λ _. Option Used) [ true ↦ Some (record { number = i; sort = x.sort; place = p }) | false ↦ find l xs (suc i) p ]) None → Unknown (x ∷ xs) l
-    go true eb ih e = absurd (none-some (sym e))
+    go true eb ih e = cc
     go false eb ih e = record { unspelled = each (ih e) }
       where
         each : Unknown xs l → (j : ℕ) (y : Name) → At (x ∷ xs) j y → y.spelling ≡ l → ⊥

@@ -13,7 +13,6 @@ use borrow.Author.Tests.{ltb-true, lt-ltb}
 use Rattle.language.specs.Listed.{At, In}
 use Rattle.language.proofs.Listed.{Split, at-unique, at_length, at-append, in-nil, in-cons, in-here, in-later, in-append, in_left, in_right, in_map, map-in, distinct-from-map}
 use Rattle.language.specs.Outcome.{done}
-use Rattle.language.proofs.Outcome.{none-some}
 use Rattle.language.specs.Scope.{Scope}
 use Rattle.language.specs.Syntax.{Name, Sort, Spans, Relation, Side, bare, form}
 use Rattle.language.specs.Syntax
@@ -26,9 +25,6 @@ use Rattle.language.proofs.Ordered.{rising-nil, rising-cons, rising-head, rising
 use Rattle.language.proofs.Collected.{collect-append}
 use Rattle.language.proofs.Elements.{Before, walk, walk-in, in-walk, rising-walk, only}
 use Rattle.language.proofs.Entries.{variables, variables-grown, entries, placed, rising-placed, entry-made, made-entry, of_bare, of-form}
-
-pub true-false : {A : Type 0} → true ≡ false → A
-true-false e = let z : ◌≡◌ {A = ℕ} 0 1 = cc in absurd (omega arith)
 
 -- ---- declarations: a name's number is its place in the table
 
@@ -92,12 +88,12 @@ same_name f g xs d e a b h =
 
 not-both : (s : Sort) (d e : Spans) → as_discrete s ≡ Some d → as_continuous s ≡ Some e → ⊥
 unfolding as_discrete as_continuous
-not-both Syntax.index d e h k = none-some h
-not-both (Syntax.integer x) d e h k = none-some h
-not-both (Syntax.real x) d e h k = none-some h
-not-both (Syntax.formula x) d e h k = none-some h
-not-both (Syntax.discrete x) d e h k = none-some k
-not-both (Syntax.continuous x) d e h k = none-some h
+not-both Syntax.index d e h k = cc
+not-both (Syntax.integer x) d e h k = cc
+not-both (Syntax.real x) d e h k = cc
+not-both (Syntax.formula x) d e h k = cc
+not-both (Syntax.discrete x) d e h k = cc
+not-both (Syntax.continuous x) d e h k = cc
 
 module _ (m : Model) where
   abbrev all_declared : List Declaration
@@ -231,7 +227,7 @@ in-keep {A} p (b ∷ l) a h t = go (p b) refl (in-cons b l a h) (λ k. in-keep p
     go : (s : Bool) → p b ≡ s → (b ≡ a) ⊎ In l a → (In l a → In (keep p l) a) → In (elim s [ true ↦ b ∷ keep p l | false ↦ keep p l ]) a
     go true e (inl k) ih = record { place = 0; at = k }
     go true e (inr k) ih = in-later b (keep p l) a (ih k)
-    go false e (inl k) ih = true-false (sym t ∙ sym (ap p k) ∙ e)
+    go false e (inl k) ih = cc (sym t ∙ sym (ap p k) ∙ e)
     go false e (inr k) ih = ih k
 
 pub keep-in : {A : Type 0} (p : A → Bool) (l : List A) (a : A) → In (keep p l) a → In l a × (p a ≡ true)
@@ -263,7 +259,7 @@ form-row vs (bare n d fs p) r g s f e k = absurd k
 form-row vs (form h) r g s f e k = ap is_row (of-form vs h r g s f e).fact-is
 
 pub row-form : (vs : List Variable) (d : Side) (r : Relation) (g : _) (s : Scope) (f : Fact) → fact_of vs d r g s ≡ done f → is_row f ≡ true → IsForm d
-row-form vs (bare n d fs p) r g s f e k = true-false (sym k ∙ ap is_row (of_bare vs n d fs p r g s f e).fact-is)
+row-form vs (bare n d fs p) r g s f e k = cc (sym k ∙ ap is_row (of_bare vs n d fs p r g s f e).fact-is)
 row-form vs (form h) r g s f e k = tt
 
 abbrev pub rows_of : List Entry → List Entry
@@ -277,12 +273,12 @@ in_rows es e h k = go (is_equal e.source.constraint.relation) refl
     go false i = in_left (keep less_row es) (keep equal_row es) e (in-keep less_row es e h (ap (λ t. cond t false (is_row e.fact)) i ∙ k))
 
 less-is : (t u : Bool) → cond t false u ≡ true → (t ≡ false) × (u ≡ true)
-less-is true u e = true-false (sym e)
+less-is true u e = cc
 less-is false u e = (refl, e)
 
 equal_is : (t u : Bool) → cond t u false ≡ true → (t ≡ true) × (u ≡ true)
 equal_is true u e = (refl, e)
-equal_is false u e = true-false (sym e)
+equal_is false u e = cc
 
 -- rows from `<=` and `>=`, and rows from `=`
 less-in : (es : List Entry) (e : Entry) → In (keep less_row es) e → In es e × (is_equal e.source.constraint.relation ≡ false) × (is_row e.fact ≡ true)
@@ -309,10 +305,10 @@ less-first es i e at = go (at-append (keep less_row es) (keep equal_row es) i e 
   where
     go : Split (keep less_row es) (keep equal_row es) i e → (i < length (keep less_row es)) ↔ (is_equal e.source.constraint.relation ≡ false)
     go (inl h) = (λ t. (less-in es e (record { place = i; at = h })).1, λ f. at_length (keep less_row es) i e h)
-    go (inr h) = (λ t. absurd (omega (arith, h.1)), λ f. true-false (sym (equal-in es e (record { place = h.0; at = h.2 })).1 ∙ f))
+    go (inr h) = (λ t. absurd (omega (arith, h.1)), λ f. cc (sym (equal-in es e (record { place = h.0; at = h.2 })).1 ∙ f))
 
 earlier-sources : (a b : Entry) → EarlierRow a b → source_of a ≡ source_of b → ⊥
-earlier-sources a b (Demand3.by_kind f t) e = true-false (sym t ∙ sym (ap (λ (o : Source). is_equal o.constraint.relation) e) ∙ f)
+earlier-sources a b (Demand3.by_kind f t) e = cc (sym t ∙ sym (ap (λ (o : Source). is_equal o.constraint.relation) e) ∙ f)
 earlier-sources a b (Demand3.by-text k n) e = omega (arith, ap (λ (o : Source). o.ordinal) e)
 earlier-sources a b (Demand3.by-element n p) e = not_itself b.source.element (subst (λ (o : Source). Precedes o.element b.source.element) e p)
 

@@ -33,7 +33,7 @@ sign-is t e = go (is_mark minus_sign t) refl (is_mark plus_sign t) refl e
     go : (m : Bool) → is_mark minus_sign t ≡ m → (p : Bool) → is_mark plus_sign t ≡ p → p || m ≡ true → t ≡ mark (sign_mark m) at t.place
     go true em p ep e = marked _ t em
     go false em true ep e = marked _ t ep
-    go false em false ep e = let z : ◌≡◌ {A = ℕ} 0 1 = cc in absurd (omega arith)
+    go false em false ep e = cc
 
 -- an optional sign
 pub data SignOf : Signed → List Token → Type 0 where

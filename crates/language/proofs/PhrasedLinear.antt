@@ -6,7 +6,6 @@ use mathlib.Core.Bool.{Bool, true, false, cond, ◌&&◌}
 use mathlib.Core.Logic.{◌↔◌}
 use mathlib.Core.List.{List, ◌∷◌, ◌++◌, append-nil}
 use Prim.Native.Nat.{ℕ, zero, suc}
-use native.Mathlib.Omega.{arith}
 use lib.Dec.{eqb}
 use borrow.Author.Tests.{eqb-true}
 use Rattle.rules.specs.Limits.{token_limit}
@@ -103,7 +102,7 @@ module _ (names : List Name) where
 
   plain-read : (n : ℕ) → Reads (plain_form names n) (λ x. Writes names (body x))
   unfolding plain_form
-  plain-read n = last _ (form-read (linear_term names no_sigma false n token_limit) false (term-read no_sigma false (λ p e. let z : ◌≡◌ {A = ℕ} 0 1 = cc in absurd (omega arith)) n token_limit)) (λ x l w. inner_form w)
+  plain-read n = last _ (form-read (linear_term names no_sigma false n token_limit) false (term-read no_sigma false (λ p e. cc) n token_limit)) (λ x l w. inner_form w)
 
   body-read : (S : ℕ → Reader Term) (n : ℕ) → ((p : ℕ) → Reads (S p) (λ t l. Writes names (sigma t) (mark sigma_word at p ∷ l))) → Reads (body_of names S n) (λ x. Writes names (body x))
   unfolding body_of
@@ -157,7 +156,7 @@ unfolding side_of side_of_term
 side-bare s f i d fs p = (of s f, λ h. rw (h.0, h.1))
   where
     of : (s : Bool) (f : Form) → side_of s f ≡ bare i d fs p → (s ≡ false) × (f ≡ also false (Syntax.variable i d fs p) Syntax.end)
-    of true f e = let z : ◌≡◌ {A = ℕ} 0 1 = cc in absurd (omega arith)
+    of true f e = cc
     of false Syntax.end e = (refl, cc)
     of false (also true t r) e = (refl, cc)
     of false (also false (factor g q t) r) e = (refl, cc)

@@ -97,11 +97,11 @@ texts m p f e =
 
 -- ---- lines
 
-right_of-valid : (f : Fact) → ValidFact f → Valid (right_of f)
+pub right_of-valid : (f : Fact) → ValidFact f → Valid (right_of f)
 right_of-valid (bound j v) h = zero-valid
 right_of-valid (row r v) h = h.1
 
-coefficients-valid : (f : Fact) → ValidFact f → ValidRow (coefficients_of f)
+pub coefficients-valid : (f : Fact) → ValidFact f → ValidRow (coefficients_of f)
 coefficients-valid (bound j v) h = tt
 coefficients-valid (row r v) h = h.0
 

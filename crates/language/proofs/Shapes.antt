@@ -87,13 +87,13 @@ front-some c b t e = rw (e, front) (omega arith)
 
 well-shaped : (l r : List ℕ) → well_shaped l r ≡ true → (1 ≤ length l) × (length l ≤ string_length)
 unfolding well_shaped
-well-shaped l [] e = let z : ◌≡◌ {A = ℕ} 0 1 = cc in absurd (omega arith)
+well-shaped l [] e = cc
 well-shaped l (b ∷ t) e = go (leb 1 (length l)) refl (leb (length l) string_length) refl e
   where
     go : (a : Bool) → leb 1 (length l) ≡ a → (c : Bool) → leb (length l) string_length ≡ c → (a && c) ≡ true → (1 ≤ length l) × (length l ≤ string_length)
     go true ea true ec e = (leb-true 1 (length l) ea, leb-true (length l) string_length ec)
-    go true ea false ec e = let z : ◌≡◌ {A = ℕ} 0 1 = cc in absurd (omega arith)
-    go false ea c ec e = let z : ◌≡◌ {A = ℕ} 0 1 = cc in absurd (omega arith)
+    go true ea false ec e = cc
+    go false ea c ec e = cc
 
 -- ---- one token
 
@@ -159,7 +159,7 @@ module _ (P : Value → Type 0) (fits : (l : List ℕ) (v : Value) → literal_o
     where
       go : (s : Bool) → in_string b ≡ s → ((All (λ b. in_string b ≡ true) t → Fine p e) → Fine p (strange (suc q) t e)) → Fine p (elim s as (λ _. Step) [ true ↦ strange (suc q) t e | false ↦ step (wrong StrangeByte) q 0 ])
       go true eb ih = ih (λ a. f (eb, a))
-      go false eb ih = record { shape = tt; low = h; here = λ z. let z' : ◌≡◌ {A = ℕ} 0 1 = cc in absurd (omega arith) }
+      go false eb ih = record { shape = tt; low = h; here = λ z. cc }
 
   string-fine : (p : ℕ) (l r : List ℕ) → Fine p (string_step p l r)
   unfolding string_step

@@ -6,7 +6,6 @@ use mathlib.Core.Bool.{Bool, true, false, ◌||◌}
 use mathlib.Core.Logic.{◌↔◌, ◌⊎◌, inl, inr}
 use mathlib.Core.List.{List, [], ◌∷◌, ◌++◌, append_assoc, append-nil}
 use Prim.Native.Nat.{ℕ, zero, suc}
-use native.Mathlib.Omega.{arith}
 use Rattle.lexer.specs.Marks.{opens, closes, opens_list, closes_list}
 use Rattle.lexer.specs.Text.{Token, mark, name, string}
 use Rattle.language.proofs.Outcome.{some-injective}
@@ -191,11 +190,11 @@ bracketed (in_brackets {d = d} {l = l} p w) = go d (spanned w) (level w)
 -- two of one domain: neither goes on behind the other
 no_longer : (d : Spans) (l k : List Token) (t : Token) (ts : List Token) → Bracketed d l → Bracketed d k → l ≡ k ++ (t ∷ ts) → ⊥
 unfolding closed
-no_longer point l k t ts a b e = let z : ◌≡◌ {A = ℕ} 0 1 = cc (ap (λ k. k ++ (t ∷ ts)) b) in omega arith
+no_longer point l k t ts a b e = cc (ap (λ k. k ++ (t ∷ ts)) b)
 no_longer (span i f g p d) l k t ts a b e =
     let x : a.1 ≡ b.1 ++ (t ∷ ts) = tail_of (sym a.2 ∙ e ∙ ap (λ k. k ++ (t ∷ ts)) b.2) in
     let y : Some (t ∷ ts) ≡ Some [] = sym (b.3.left 0 (t ∷ ts)) ∙ ap (cut 0) (sym x ∙ sym (append-nil a.1)) ∙ a.3.left 0 [] in
-    let z : ◌≡◌ {A = ℕ} 0 1 = cc in omega arith
+    cc
   where
     tail_of : {a b : Token} {l k : List Token} → a ∷ l ≡ b ∷ k → l ≡ k
     tail_of e = cc
@@ -249,7 +248,7 @@ module _ (names : List Name) where
 
   no_name_lem : (l : List Token) → first l ≡ None → Alone l → ⊥
   unfolding first name_of
-  no_name_lem l e a = let x = ap first a.is in let z : ◌≡◌ {A = ℕ} 0 1 = cc in omega arith
+  no_name_lem l e a = let x = ap first a.is in cc
 
   plain-name : (s : List ℕ) (p j : ℕ) (b : Sort) (ts : List Token) → Means names s j b → Plain b → Alone (name s at p ∷ ts) → ⊥
   unfolding first name_of

@@ -13,7 +13,7 @@ use Rattle.value.specs.declared.Value.{Value}
 use Rattle.language.specs.Listed.{At, In, Distinct}
 use Rattle.language.proofs.Listed.{at-unique}
 use Rattle.language.specs.Outcome.{done}
-use Rattle.language.proofs.Outcome.{none-some, some-injective}
+use Rattle.language.proofs.Outcome.{some-injective}
 use Rattle.language.specs.Scope.{Scope}
 use Rattle.language.specs.Syntax.{Formula, Relation, at_most, at_least, equal, between, Side, bare, form}
 use Rattle.language.specs.Written.{value, subscripts, scope_at}
@@ -39,8 +39,8 @@ module _ (vs : List Variable) (r : Relation) (g : Formula) (s : Scope) (f : Fact
 
       go : (t : Bool) → eqb o.number j ≡ t → cond t (Some o.stated) None ≡ Some u → (named ≡ v) × (value g s ≡ exactly u)
       go true t c = (at-unique vs j named v (subst (λ i. At vs i named) (eqb-true o.number j t) o.at) at, o.right ∙ ap exactly (some-injective c))
-      go false t c = absurd (none-some c)
-  bound-names (form h) e j u v b at = absurd (none-some (sym (ap (λ f. bound_at f j) (of-form vs h r g s f e).fact-is) ∙ b))
+      go false t c = cc
+  bound-names (form h) e j u v b at = cc (sym (ap (λ f. bound_at f j) (of-form vs h r g s f e).fact-is) ∙ b)
 
   -- and a left side that names a variable is a bound on it
   pub record Bound (v : Variable) : Type 0 where
@@ -88,7 +88,7 @@ lowers = record { says = says; said = said }
     floor-read h s f w j t u (v, is, same) e b = record { bound = t; here = b; is = λ q k. sym same ∙ ap exactly (some-injective (sym is ∙ e)) }
 
     says : (r : Relation) (s : Scope) (f : Fact) (w : Option Value) (j : ℕ) (u : Value) → FloorIs r s w → lower_at r f w j ≡ Some u → Lower r × Read (lower_by r s) f j u
-    says at_most s f w j u k e = absurd (none-some e)
+    says at_most s f w j u k e = cc
     says at_least s f w j u k e = (tt, right-read f j u e)
     says equal s f w j u k e = (tt, right-read f j u e)
     says (between h) s f w j u k e = let b = floor-bound f w j u e in (tt, floor-read h s f w j b.0 u k b.2 b.1)
@@ -112,7 +112,7 @@ uppers = record { says = λ r s f w j u k e. says r f j u e; said = λ r s f w j
   where
     says : (r : Relation) (f : Fact) (j : ℕ) (u : Value) → upper_at r f j ≡ Some u → Upper r × Read (λ q. q) f j u
     says at_most f j u e = (tt, right-read f j u e)
-    says at_least f j u e = absurd (none-some e)
+    says at_least f j u e = cc
     says equal f j u e = (tt, right-read f j u e)
     says (between h) f j u e = (tt, right-read f j u e)
 

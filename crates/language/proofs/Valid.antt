@@ -21,7 +21,7 @@ use Rattle.language.proofs.Ranges.{in-range}
 use Rattle.language.specs.All.{All}
 use Rattle.language.proofs.All.{in_all}
 use Rattle.language.specs.Outcome.{Outcome, done}
-use Rattle.language.proofs.Outcome.{after, after-some, after-whole, some_of, fits-of, done-injective, some-injective, none-some}
+use Rattle.language.proofs.Outcome.{after, after-some, after-whole, some_of, fits-of, done-injective, some-injective}
 use Rattle.language.specs.Scope.{Binding, Scope, bind, unbound, bound_to}
 use Rattle.language.specs.Syntax.{Formula, Formulas, Spans, datum, minus, plus, times, sum, point, span}
 use Rattle.language.specs.Syntax
@@ -39,7 +39,7 @@ small-whole v k h e = go (eqb v.s 0) e
   where
     go : (t : Bool) → cond t (Some v.m) None ≡ Some k → Small k
     go true e = let same : v.m ≡ k = cc in subst Small same h.small
-    go false e = let z : ◌≡◌ {A = ℕ} 0 1 = cc in absurd (omega arith)
+    go false e = cc
 
 -- ---- rounded values
 
@@ -91,7 +91,7 @@ each_keeps P f keeps (k ∷ ks) a b h pa e =
 
 pub bound-small : (i : ℕ) (l : List Binding) (k : ℤ) → All SmallBinding l → bound_to i l ≡ Some k → Small k
 unfolding bound_to
-bound-small i [] k h e = absurd (none-some e)
+bound-small i [] k h e = cc
 bound-small i (b ∷ l) k h e = go (eqb i b.name) e (bound-small i l k h.1)
   where
     go : (t : Bool) → ◌≡◌ {A = Option ℤ} (elim t [ true ↦ Some b.at | false ↦ bound_to i l ]) (Some k) → (bound_to i l ≡ Some k → Small k) → Small k

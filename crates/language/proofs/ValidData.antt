@@ -17,7 +17,7 @@ use Rattle.value.proofs.Integers.{nat_abs-neg}
 use Rattle.value.proofs.Operations.{negate-valid}
 use Rattle.language.specs.All.{All}
 use Rattle.language.specs.Outcome.{Outcome, done, refused}
-use Rattle.language.proofs.Outcome.{done-injective, refused-done, some-injective, none-some}
+use Rattle.language.proofs.Outcome.{done-injective, some-injective}
 use Rattle.language.specs.Syntax.{Name, Sort, Spans, point, span}
 use Rattle.language.specs.Syntax
 use Rattle.language.specs.Reader.{Read, Reader, ◌>>=◌, give, refuse, lift, passed, next, look, is_mark, is_name, demand, require, expect, bracket, read_string, Used, find, found, known, read_known, read_index}
@@ -54,7 +54,7 @@ module _ {A : Type 0} {Q : A → Type 0} where
   given {a} q = record { gives = λ ts r h e. subst (Got Q) (done-injective e) (record { what = q; rest = h }) }
 
   refusing : {n : Refusal} {p : ℕ} → Gives (refuse {A = A} n p) Q
-  refusing = record { gives = λ ts r h e. absurd (refused-done e) }
+  refusing = record { gives = λ ts r h e. cc }
 
   lifted : (o : Outcome A) → ((a : A) → o ≡ done a → Q a) → Gives (lift o) Q
   lifted (done a) q = given (q a refl)
@@ -87,14 +87,14 @@ passed-valid (Text.name l) t ts r ht h e = subst (Got ValidToken) (done-injectiv
 passed-valid (Text.literal w v) t ts r ht h e = subst (Got ValidToken) (done-injective e) (record { what = ht; rest = h })
 passed-valid (Text.string l) t ts r ht h e = subst (Got ValidToken) (done-injective e) (record { what = ht; rest = h })
 passed-valid Text.end t ts r ht h e = subst (Got ValidToken) (done-injective e) (record { what = ht; rest = h })
-passed-valid (Text.wrong n) t ts r ht h e = absurd (refused-done e)
+passed-valid (Text.wrong n) t ts r ht h e = cc
 
 next-valid : Gives next ValidToken
 unfolding next
 next-valid = record { gives = go }
   where
     go : (ts : List Token) (r : Read Token) → ValidTokens ts → next ts ≡ done r → Got ValidToken r
-    go [] r h e = absurd (refused-done e)
+    go [] r h e = cc
     go (t ∷ ts) r h e = passed-valid t.kind t ts r h.0 h.1 e
 
 look-valid : Gives look ValidToken
@@ -102,7 +102,7 @@ unfolding look
 look-valid = record { gives = go }
   where
     go : (ts : List Token) (r : Read Token) → ValidTokens ts → look ts ≡ done r → Got ValidToken r
-    go [] r h e = absurd (refused-done e)
+    go [] r h e = cc
     go (t ∷ ts) r h e = passed-valid t.kind t (t ∷ ts) r h.0 h e
 
 required : (t : Bool) (n : Refusal) (p : ℕ) → Gives (require t n p) Any
@@ -129,7 +129,7 @@ UsedLiterals u = AllSort Valid u.sort
 module _ (names : List Name) (table : AllNames Valid names) where
   found-valid : (l : List ℕ) (xs : List Name) (i p : ℕ) (u : Used) → AllNames Valid xs → find l xs i p ≡ Some u → UsedLiterals u
   unfolding find
-  found-valid l [] i p u h e = absurd (none-some e)
+  found-valid l [] i p u h e = cc
   found-valid l (x ∷ xs) i p u h e = go (same_bytes l x.spelling) e (found-valid l xs (suc i) p u h.1)
     where
       go : (t : Bool) → ◌≡◌ {A = Option Used} (elim t [ true ↦ Some (record { number = i; sort = x.sort; place = p }) | false ↦ find l xs (suc i) p ]) (Some u)
@@ -161,13 +161,13 @@ SmallEntry (marked i) = Unit
 
 digits-small : (k : Kind) (z : ℤ) → Shaped Valid k → digits_of k ≡ Some z → Small z
 unfolding digits_of
-digits-small (Text.mark c) z h e = absurd (none-some e)
-digits-small (Text.name l) z h e = absurd (none-some e)
+digits-small (Text.mark c) z h e = cc
+digits-small (Text.name l) z h e = cc
 digits-small (Text.literal true v) z h e = subst Small (some-injective e) h.small
-digits-small (Text.literal false v) z h e = absurd (none-some e)
-digits-small (Text.string l) z h e = absurd (none-some e)
-digits-small Text.end z h e = absurd (none-some e)
-digits-small (Text.wrong r) z h e = absurd (none-some e)
+digits-small (Text.literal false v) z h e = cc
+digits-small (Text.string l) z h e = cc
+digits-small Text.end z h e = cc
+digits-small (Text.wrong r) z h e = cc
 
 pub with_minus-small : (m : Bool) (k : ℤ) → Small k → Small (with_minus m k)
 with_minus-small true k h = rw (nat_abs-neg k) h
@@ -224,12 +224,12 @@ bound_of-small (marked i ∷ es) h = (tt, bound_of-small es h.1)
 
 value_of-valid : (k : Kind) (v : Value) → Shaped Valid k → value_of k ≡ Some v → Valid v
 unfolding value_of
-value_of-valid (Text.mark c) v h e = absurd (none-some e)
-value_of-valid (Text.name l) v h e = absurd (none-some e)
+value_of-valid (Text.mark c) v h e = cc
+value_of-valid (Text.name l) v h e = cc
 value_of-valid (Text.literal w u) v h e = subst Valid (some-injective e) h
-value_of-valid (Text.string l) v h e = absurd (none-some e)
-value_of-valid Text.end v h e = absurd (none-some e)
-value_of-valid (Text.wrong r) v h e = absurd (none-some e)
+value_of-valid (Text.string l) v h e = cc
+value_of-valid Text.end v h e = cc
+value_of-valid (Text.wrong r) v h e = cc
 
 pub signed_value-valid : (m : Bool) (v : Value) → Valid v → Valid (signed_value m v)
 signed_value-valid true v h = negate-valid v h
@@ -264,12 +264,12 @@ PortionLiterals x = AllSpans Valid x.domain
 
 portion_by-valid : (i p : ℕ) (s : Sort) (x : Portion) → AllSort Valid s → portion_by i p s ≡ Some x → PortionLiterals x
 unfolding portion_by
-portion_by-valid i p Syntax.index x h e = absurd (none-some e)
+portion_by-valid i p Syntax.index x h e = cc
 portion_by-valid i p (Syntax.integer d) x h e = subst PortionLiterals (some-injective e) h
 portion_by-valid i p (Syntax.real d) x h e = subst PortionLiterals (some-injective e) h
-portion_by-valid i p (Syntax.formula f) x h e = absurd (none-some e)
-portion_by-valid i p (Syntax.discrete d) x h e = absurd (none-some e)
-portion_by-valid i p (Syntax.continuous d) x h e = absurd (none-some e)
+portion_by-valid i p (Syntax.formula f) x h e = cc
+portion_by-valid i p (Syntax.discrete d) x h e = cc
+portion_by-valid i p (Syntax.continuous d) x h e = cc
 
 -- ---- the data section
 

@@ -18,7 +18,7 @@ use Rattle.value.proofs.Operations.{sum-valid, negate-valid, zero-valid}
 use Rattle.language.specs.All.{All}
 use Rattle.language.proofs.All.{all-with, all_set, all_replicate, all_map}
 use Rattle.language.specs.Outcome.{done}
-use Rattle.language.proofs.Outcome.{check-of, after, after-fits, after_check, done-injective, some-injective, none-some}
+use Rattle.language.proofs.Outcome.{check-of, after, after-fits, after_check, done-injective, some-injective}
 use Rattle.language.specs.Scope.{Scope, bind}
 use Rattle.language.specs.Syntax.{Name, Sort, Spans, Form, Term, also, factor, variable, sigma, Formula, Constraint, Relation, at_most, at_least, equal, between, Side, bare, form}
 use Rattle.language.specs.Syntax
@@ -49,20 +49,20 @@ declared-literals f from i (x ∷ xs) h = go (f x.sort) refl (declared-literals 
 
 discrete-literals : (s : Sort) (d : Spans) → AllSort Valid s → as_discrete s ≡ Some d → AllSpans Valid d
 unfolding as_discrete
-discrete-literals Syntax.index d h e = absurd (none-some e)
-discrete-literals (Syntax.integer c) d h e = absurd (none-some e)
-discrete-literals (Syntax.real c) d h e = absurd (none-some e)
-discrete-literals (Syntax.formula f) d h e = absurd (none-some e)
+discrete-literals Syntax.index d h e = cc
+discrete-literals (Syntax.integer c) d h e = cc
+discrete-literals (Syntax.real c) d h e = cc
+discrete-literals (Syntax.formula f) d h e = cc
 discrete-literals (Syntax.discrete c) d h e = subst (AllSpans Valid) (some-injective e) h
-discrete-literals (Syntax.continuous c) d h e = absurd (none-some e)
+discrete-literals (Syntax.continuous c) d h e = cc
 
 continuous-literals : (s : Sort) (d : Spans) → AllSort Valid s → as_continuous s ≡ Some d → AllSpans Valid d
 unfolding as_continuous
-continuous-literals Syntax.index d h e = absurd (none-some e)
-continuous-literals (Syntax.integer c) d h e = absurd (none-some e)
-continuous-literals (Syntax.real c) d h e = absurd (none-some e)
-continuous-literals (Syntax.formula f) d h e = absurd (none-some e)
-continuous-literals (Syntax.discrete c) d h e = absurd (none-some e)
+continuous-literals Syntax.index d h e = cc
+continuous-literals (Syntax.integer c) d h e = cc
+continuous-literals (Syntax.real c) d h e = cc
+continuous-literals (Syntax.formula f) d h e = cc
+continuous-literals (Syntax.discrete c) d h e = cc
 continuous-literals (Syntax.continuous c) d h e = subst (AllSpans Valid) (some-injective e) h
 
 -- ---- bounds
@@ -100,18 +100,18 @@ bound_at-valid (bound i w) j v h e = go (eqb i j) e
   where
     go : (t : Bool) → cond t (Some w) None ≡ Some v → Valid v
     go true e = subst Valid (some-injective e) h
-    go false e = absurd (none-some e)
-bound_at-valid (row r w) j v h e = absurd (none-some e)
+    go false e = cc
+bound_at-valid (row r w) j v h e = cc
 
 lower_at-valid : (r : Relation) (f : Fact) (w : Option Value) (j : ℕ) (v : Value) → ValidFact f → ValidIfAny w → lower_at r f w j ≡ Some v → Valid v
-lower_at-valid at_most f w j v h k e = absurd (none-some e)
+lower_at-valid at_most f w j v h k e = cc
 lower_at-valid at_least f w j v h k e = bound_at-valid f j v h e
 lower_at-valid equal f w j v h k e = bound_at-valid f j v h e
 lower_at-valid (between g) f w j v h k e = subst ValidIfAny (floor-bound f w j v e).2 k
 
 upper_at-valid : (r : Relation) (f : Fact) (j : ℕ) (v : Value) → ValidFact f → upper_at r f j ≡ Some v → Valid v
 upper_at-valid at_most f j v h e = bound_at-valid f j v h e
-upper_at-valid at_least f j v h e = absurd (none-some e)
+upper_at-valid at_least f j v h e = cc
 upper_at-valid equal f j v h e = bound_at-valid f j v h e
 upper_at-valid (between g) f j v h e = bound_at-valid f j v h e
 

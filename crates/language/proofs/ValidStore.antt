@@ -14,7 +14,7 @@ use Rattle.value.specs.Decimal.{Valid}
 use Rattle.value.proofs.Operations.{zero-valid}
 use Rattle.language.specs.All.{All}
 use Rattle.language.specs.Outcome.{done}
-use Rattle.language.proofs.Outcome.{after, after_check, done-injective, some-injective, none-some}
+use Rattle.language.proofs.Outcome.{after, after_check, done-injective, some-injective}
 use Rattle.language.specs.Syntax.{Spans, point, span}
 use Rattle.language.specs.Scope.{Scope, same_element}
 use Rattle.language.specs.Evaluation.{limits_of, eval, within, is_none}
@@ -25,7 +25,7 @@ use Rattle.language.proofs.Valid.{bind-valid, run-valid}
 
 stored-valid : (st : Store) (i : ℕ) (e : List ℤ) (v : Value) → ValidStore st → stored st i e ≡ Some v → Valid v
 unfolding stored
-stored-valid [] i e v h k = absurd (none-some k)
+stored-valid [] i e v h k = cc
 stored-valid (x ∷ st) i e v h k = go (eqb x.name i && same_element x.element e) k (stored-valid st i e v h.1)
   where
     go : (t : Bool) → ◌≡◌ {A = Option Value} (elim t [ true ↦ Some x.value | false ↦ stored st i e ]) (Some v) → (stored st i e ≡ Some v → Valid v) → Valid v

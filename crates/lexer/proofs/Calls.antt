@@ -19,7 +19,6 @@ use Rattle.lexer.specs.declared.Cursor.{Cursor}
 use Rattle.lexer.specs.declared.Read.{Read}
 use Rattle.lexer.specs.declared.Source.{Source}
 use Rattle.lexer.specs.View.{kind_of, Part, Within, is_last, Reads, coming_at, start_of, Turns}
-use Rattle.lexer.proofs.Runs.{true-false}
 
 -- ---- a token without the definition
 
@@ -95,7 +94,7 @@ module _ (t : Text.Token) (ts : List Text.Token) where
 
 counts-on : (c f : Bool) → (not c || f) ≡ false → (c ≡ true) × (f ≡ false)
 counts-on true f e = (refl, e)
-counts-on false f e = true-false e
+counts-on false f e = cc
 
 module _ (s : List ℕ) (self : Source) (r : Read Cursor) (f : Bool) where
   pub turn-free : Reads s self.at r → f ≡ uncounted (kind_of [] r.token) → (not self.counts || f) ≡ true
@@ -120,9 +119,9 @@ module _ (s : List ℕ) (self : Source) (r : Read Cursor) (f : Bool) where
         placed = record {
           low = w.placed.low;
           high = w.placed.high;
-          ends = λ q. true-false (let b : wrong Full ≡ end = q in cc);
-          inside = λ _. w.placed.inside (λ q. true-false (sym (ap uncounted q) ∙ u));
-          moves = λ q. true-false q;
+          ends = λ q. cc;
+          inside = λ _. w.placed.inside (λ q. cc (sym (ap uncounted q) ∙ u));
+          moves = λ q. cc;
         };
       }
 

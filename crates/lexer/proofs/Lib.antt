@@ -1,3 +1,4 @@
+pub mod Marks
 mod Runs
 pub mod Same
 mod Words

@@ -1,7 +1,7 @@
 -- What a literal token is worth, for every spelling: the decimal, or the decimal times the power of ten behind it.
 use Rattle.std.specs.Prelude.{Some}
 use mathlib.Core.Path.{◌≡◌, refl, ap}
-use mathlib.Core.Bool.{Bool, true, false, cond, ◌&&◌, ◌||◌}
+use mathlib.Core.Bool.{Bool, true, false, cond, ◌||◌}
 use mathlib.Core.List.{List, [], ◌∷◌, append-nil}
 use Prim.Native.Nat.{ℕ, zero, suc, ◌+◌, ◌≤◌}
 use native.Mathlib.Omega.{arith}
@@ -14,8 +14,9 @@ use Rattle.rules.specs.Limits.{power_digits}
 use Rattle.value.specs.Decimal.{fit_of}
 use Rattle.value.specs.Literal.{is_digit, all_digits, number_from, is_decimal, decimal_number, power_by, power_of, scaled_by}
 use Rattle.value.proofs.Powers.{literal-decimal, literal-power}
+use Rattle.value.proofs.Ranges.{and-true, and-false}
 use Rattle.lexer.specs.Text.{front, literal_kind, valued, sign_length, power_size, power_length, powered}
-use Rattle.lexer.proofs.Runs.{true-false, front_length}
+use Rattle.lexer.proofs.Runs.{front_length}
 
 -- ---- the power behind a decimal is one that is read
 
@@ -98,8 +99,8 @@ module _ (c : ℕ) (t : List ℕ) (m : ℕ) (h : 1 ≤ m) (g : m ≤ 2) where
       none = omega arith
 
       go : (u : Bool) → eqb c 45 ≡ u → (w : Bool) → eqb c 43 ≡ w → m ≤ length (front is_digit (drop (cond (w || u) 1 0) (c ∷ t))) → Reads (take (cond (w || u) 1 0 + m) (c ∷ t))
-      go true p true q k = rw one (signed-read true p (λ e. true-false e) k)
-      go true p false q k = rw one (signed-read true p (λ e. true-false e) k)
+      go true p true q k = rw one (signed-read true p (λ e. cc) k)
+      go true p false q k = rw one (signed-read true p (λ e. cc) k)
       go false p true q k = rw one (signed-read false p (λ e. q) k)
       go false p false q k = rw none (plain-read p q k)
 
@@ -136,11 +137,7 @@ module _ (w : Bool) (p : ℕ) (l r : List ℕ) (h : is_decimal l ≡ true) where
   -- a decimal with no power behind it
   pub decimal-token : power_length r ≡ 0 → (powered w p l r).token.kind ≡ literal_kind w (fit_of (decimal_number l))
   unfolding powered valued
-  decimal-token e = rw (e, append-nil l, literal-decimal l h) (ap (λ (u : Bool). literal_kind u (fit_of (decimal_number l))) (go w))
-    where
-      go : (w : Bool) → (w && true) ≡ w
-      go true = refl
-      go false = refl
+  decimal-token e = rw (e, append-nil l, literal-decimal l h) (ap (λ (u : Bool). literal_kind u (fit_of (decimal_number l))) (and-true w))
 
   -- a decimal and a power: their product, and no longer digits only
   pub power-token : (f : power_length r ≡ 0 → ⊥) → (powered w p l r).token.kind ≡ literal_kind false (fit_of (scaled_by (power_at r f).power (decimal_number l)))
@@ -148,8 +145,4 @@ module _ (w : Bool) (p : ℕ) (l r : List ℕ) (h : is_decimal l ≡ true) where
   power-token f =
       let q = power_at r f in
       rw (ne_eqb (power_length r) 0 f, q.taken, literal-power q.bytes l q.power h q.read)
-      (ap (λ (u : Bool). literal_kind u (fit_of (scaled_by q.power (decimal_number l)))) (go w))
-    where
-      go : (w : Bool) → (w && false) ≡ false
-      go true = refl
-      go false = refl
+      (ap (λ (u : Bool). literal_kind u (fit_of (scaled_by q.power (decimal_number l)))) (and-false w))

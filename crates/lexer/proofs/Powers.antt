@@ -17,7 +17,7 @@ use Rattle.lexer.specs.Text.{literal_kind, valued, sign_length, power_size, powe
 use Rattle.lexer.specs.Inner.{RunLength, SignLength, PowerLength, Gives, found_of}
 use Rattle.lexer.specs.View.{part_of}
 use Rattle.lexer.specs.declared.Found.{Found}
-use Rattle.lexer.proofs.Runs.{drop_here}
+use Rattle.std.proofs.lemmas.List.{drop_more}
 
 -- ---- a sign
 
@@ -43,7 +43,7 @@ power-out s at h = record { count = rw (drop_of_length-le s {i = at} h); bound =
 
 pub power-other : (s : List ℕ) (at b : ℕ) → at < length s → b ≡ get_or s at 0 → (b ≡ 69 → ⊥) → PowerLength s at 0
 unfolding power_length
-power-other s at b h e f = record { count = rw (drop_here s at h, ne_eqb (get_or s at 0) 69 (λ z. f (e ∙ z))); bound = omega arith }
+power-other s at b h e f = record { count = rw (drop_more s at 0 h, ne_eqb (get_or s at 0) 69 (λ z. f (e ∙ z))); bound = omega arith }
 
 module _ (g n : ℕ) where
   pub size-long : 2 < n → 1 + g + 2 ≡ power_size g n
@@ -81,7 +81,7 @@ pub power-here : (s : List ℕ) (at b g n r : ℕ) → at < length s → b ≡ g
 unfolding power_length
 power-here s at b g n r h e f w c q =
     record {
-      count = q ∙ sym (rw (drop_here s at h, eq-eqb (get_or s at 0) 69 (sym e ∙ f), ← w.count, drop-drop g (at + 1) s, ← c.count));
+      count = q ∙ sym (rw (drop_more s at 0 h, eq-eqb (get_or s at 0) 69 (sym e ∙ f), ← w.count, drop-drop g (at + 1) s, ← c.count));
       bound = rw q (size-most g n (length s - at) (omega (arith, c.bound)));
     }
 

@@ -4,28 +4,22 @@ use mathlib.Core.Bool.{Bool, true, false}
 use mathlib.Core.List.{List, [], ◌∷◌}
 use Prim.Native.Nat.{ℕ, suc, ◌+◌, ◌-◌, ◌<◌, ◌≤◌}
 use native.Mathlib.Omega.{arith}
-use native.Mathlib.Numerals.{add-one}
 use lib.ListN.{length, get_or, take, drop, drop_of_length-le, length-drop}
-use lib.Seq.{drop-cons, drop-drop}
+use lib.Seq.{drop-drop}
+use Rattle.std.proofs.lemmas.List.{drop_more}
 use Rattle.lexer.specs.Text.{no_brace, front, behind}
 use Rattle.lexer.specs.Inner.{RunLength}
-
-pub true-false : {A : Type 0} → ◌≡◌ {A = Bool} true false → A
-true-false e = absurd (let z : ◌≡◌ {A = ℕ} 0 1 = cc in omega arith)
-
-pub drop_here : (s : List ℕ) (i : ℕ) → i < length s → drop i s ≡ get_or s i 0 ∷ drop (i + 1) s
-drop_here s i h = rw (add-one i, drop-cons s i 0)
 
 -- ---- fronts
 
 module _ (c : ℕ → Bool) where
   more : (s : List ℕ) (i : ℕ) → i < length s → c (get_or s i 0) ≡ true → length (front c (drop i s)) ≡ suc (length (front c (drop (i + 1) s)))
   unfolding front
-  more s i h e = rw (drop_here s i h) (rw (e, front))
+  more s i h e = rw (drop_more s i 0 h) (rw (e, front))
 
   stop : (s : List ℕ) (i : ℕ) → i < length s → c (get_or s i 0) ≡ false → length (front c (drop i s)) ≡ 0
   unfolding front
-  stop s i h e = rw (drop_here s i h) (rw (e, front))
+  stop s i h e = rw (drop_more s i 0 h) (rw (e, front))
 
   pub front_out : (s : List ℕ) (i : ℕ) → length s ≤ i → front c (drop i s) ≡ []
   unfolding front

@@ -16,7 +16,7 @@ use Rattle.value.specs.Literal.{is_digit, literal_of}
 use Rattle.lexer.specs.Marks.{Word, at_most, at_least}
 use Rattle.lexer.specs.Text.{Kind, mark, name, string, wrong, same_bytes, among, Step, step, is_wrong, is_small, is_capital, is_sign, in_name, in_string, no_brace, front, behind, pointed, literal_kind, valued, power_length, powered, name_step, word_step, literal_step, strange, well_shaped, string_step, order_step, step_at}
 use Rattle.lexer.specs.View.{is_last}
-use Rattle.lexer.proofs.Runs.{true-false, front_length, front-first, behind-drop}
+use Rattle.lexer.proofs.Runs.{front_length, front-first, behind-drop}
 
 -- a token that is last is a refused one
 abbrev pub Proper : Kind → Type 0
@@ -40,7 +40,7 @@ within l k p n q h g = record { most = omega arith; low = omega arith; high = om
 
 refused : (p : ℕ) (l : List ℕ) (r : Refusal) (q : ℕ) → p ≤ q → q < p + length l → Sized p l (step (wrong r) q 0)
 unfolding is_wrong
-refused p l r q h g = record { most = omega arith; low = h; high = g; last = refl; good = λ e. true-false e }
+refused p l r q h g = record { most = omega arith; low = h; high = g; last = refl; good = λ e. cc }
 
 refused-here : (p b : ℕ) (t : List ℕ) (r : Refusal) → Sized p (b ∷ t) (step (wrong r) p 0)
 refused-here p b t r = refused p (b ∷ t) r p (omega arith) (omega arith)
@@ -119,7 +119,7 @@ string-sized p b t =
   where
     go : (r : List ℕ) → r ≡ drop (length (front no_brace t)) t
         → Sized p (b ∷ t) (step (cond (well_shaped (front no_brace t) r) (string (front no_brace t)) (wrong Misplaced)) p (length (front no_brace t) + 2))
-    go [] e = record { most = omega (arith, front_length no_brace t); low = omega arith; high = omega arith; last = refl; good = λ z. true-false z }
+    go [] e = record { most = omega (arith, front_length no_brace t); low = omega arith; high = omega arith; last = refl; good = λ z. cc }
     go (c ∷ r) e =
         let h : suc (length r) ≡ length t - length (front no_brace t) = ap length e ∙ length-drop (length (front no_brace t)) t in
         within (b ∷ t) _ p _ (string-proper (leb 1 (length (front no_brace t)) && leb (length (front no_brace t)) string_length) (front no_brace t))
@@ -130,8 +130,8 @@ string-sized p b t =
 -- a point and a digit are two bytes
 two : (r : List ℕ) → pointed r ≡ true → 2 ≤ length r
 unfolding pointed
-two [] e = true-false (sym e)
-two (b ∷ []) e = true-false (sym e)
+two [] e = cc
+two (b ∷ []) e = cc
 two (b ∷ c ∷ r) e = omega arith
 
 literal-first : (b : ℕ) (t : List ℕ) → (is_digit b || pointed (b ∷ t)) ≡ true → pointed (behind is_digit (b ∷ t)) ≡ false → 1 ≤ length (front is_digit (b ∷ t))
@@ -141,7 +141,7 @@ literal-first b t e h = digit (is_digit b) refl e h
     digit : (u : Bool) → is_digit b ≡ u → (u || pointed (b ∷ t)) ≡ true
         → pointed (elim u as (λ _. List ℕ) [ true ↦ behind is_digit t | false ↦ b ∷ t ]) ≡ false → 1 ≤ length (front is_digit (b ∷ t))
     digit true d a h = front-first is_digit b t d
-    digit false d a h = true-false (sym a ∙ h)
+    digit false d a h = cc (sym a ∙ h)
 
 valued-sized : (w : Bool) (p : ℕ) (l m : List ℕ) → 1 ≤ length m → length m ≤ length l → Sized p l (valued w p m)
 unfolding valued

@@ -12,7 +12,7 @@ use Rattle.lexer.specs.declared.Found.{Found}
 use Rattle.lexer.specs.declared.Token.TheVariants.{End}
 use Rattle.lexer.specs.View.{kind_of, is_last, Placed, Reads}
 use Rattle.lexer.specs.Inner.{RunLength, Gives}
-use Rattle.lexer.proofs.Runs.{true-false, drop_here}
+use Rattle.std.proofs.lemmas.List.{drop_more}
 use Rattle.lexer.proofs.Sizes.{step-sized}
 
 -- ---- the definition by positions
@@ -59,7 +59,7 @@ skip (b ∷ t) p = go (is_blank b) refl (skip t (suc p))
 -- and no blank comes after them
 no-blank : (l : List ℕ) (c : ℕ) (r : List ℕ) → drop (length (front is_blank l)) l ≡ c ∷ r → is_blank c ≡ false
 unfolding front
-no-blank [] c r e = absurd (let z : ◌≡◌ {A = ℕ} 0 1 = cc in omega arith)
+no-blank [] c r e = cc
 no-blank (b ∷ t) c r e = go (is_blank b) refl (no-blank t c r) e
   where
     go : (u : Bool) → is_blank b ≡ u → (drop (length (front is_blank t)) t ≡ c ∷ r → is_blank c ≡ false)
@@ -71,7 +71,7 @@ no-blank (b ∷ t) c r e = go (is_blank b) refl (no-blank t c r) e
 
 wrong-not-end : (k : Kind) → is_last k ≡ is_wrong k → k ≡ end → ⊥
 unfolding is_wrong
-wrong-not-end k h e = true-false (ap is_last (sym e) ∙ h ∙ ap is_wrong e)
+wrong-not-end k h e = cc (ap is_last (sym e) ∙ h ∙ ap is_wrong e)
 
 module _ (s : List ℕ) (at : ℕ) (f : Found) (h : at < length s) (v : Gives s f (step_at at (get_or s at 0) (drop (at + 1) s))) where
   size_is : f.size ≡ (step_at at (get_or s at 0) (drop (at + 1) s)).size
@@ -119,7 +119,7 @@ module _ (s : List ℕ) (from n : ℕ) (w : RunLength s from is_blank n) where
       high = omega (arith, w.bound);
       ends = λ _. omega (arith, w.bound);
       inside = λ f. absurd (f refl);
-      moves = λ e. true-false e;
+      moves = λ e. cc;
     };
   }
 
@@ -129,7 +129,7 @@ module _ (s : List ℕ) (from n : ℕ) (w : RunLength s from is_blank n) where
       let at = from + n in
       let b = get_or s (from + n) 0 in
       let t = drop (from + n + 1) s in
-      let d : drop (from + n) s ≡ b ∷ t = drop_here s (from + n) h in
+      let d : drop (from + n) s ≡ b ∷ t = drop_more s (from + n) 0 h in
       let blank : is_blank b ≡ false = no-blank (drop from s) b t (passed ∙ d) in
       let x : tokens_from from 0 (drop from s)
       ≡ (step_at at b t).token ∷ cond (is_last (step_at at b t).token.kind) [] (tokens_from (at + (step_at at b t).size) 0 (drop (at + (step_at at b t).size) s)) =

@@ -5,7 +5,6 @@ use mathlib.Core.Path.{◌≡◌, refl, sym, ◌∙◌, ap, subst}
 use mathlib.Core.Bool.{Bool, true, false, cond, ◌||◌}
 use mathlib.Core.List.{List, [], ◌∷◌, ◌++◌}
 use Prim.Native.Nat.{ℕ, zero, suc, ◌+◌, ◌-◌}
-use native.Mathlib.Omega.{arith}
 use native.Mathlib.Numerals.{add-one}
 use lib.Dec.{eqb, leb}
 use lib.ListN.{length, drop}
@@ -17,7 +16,6 @@ use Rattle.lexer.specs.Marks.{Word, at_most, at_least, capital_words, small_word
 use Rattle.lexer.specs.Text.{Kind, mark, name, literal, string, end, wrong, Token, Step, step, same_bytes, among, is_blank, is_small, is_capital, is_sign, in_name, in_string, no_brace, front, behind, pointed, literal_kind, valued, powered, name_step, word_step, literal_step, strange, well_shaped, string_step, order_step, step_at, is_wrong, tokens_from, uncounted, counted, tokens}
 use Rattle.lexer.specs.declared.Source.{Source}
 use Rattle.lexer.specs.View.{coming_at}
-use Rattle.lexer.proofs.Runs.{true-false}
 use Rattle.lexer.proofs.Sizes.{step-sized}
 
 -- ---- one token
@@ -35,7 +33,7 @@ abbrev Spells : List ℕ → Kind → Type 0
 Spells l k = (m : List ℕ) → k ≡ string m → l ≡ m
 
 plain : (l : List ℕ) (k : Kind) → is_string k ≡ false → Spells l k
-plain l k h m e = true-false (sym (ap is_string e) ∙ h)
+plain l k h m e = cc (sym (ap is_string e) ∙ h)
 
 among-plain : (ws : List Word) (l : List ℕ) (k : Kind) → is_string k ≡ false → is_string (among ws l k) ≡ false
 unfolding among
@@ -125,8 +123,8 @@ Each P [] = Unit {0}
 Each P (t ∷ ts) = P t × Each P ts
 
 pub each_at : (P : Token → Type 0) (l : List Token) → Each P l → (i : ℕ) (t : Token) (ts : List Token) → drop i l ≡ t ∷ ts → P t
-each_at P [] h zero t ts e = absurd (let z : ◌≡◌ {A = ℕ} 0 1 = cc in omega arith)
-each_at P [] h (suc i) t ts e = absurd (let z : ◌≡◌ {A = ℕ} 0 1 = cc in omega arith)
+each_at P [] h zero t ts e = cc
+each_at P [] h (suc i) t ts e = cc
 each_at P (x ∷ l) h zero t ts e = let q : x ≡ t = cc in subst P q h.0
 each_at P (x ∷ l) h (suc i) t ts e = each_at P l h.1 i t ts e
 

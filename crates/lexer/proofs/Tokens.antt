@@ -2,6 +2,7 @@
 use mathlib.Core.Path.{◌≡◌, refl, sym, ◌∙◌, ap, subst}
 use mathlib.Core.Bool.{Bool, true, false, cond, ◌&&◌, ◌||◌}
 use mathlib.Core.List.{List, [], ◌∷◌, ◌++◌}
+use Rattle.std.specs.Prelude.{Option, Some, None}
 use Prim.Native.Nat.{ℕ, zero, suc, ◌+◌, ◌-◌, ◌<◌, ◌≤◌}
 use native.Mathlib.Omega.{arith}
 use native.Mathlib.Numerals.{add-one}
@@ -12,55 +13,59 @@ use lib.Seq.{drop-drop, take-add}
 use Rattle.rules.specs.declared.Refusal.TheVariants.{StrangeByte, Misplaced, BadName}
 use Rattle.rules.specs.Limits.{name_length, string_length}
 use Rattle.value.specs.Literal.{is_digit}
+use Rattle.value.proofs.Ranges.{and-false}
+use Rattle.lexer.specs.declared.Mark.{Mark}
 use Rattle.lexer.specs.Marks.{capital_words, small_words}
+use Rattle.lexer.specs.Numbers.{number}
 use Rattle.lexer.specs.Text as Text
 use Rattle.lexer.specs.Text.{mark, name, string, wrong, is_small, is_capital, is_sign, in_name, in_string, no_brace, front, behind, pointed, step, powered, name_step, word_step, literal_step, strange, well_shaped, string_step, order_step, step_at}
 use Rattle.lexer.specs.declared.Found.{Found}
-use Rattle.lexer.specs.declared.Token.TheVariants.{Mark, Name, String, Wrong}
+use Rattle.lexer.specs.declared.Token.TheVariants.{Mark as MarkToken, Name, String, Wrong}
 use Rattle.lexer.specs.View.{part_of}
-use Rattle.lexer.specs.Inner.{RunLength, IsWord, Gives, PointAfter, fraction_step, other_step}
-use Rattle.lexer.proofs.Runs.{true-false, drop_here, run_is, run-part, run-slice, run-behind}
+use Rattle.lexer.specs.Inner.{RunLength, IsSign, IsWord, word_kind, Gives, PointAfter, fraction_step, other_step}
+use Rattle.std.proofs.lemmas.List.{drop_more}
+use Rattle.lexer.proofs.Runs.{run_is, run-part, run-slice, run-behind}
 
 -- ---- names and words
 
-module _ (s : List ℕ) (at n w : ℕ) where
+module _ (s : List ℕ) (at n : ℕ) (w : Option Mark) where
   name-is : RunLength s at in_name n → IsWord small_words (take (at + n - at) (drop at s)) w
-      → name_step at (front in_name (drop at s)) ≡ step (cond (eqb w 0) (cond (leb n name_length) (name (part_of s at n)) (wrong BadName)) (mark w)) at n
+      → name_step at (front in_name (drop at s)) ≡ step (word_kind w (cond (leb n name_length) (name (part_of s at n)) (wrong BadName))) at n
   unfolding name_step
   name-is c i =
       let j : IsWord small_words (front in_name (drop at s)) w = subst (λ (l : List ℕ). IsWord small_words l w) (run-slice s at in_name n c) i in
       rw (run-part s at in_name n c, ← c.count) (ap (λ k. step k at n) (j.is _))
 
-  pub name-word : RunLength s at in_name n → IsWord small_words (take (at + n - at) (drop at s)) w → (w ≡ 0 → ⊥)
-      → Gives s (record { token = Mark w; place = at; size = n }) (name_step at (front in_name (drop at s)))
-  name-word c i e = record { same = sym (name-is c i ∙ rw (ne_eqb w 0 e) refl); within = tt }
+  pub name-word : (m : Mark) → RunLength s at in_name n → IsWord small_words (take (at + n - at) (drop at s)) w → w ≡ Some m
+      → Gives s (record { token = MarkToken m; place = at; size = n }) (name_step at (front in_name (drop at s)))
+  name-word m c i e = record { same = sym (name-is c i ∙ rw e refl); within = tt }
 
-  pub name_new : at < length s → RunLength s at in_name n → IsWord small_words (take (at + n - at) (drop at s)) w → w ≡ 0 → n ≤ name_length
+  pub name_new : at < length s → RunLength s at in_name n → IsWord small_words (take (at + n - at) (drop at s)) w → w ≡ None → n ≤ name_length
       → Gives s (record { token = Name at n; place = at; size = n }) (name_step at (front in_name (drop at s)))
   name_new a c i e h =
       record {
-        same = sym (name-is c i ∙ rw (eq-eqb w 0 e, le-leb n name_length h) refl);
+        same = sym (name-is c i ∙ rw (e, le-leb n name_length h) refl);
         within = record { starts = refl; short = h; inside = omega (arith, c.bound) };
       }
 
-  pub name-long : RunLength s at in_name n → IsWord small_words (take (at + n - at) (drop at s)) w → w ≡ 0 → name_length < n
+  pub name-long : RunLength s at in_name n → IsWord small_words (take (at + n - at) (drop at s)) w → w ≡ None → name_length < n
       → Gives s (record { token = Wrong BadName; place = at; size = n }) (name_step at (front in_name (drop at s)))
-  name-long c i e h = record { same = sym (name-is c i ∙ rw (eq-eqb w 0 e, lt-leb n name_length h) refl); within = tt }
+  name-long c i e h = record { same = sym (name-is c i ∙ rw (e, lt-leb n name_length h) refl); within = tt }
 
   word-is : RunLength s at is_capital n → IsWord capital_words (take (at + n - at) (drop at s)) w
-      → word_step at (front is_capital (drop at s)) ≡ step (cond (eqb w 0) (wrong Misplaced) (mark w)) at n
+      → word_step at (front is_capital (drop at s)) ≡ step (word_kind w (wrong Misplaced)) at n
   unfolding word_step
   word-is c i =
       let j : IsWord capital_words (front is_capital (drop at s)) w = subst (λ (l : List ℕ). IsWord capital_words l w) (run-slice s at is_capital n c) i in
       rw (← c.count) (ap (λ k. step k at n) (j.is _))
 
-  pub word-mark : RunLength s at is_capital n → IsWord capital_words (take (at + n - at) (drop at s)) w → (w ≡ 0 → ⊥)
-      → Gives s (record { token = Mark w; place = at; size = n }) (word_step at (front is_capital (drop at s)))
-  word-mark c i e = record { same = sym (word-is c i ∙ rw (ne_eqb w 0 e) refl); within = tt }
+  pub word-mark : (m : Mark) → RunLength s at is_capital n → IsWord capital_words (take (at + n - at) (drop at s)) w → w ≡ Some m
+      → Gives s (record { token = MarkToken m; place = at; size = n }) (word_step at (front is_capital (drop at s)))
+  word-mark m c i e = record { same = sym (word-is c i ∙ rw e refl); within = tt }
 
-  pub word-wrong : RunLength s at is_capital n → IsWord capital_words (take (at + n - at) (drop at s)) w → w ≡ 0
+  pub word-wrong : RunLength s at is_capital n → IsWord capital_words (take (at + n - at) (drop at s)) w → w ≡ None
       → Gives s (record { token = Wrong Misplaced; place = at; size = n }) (word_step at (front is_capital (drop at s)))
-  word-wrong c i e = record { same = sym (word-is c i ∙ rw (eq-eqb w 0 e) refl); within = tt }
+  word-wrong c i e = record { same = sym (word-is c i ∙ rw e refl); within = tt }
 
 -- ---- a point and a digit
 
@@ -68,11 +73,7 @@ point-is : (s : List ℕ) (i : ℕ) → pointed (drop i s) ≡ (eqb (get_or s i 
 unfolding pointed is_digit
 point-is [] zero = refl
 point-is [] (suc i) = refl
-point-is (b ∷ []) zero = go (eqb b 46)
-  where
-    go : (u : Bool) → false ≡ (u && false)
-    go true = refl
-    go false = refl
+point-is (b ∷ []) zero = sym (and-false (eqb b 46))
 point-is (b ∷ c ∷ t) zero = refl
 point-is (b ∷ t) (suc i) = point-is t i
 
@@ -89,14 +90,14 @@ module _ (s : List ℕ) (at : ℕ) where
     where
       go : (u : Bool) → ltb at (length s) ≡ u → at < length s
       go true h = ltb-true at (length s) h
-      go false h = true-false (sym e ∙ sym (point-end (ltb-false at (length s) h)))
+      go false h = cc (sym e ∙ sym (point-end (ltb-false at (length s) h)))
 
   point-byte : pointed (drop at s) ≡ true → drop at s ≡ 46 ∷ drop (at + 1) s
-  point-byte e = drop_here s at (point-within e) ∙ ap (λ (b : ℕ). b ∷ drop (at + 1) s) (go (eqb (get_or s at 0) 46) refl (sym (point-is s at) ∙ e))
+  point-byte e = drop_more s at 0 (point-within e) ∙ ap (λ (b : ℕ). b ∷ drop (at + 1) s) (go (eqb (get_or s at 0) 46) refl (sym (point-is s at) ∙ e))
     where
       go : (u : Bool) → eqb (get_or s at 0) 46 ≡ u → (u && is_digit (get_or s (suc at) 0)) ≡ true → get_or s at 0 ≡ 46
       go true h q = eqb-true (get_or s at 0) 46 h
-      go false h q = true-false (sym q)
+      go false h q = cc
 
 -- ---- literals
 
@@ -167,7 +168,7 @@ unfolding well_shaped
 shape_is s l i = go (ltb i (length s)) refl
   where
     go : (u : Bool) → ltb i (length s) ≡ u → (u && (leb 1 (length l) && leb (length l) string_length)) ≡ well_shaped l (drop i s)
-    go true h = rw (drop_here s i (ltb-true i (length s) h)) refl
+    go true h = rw (drop_more s i 0 (ltb-true i (length s) h)) refl
     go false h = rw (drop_of_length-le s {i = i} (ltb-false i (length s) h)) refl
 
 shape-inside : (s l : List ℕ) (i : ℕ) → shape s l i ≡ true → (length l ≤ string_length) × (i < length s)
@@ -175,9 +176,9 @@ shape-inside s l i e = go (ltb i (length s)) (leb 1 (length l)) (leb (length l) 
   where
     go : (x y z : Bool) → ltb i (length s) ≡ x → leb (length l) string_length ≡ z → (x && (y && z)) ≡ true → (length l ≤ string_length) × (i < length s)
     go true true true h g e = (leb-true (length l) string_length g, ltb-true i (length s) h)
-    go true true false h g e = true-false (sym e)
-    go true false z h g e = true-false (sym e)
-    go false y z h g e = true-false (sym e)
+    go true true false h g e = cc
+    go true false z h g e = cc
+    go false y z h g e = cc
 
 module _ (s l : List ℕ) (at : ℕ) where
   -- l stands between the braces
@@ -227,60 +228,63 @@ order_is [] (suc i) p k = refl
 order_is (b ∷ t) zero p k = refl
 order_is (b ∷ t) (suc i) p k = order_is t i p k
 
-module _ (s : List ℕ) (at k b : ℕ) where
-  pub order-yes : b ≡ get_or s (at + 1) 0 → b ≡ 61 → Gives s (record { token = Mark k; place = at; size = 2 }) (order_step at k (drop (at + 1) s))
-  order-yes e h = record { same = sym (order_is s (at + 1) at k ∙ rw (eq-eqb (get_or s (at + 1) 0) 61 (sym e ∙ h)) refl); within = tt }
+module _ (s : List ℕ) (at : ℕ) (k : Mark) (b : ℕ) where
+  pub order-yes : b ≡ get_or s (at + 1) 0 → b ≡ 61 → Gives s (record { token = MarkToken k; place = at; size = 2 }) (order_step at (number k) (drop (at + 1) s))
+  order-yes e h = record { same = sym (order_is s (at + 1) at (number k) ∙ rw (eq-eqb (get_or s (at + 1) 0) 61 (sym e ∙ h)) refl); within = tt }
 
-  pub order-no : b ≡ get_or s (at + 1) 0 → (b ≡ 61 → ⊥) → Gives s (record { token = Wrong StrangeByte; place = at; size = 0 }) (order_step at k (drop (at + 1) s))
-  order-no e h = record { same = sym (order_is s (at + 1) at k ∙ rw (ne_eqb (get_or s (at + 1) 0) 61 (λ z. h (e ∙ z))) refl); within = tt }
+  pub order-no : b ≡ get_or s (at + 1) 0 → (b ≡ 61 → ⊥) → Gives s (record { token = Wrong StrangeByte; place = at; size = 0 }) (order_step at (number k) (drop (at + 1) s))
+  order-no e h = record { same = sym (order_is s (at + 1) at (number k) ∙ rw (ne_eqb (get_or s (at + 1) 0) 61 (λ z. h (e ∙ z))) refl); within = tt }
 
 -- ---- by the first byte
 
 via : (f : ℕ → Bool) (b x : ℕ) (g u : Bool) → b ≡ x → g ≡ f b → g ≡ u → f x ≡ u
 via f b x g u e h k = ap f (sym e) ∙ sym h ∙ k
 
-pub token-sign : (s : List ℕ) (at b : ℕ) (g : Bool) → b ≡ get_or s at 0 → g ≡ is_sign b → g ≡ true
-    → Gives s (record { token = Mark b; place = at; size = 1 }) (step_at at (get_or s at 0) (drop (at + 1) s))
+pub token-sign : (s : List ℕ) (at b : ℕ) (g : Option Mark) (m : Mark) → b ≡ get_or s at 0 → IsSign b g → g ≡ Some m
+    → Gives s (record { token = MarkToken m; place = at; size = 1 }) (step_at at (get_or s at 0) (drop (at + 1) s))
 unfolding step_at
-token-sign s at b g e h h' = record { same = rw (via is_sign b (get_or s at 0) g true e h h') (rw e refl); within = tt }
+token-sign s at b g m e h h' = let q : IsSign b (Some m) = rw h' at h in record { same = rw (← e, q.0, q.1) refl; within = tt }
 
-module _ (s : List ℕ) (at b : ℕ) (g d p l k : Bool) (r : Found) where
+no-sign : (b x : ℕ) (g : Option Mark) → b ≡ x → IsSign b g → g ≡ None → is_sign x ≡ false
+no-sign b x g e h k = let q : IsSign b None = rw k at h in ap is_sign (sym e) ∙ q
+
+module _ (s : List ℕ) (at b : ℕ) (g : Option Mark) (d p l k : Bool) (r : Found) where
   is_number : (u : Bool) → at < length s → b ≡ get_or s at 0 → d ≡ is_digit b → p ≡ pointed (drop at s) → (d || p) ≡ u
       → (is_digit (get_or s at 0) || pointed (get_or s at 0 ∷ drop (at + 1) s)) ≡ u
-  is_number u a e i j q = rw (← (i ∙ ap is_digit e), ← (j ∙ ap pointed (drop_here s at a))) q
+  is_number u a e i j q = rw (← (i ∙ ap is_digit e), ← (j ∙ ap pointed (drop_more s at 0 a))) q
 
-  pub token-number : at < length s → b ≡ get_or s at 0 → g ≡ is_sign b → g ≡ false → d ≡ is_digit b → p ≡ pointed (drop at s) → (d || p) ≡ true
+  pub token-number : at < length s → b ≡ get_or s at 0 → IsSign b g → g ≡ None → d ≡ is_digit b → p ≡ pointed (drop at s) → (d || p) ≡ true
       → Gives s r (literal_step at (front is_digit (drop at s)) (behind is_digit (drop at s))) → Gives s r (step_at at (get_or s at 0) (drop (at + 1) s))
   unfolding step_at
   token-number a e h h' i j q z =
-      record { same = z.same ∙ rw (drop_here s at a, via is_sign b (get_or s at 0) g false e h h', is_number true a e i j q) refl; within = z.within }
+      record { same = z.same ∙ rw (drop_more s at 0 a, no-sign b (get_or s at 0) g e h h', is_number true a e i j q) refl; within = z.within }
 
-  pub token-name : at < length s → b ≡ get_or s at 0 → g ≡ is_sign b → g ≡ false → d ≡ is_digit b → p ≡ pointed (drop at s) → (d || p) ≡ false
+  pub token-name : at < length s → b ≡ get_or s at 0 → IsSign b g → g ≡ None → d ≡ is_digit b → p ≡ pointed (drop at s) → (d || p) ≡ false
       → l ≡ is_small b → l ≡ true → Gives s r (name_step at (front in_name (drop at s))) → Gives s r (step_at at (get_or s at 0) (drop (at + 1) s))
   unfolding step_at
   token-name a e h h' i j q m m' z =
       record {
         same = z.same
-            ∙ rw (drop_here s at a, via is_sign b (get_or s at 0) g false e h h', is_number false a e i j q, via is_small b (get_or s at 0) l true e m m') refl;
+            ∙ rw (drop_more s at 0 a, no-sign b (get_or s at 0) g e h h', is_number false a e i j q, via is_small b (get_or s at 0) l true e m m') refl;
         within = z.within;
       }
 
-  pub token-word : at < length s → b ≡ get_or s at 0 → g ≡ is_sign b → g ≡ false → d ≡ is_digit b → p ≡ pointed (drop at s) → (d || p) ≡ false
+  pub token-word : at < length s → b ≡ get_or s at 0 → IsSign b g → g ≡ None → d ≡ is_digit b → p ≡ pointed (drop at s) → (d || p) ≡ false
       → l ≡ is_small b → l ≡ false → k ≡ is_capital b → k ≡ true → Gives s r (word_step at (front is_capital (drop at s))) → Gives s r (step_at at (get_or s at 0) (drop (at + 1) s))
   unfolding step_at
   token-word a e h h' i j q m m' n n' z =
       record {
         same = z.same
-            ∙ rw (drop_here s at a, via is_sign b (get_or s at 0) g false e h h', is_number false a e i j q, via is_small b (get_or s at 0) l false e m m', via is_capital b (get_or s at 0) k true e n n') refl;
+            ∙ rw (drop_more s at 0 a, no-sign b (get_or s at 0) g e h h', is_number false a e i j q, via is_small b (get_or s at 0) l false e m m', via is_capital b (get_or s at 0) k true e n n') refl;
         within = z.within;
       }
 
-  pub token-other : at < length s → b ≡ get_or s at 0 → g ≡ is_sign b → g ≡ false → d ≡ is_digit b → p ≡ pointed (drop at s) → (d || p) ≡ false
+  pub token-other : at < length s → b ≡ get_or s at 0 → IsSign b g → g ≡ None → d ≡ is_digit b → p ≡ pointed (drop at s) → (d || p) ≡ false
       → l ≡ is_small b → l ≡ false → k ≡ is_capital b → k ≡ false → Gives s r (other_step at b (drop (at + 1) s)) → Gives s r (step_at at (get_or s at 0) (drop (at + 1) s))
   unfolding step_at
   token-other a e h h' i j q m m' n n' z =
       record {
         same = z.same ∙ ap (λ (x : ℕ). other_step at x (drop (at + 1) s)) e
-            ∙ rw (via is_sign b (get_or s at 0) g false e h h', is_number false a e i j q, via is_small b (get_or s at 0) l false e m m', via is_capital b (get_or s at 0) k false e n n') refl;
+            ∙ rw (no-sign b (get_or s at 0) g e h h', is_number false a e i j q, via is_small b (get_or s at 0) l false e m m', via is_capital b (get_or s at 0) k false e n n') refl;
         within = z.within;
       }

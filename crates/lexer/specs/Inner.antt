@@ -5,11 +5,13 @@ use Rattle.rules.specs.declared.Refusal.TheVariants.{StrangeByte, Unfit}
 use Rattle.rules.specs.Characters.{code}
 use Rattle.value.specs.Literal.{is_digit}
 use Rattle.lexer.specs.Marks.{Word, at_most, at_least}
+use Rattle.lexer.specs.Numbers.{number}
 use Rattle.lexer.specs.Text as Text
-use Rattle.lexer.specs.Text.{Kind, mark, wrong, no_brace, among, step, pointed, sign_length, power_length, powered, front, behind, string_step, order_step}
+use Rattle.lexer.specs.Text.{Kind, mark, wrong, is_sign, no_brace, among, step, pointed, sign_length, power_length, powered, front, behind, string_step, order_step}
 use Rattle.lexer.specs.View.{kind_of, Within}
 use Rattle.lexer.specs.declared.Token.TheVariants.{Literal, Wrong}
 use Rattle.lexer.specs.declared.Found.{Found}
+use Rattle.lexer.specs.declared.Mark.{Mark}
 
 -- ---- runs of bytes
 
@@ -30,9 +32,19 @@ abbrev pub found_of : Bool → Option Value → ℕ → ℕ → Found
 found_of w (Some v) at n = record { token = Literal w v; place = at; size = n }
 found_of w None at n = record { token = Wrong Unfit; place = at; size = n }
 
--- w is the number of the word that l is, or 0 if it is none of them
-pub record IsWord (ws : List Word) (l : List ℕ) (w : ℕ) : Type 0 where
-  pub is : (k : Kind) → among ws l k ≡ cond (eqb w 0) k (mark w)
+-- the sign of one byte that b is, if it is one
+abbrev pub IsSign : ℕ → Option Mark → Type 0
+IsSign b (Some m) = (is_sign b ≡ true) × (number m ≡ b)
+IsSign b None = is_sign b ≡ false
+
+-- the word's kind, or k without a word
+abbrev pub word_kind : Option Mark → Kind → Kind
+word_kind (Some m) k = mark (number m)
+word_kind None k = k
+
+-- the word of the list that l is, if it is one of them
+pub record IsWord (ws : List Word) (l : List ℕ) (w : Option Mark) : Type 0 where
+  pub is : (k : Kind) → among ws l k ≡ word_kind w k
 
 -- w digits stand from `at` on, and behind them a point and a digit
 pub record PointAfter (s : List ℕ) (at w : ℕ) : Type 0 where

@@ -1,4 +1,5 @@
 pub mod Marks
+pub mod Numbers
 pub mod Text
 pub mod View
 pub mod Inner

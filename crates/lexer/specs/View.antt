@@ -2,6 +2,7 @@
 use Rattle.std.specs.Prelude.{◌≡◌, Bool, true, false, cond, List, [], ◌∷◌, ℕ, ◌+◌, ◌-◌, ◌<◌, ◌≤◌, length, take, drop}
 use Rattle.rules.specs.Limits.{name_length, string_length, token_limit}
 use Rattle.value.specs.Decimal.{Valid}
+use Rattle.lexer.specs.Numbers.{number}
 use Rattle.lexer.specs.Text as Text
 use Rattle.lexer.specs.Text.{Kind, mark, name, literal, string, end, wrong, tokens_from, counted}
 use Rattle.lexer.specs.declared.Token.{Token}
@@ -17,7 +18,7 @@ abbrev pub part_of : List ℕ → ℕ → ℕ → List ℕ
 part_of s a n = take n (drop a s)
 
 abbrev pub kind_of : List ℕ → Token → Kind
-kind_of s (Mark c) = mark c
+kind_of s (Mark m) = mark (number m)
 kind_of s (Name a n) = name (part_of s a n)
 kind_of s (Literal w v) = literal w v
 kind_of s (String a n) = string (part_of s a n)
@@ -33,7 +34,7 @@ pub record Part (s : List ℕ) (from limit a n : ℕ) : Type 0 where
 -- what a caller may rely on without the definition: a name is the part of the text at its token's place, a string the part
 -- behind its brace, a literal's value is valid
 abbrev pub Within : List ℕ → ℕ → Token → Type 0
-Within s p (Mark c) = Unit {0}
+Within s p (Mark m) = Unit {0}
 Within s p (Name a n) = Part s p name_length a n
 Within s p (Literal w v) = Valid v
 Within s p (String a n) = Part s (p + 1) string_length a n

@@ -5,17 +5,58 @@
 ghost use Rattle.std.specs.Prelude.{◌≡◌, Bool, ℕ, cond, [], ◌+◌, ◌-◌, ◌<◌, ◌≤◌, length, get_or, drop};
 ghost use Rattle.value.specs.Literal.{is_digit};
 ghost use Rattle.lexer.specs.Marks.{capital_words, small_words};
-ghost use Rattle.lexer.specs.Text.{is_blank, is_small, is_capital, in_name, is_sign, in_string, no_brace, front, behind, same_bytes, pointed as pointedBytes, power_size, powered as poweredStep, name_step, word_step, literal_step, string_step, order_step, step_at, uncounted};
+ghost use Rattle.lexer.specs.Numbers.{number};
+ghost use Rattle.lexer.specs.Text.{is_blank, is_small, is_capital, in_name, in_string, no_brace, front, behind, same_bytes, pointed as pointedBytes, power_size, powered as poweredStep, name_step, word_step, literal_step, string_step, order_step, step_at, uncounted};
 ghost use Rattle.lexer.specs.View.{part_of, Reads, start_of, Turns, kind_of};
-ghost use Rattle.lexer.specs.Inner.{RunLength, Gives, found_of, PointAfter, SignLength, PowerLength, fraction_step, other_step, IsWord};
+ghost use Rattle.lexer.specs.Inner.{RunLength, Gives, found_of, PointAfter, SignLength, PowerLength, fraction_step, other_step, IsSign, IsWord};
 
-pub mod marks;
+// The signs and words, each with its number in specs/Numbers.antt.
+#[derive(Clone, Copy, PartialEq, Eq, Debug)]
+pub enum Mark {
+    Plus = 43, // +
+    Minus = 45, // -
+    Times = 42, // *
+    Comma = 44, // ,
+    Semicolon = 59, // ;
+    Colon = 58, // :
+    Equals = 61, // =
+    AtMost = 60, // <=
+    AtLeast = 62, // >=
+    LeftParen = 40, // (
+    RightParen = 41, // )
+    LeftBracket = 91, // [
+    RightBracket = 93, // ]
+    // Capital words.
+    Open = 128,
+    Close = 129,
+    Maximize = 130,
+    Minimize = 131,
+    Init = 132,
+    Sum = 133,
+    Sigma = 134,
+    // The six lower-case words.
+    Index = 140,
+    Integer = 141,
+    Real = 142,
+    Formula = 143,
+    Discrete = 144,
+    Continuous = 145,
+}
 
-// A sign or word by its number; a name's first byte and length; whether a literal is digits only, and its value; the first
-// byte and length of what stands between braces; the text's end; no token, and why.
+impl Mark {
+    // The cast, with a clause that gives it for every mark at once.
+    pub fn number(self) -> u64
+        ensures { result ≡ number self }
+    {
+        self as u64
+    }
+}
+
+// A sign or word; a name's first byte and length; whether a literal is digits only, and its value; the first byte and length of
+// what stands between braces; the text's end; no token, and why.
 #[derive(Clone, Copy)]
 pub enum Token {
-    Mark(u8),
+    Mark(Mark),
     Name(usize, usize),
     Literal(bool, value::Value),
     String(usize, usize),
@@ -67,20 +108,24 @@ fn in_string(b: u8) -> bool
     (b' ' <= b) & (b <= b'~') & !(b == b'{')
 }
 
-fn is_sign(b: u8) -> bool
-    ensures { result ≡ is_sign b }
+// The sign of one byte that b is.
+fn sign(b: u8) -> Option<Mark>
+    ensures { IsSign b result }
 {
-    (b == marks::PLUS)
-        | (b == marks::MINUS)
-        | (b == marks::TIMES)
-        | (b == marks::COMMA)
-        | (b == marks::SEMICOLON)
-        | (b == marks::COLON)
-        | (b == marks::EQUALS)
-        | (b == marks::LEFT_PAREN)
-        | (b == marks::RIGHT_PAREN)
-        | (b == marks::LEFT_BRACKET)
-        | (b == marks::RIGHT_BRACKET)
+    match b {
+        b'+' => Some(Mark::Plus),
+        b'-' => Some(Mark::Minus),
+        b'*' => Some(Mark::Times),
+        b',' => Some(Mark::Comma),
+        b';' => Some(Mark::Semicolon),
+        b':' => Some(Mark::Colon),
+        b'=' => Some(Mark::Equals),
+        b'(' => Some(Mark::LeftParen),
+        b')' => Some(Mark::RightParen),
+        b'[' => Some(Mark::LeftBracket),
+        b']' => Some(Mark::RightBracket),
+        _ => None,
+    }
 }
 
 // The byte at i, or 0 past the end.
@@ -135,44 +180,38 @@ fn between_braces<'a>(s: &'a [u8], at: usize) -> &'a [u8]
     &s[from..end]
 }
 
-pub fn same_bytes(a: &[u8], b: &[u8]) -> bool
-    ensures { result ≡ same_bytes a.now b.now }
-{
-    a == b
-}
-
 // ---- words
 
-// The word's number if the run is the word, else another number.
-fn word_or(word: &[u8], mark: u8, run: &[u8], other: u8) -> u8
-    ensures { result ≡ cond (same_bytes word.now run.now) mark other }
+// The word if the run is spelled so, else another one or none.
+fn word_or(spelling: &[u8], word: Mark, run: &[u8], other: Option<Mark>) -> Option<Mark>
+    ensures { result ≡ cond (same_bytes spelling.now run.now) (Some word) other }
 {
-    if same_bytes(word, run) { mark } else { other }
+    if spelling == run { Some(word) } else { other }
 }
 
-// The number of the capital word that the run is, or 0.
-fn capital_word(run: &[u8]) -> u8
+// The capital word that the run is.
+fn capital_word(run: &[u8]) -> Option<Mark>
     ensures { IsWord capital_words run.now result }
 {
-    let w = word_or(b"S", marks::SIGMA, run, 0);
-    let w = word_or(b"SUM", marks::SUM, run, w);
-    let w = word_or(b"INIT", marks::INIT, run, w);
-    let w = word_or(b"MINIMIZE", marks::MINIMIZE, run, w);
-    let w = word_or(b"MAXIMIZE", marks::MAXIMIZE, run, w);
-    let w = word_or(b"CLOSE", marks::CLOSE, run, w);
-    word_or(b"OPEN", marks::OPEN, run, w)
+    let w = word_or(b"S", Mark::Sigma, run, None);
+    let w = word_or(b"SUM", Mark::Sum, run, w);
+    let w = word_or(b"INIT", Mark::Init, run, w);
+    let w = word_or(b"MINIMIZE", Mark::Minimize, run, w);
+    let w = word_or(b"MAXIMIZE", Mark::Maximize, run, w);
+    let w = word_or(b"CLOSE", Mark::Close, run, w);
+    word_or(b"OPEN", Mark::Open, run, w)
 }
 
-// The number of the lower-case word that the run is, or 0.
-fn small_word(run: &[u8]) -> u8
+// The lower-case word that the run is.
+fn small_word(run: &[u8]) -> Option<Mark>
     ensures { IsWord small_words run.now result }
 {
-    let w = word_or(b"continuous", marks::CONTINUOUS, run, 0);
-    let w = word_or(b"discrete", marks::DISCRETE, run, w);
-    let w = word_or(b"formula", marks::FORMULA, run, w);
-    let w = word_or(b"real", marks::REAL, run, w);
-    let w = word_or(b"integer", marks::INTEGER, run, w);
-    word_or(b"index", marks::INDEX, run, w)
+    let w = word_or(b"continuous", Mark::Continuous, run, None);
+    let w = word_or(b"discrete", Mark::Discrete, run, w);
+    let w = word_or(b"formula", Mark::Formula, run, w);
+    let w = word_or(b"real", Mark::Real, run, w);
+    let w = word_or(b"integer", Mark::Integer, run, w);
+    word_or(b"index", Mark::Index, run, w)
 }
 
 // ---- tokens
@@ -192,8 +231,7 @@ fn name(s: &[u8], at: usize) -> Found
 {
     let n = run_length(s, at, in_name);
     let end = at + n;
-    let w = small_word(&s[at..end]);
-    if w != 0 {
+    if let Some(w) = small_word(&s[at..end]) {
         return Found {
             token: Token::Mark(w),
             place: at,
@@ -221,8 +259,7 @@ fn word(s: &[u8], at: usize) -> Found
 {
     let n = run_length(s, at, is_capital);
     let end = at + n;
-    let w = capital_word(&s[at..end]);
-    if w != 0 {
+    if let Some(w) = capital_word(&s[at..end]) {
         return Found {
             token: Token::Mark(w),
             place: at,
@@ -372,9 +409,9 @@ fn string(s: &[u8], at: usize) -> Found
 }
 
 // `<=` and `>=`.
-fn order(s: &[u8], at: usize, k: u8) -> Found
+fn order(s: &[u8], at: usize, k: Mark) -> Found
     requires { at < length s.now }
-    ensures { Gives s.now result (order_step at k (drop (at + 1) s.now)) }
+    ensures { Gives s.now result (order_step at (number k) (drop (at + 1) s.now)) }
 {
     let b = byte_at(s, at + 1);
     if b == b'=' {
@@ -400,10 +437,10 @@ fn other(s: &[u8], at: usize, b: u8) -> Found
         return string(s, at);
     }
     if b == b'<' {
-        return order(s, at, marks::AT_MOST);
+        return order(s, at, Mark::AtMost);
     }
     if b == b'>' {
-        return order(s, at, marks::AT_LEAST);
+        return order(s, at, Mark::AtLeast);
     }
     Found {
         token: Token::Wrong(rules::Refusal::StrangeByte),
@@ -418,9 +455,9 @@ fn token_at(s: &[u8], at: usize) -> Found
     ensures { Gives s.now result (step_at at (get_or s.now at 0) (drop (at + 1) s.now)) }
 {
     let b = byte_at(s, at);
-    if is_sign(b) {
+    if let Some(m) = sign(b) {
         return Found {
-            token: Token::Mark(b),
+            token: Token::Mark(m),
             place: at,
             size: 1,
         };
@@ -491,7 +528,7 @@ fn ends_count(t: Token) -> bool
     ensures { result ≡ uncounted (kind_of [] t) }
 {
     match t {
-        Token::Mark(c) => (c == marks::INIT) | (c == marks::CLOSE),
+        Token::Mark(m) => matches!(m, Mark::Init | Mark::Close),
         Token::Name(_, _) | Token::Literal(_, _) | Token::String(_, _) => false,
         Token::End | Token::Wrong(_) => true,
     }

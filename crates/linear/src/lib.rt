@@ -7,19 +7,19 @@ ghost use Rattle.tokens.specs.Stored.{Moves};
 ghost use Rattle.tokens.specs.Text.{In};
 ghost use Rattle.linear.specs.Linear.{variable_of, term_in, sigma_in, terms_in, form_in, body_in, linear_in};
 
-use lexer::marks;
+use lexer::Mark;
 use rules::{Refused, refused};
-use tokens::{Found, Text, kinds, sorts};
+use tokens::{Found, Kind, Sort, Text};
 
 // The variable that the token with kind k, place p and payload x names, if it names one.
 pub fn variable(text: &[u8], names: &[u64], k: u64, p: u64, x: u64) -> Option<Found>
     ensures { result ≡ variable_of text.now names.now k p x }
 {
-    if k != kinds::NAME {
+    if k != Kind::Name as u64 {
         return None;
     }
     let name = tokens::find(text, names, p, x % tokens::NAME_UNIT)?;
-    if (name.sort == sorts::DISCRETE) | (name.sort == sorts::CONTINUOUS) {
+    if (name.sort == Sort::Discrete as u64) | (name.sort == Sort::Continuous as u64) {
         return Some(name);
     }
     None
@@ -50,7 +50,7 @@ fn term(text: Text<'_>, at: usize, nest: usize, sigmas: bool) -> Result<usize, R
     let mut a = at;
     for _ in 0..rules::TOKEN_LIMIT {
         let token = tokens::token_at(text.tokens, a)?;
-        if sigmas & (token.kind == marks::SIGMA as u64) {
+        if sigmas & (token.kind == Mark::Sigma as u64) {
             return sigma(text, token.next, nest, token.place);
         }
         if let Some(name) = variable(
@@ -63,7 +63,7 @@ fn term(text: Text<'_>, at: usize, nest: usize, sigmas: bool) -> Result<usize, R
             return formulas::subscripts(text, token.next, nest, name.count);
         }
         let factor = formulas::primary(text, a, nest)?;
-        a = tokens::expect(text, factor, marks::TIMES)?;
+        a = tokens::expect(text, factor, Mark::Times)?;
     }
     refused!(Full, 0)
 }
@@ -76,7 +76,7 @@ fn terms(text: Text<'_>, at: usize, nest: usize, sigmas: bool) -> Result<usize, 
     let mut a = at;
     for _ in 0..rules::TOKEN_LIMIT {
         let token = tokens::token_at(text.tokens, a)?;
-        let joined = (token.kind == marks::PLUS as u64) | (token.kind == marks::MINUS as u64);
+        let joined = (token.kind == Mark::Plus as u64) | (token.kind == Mark::Minus as u64);
         if !joined {
             return Ok(a);
         }
@@ -94,10 +94,10 @@ fn sigma(text: Text<'_>, at: usize, nest: usize, p: u64) -> Result<usize, Refuse
     if nest == 0 {
         return refused!(Full, 0);
     }
-    let lower = formulas::part(text, head, nest, marks::COMMA)?;
-    let upper = formulas::part(text, lower, nest, marks::COMMA)?;
+    let lower = formulas::part(text, head, nest, Mark::Comma)?;
+    let upper = formulas::part(text, lower, nest, Mark::Comma)?;
     let inner = body(text, upper, nest - 1)?;
-    tokens::expect(text, inner, marks::RIGHT_PAREN)
+    tokens::expect(text, inner, Mark::RightParen)
 }
 
 // A sigma's body: another sigma, or a linear form without sigma.
@@ -106,7 +106,7 @@ fn body(text: Text<'_>, at: usize, nest: usize) -> Result<usize, Refused>
     ensures { In (Moves (body_in nest)) text.entry at result }
 {
     let token = tokens::token_at(text.tokens, at)?;
-    if token.kind == marks::SIGMA as u64 {
+    if token.kind == Mark::Sigma as u64 {
         return sigma(text, token.next, nest, token.place);
     }
     form(text, at, nest, false)

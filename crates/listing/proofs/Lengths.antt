@@ -9,9 +9,9 @@ use lib.ListN.{length, length-append}
 use lib.IntN.{ℤ, pos}
 use Rattle.value.specs.declared.Value.{Value}
 use Rattle.value.specs.Decimal.{of_whole}
-use Rattle.language.specs.Listing.{Kind, less, equal, range, Line, lp_line, row_line, low_line, var_line, col_line, ending_line, kind_field, fields}
+use Rattle.language.specs.Listing.{Kind, less, equal, range, Line, lp_line, row_line, low_line, low_lines, var_line, col_line, ending_line, kind_field, fields}
 use Rattle.language.proofs.Parts.{word_of}
-use Rattle.listing.specs.Shown.{shown_whole, shown_natural, shown_upper, shown_fields, shown_line}
+use Rattle.listing.specs.Shown.{shown_whole, shown_natural, shown_upper, shown_fields, shown_line, shown_lines}
 use Rattle.listing.specs.Bare.{bare_row, bare_variable}
 use Rattle.listing.proofs.Showing.{shown-most}
 
@@ -67,6 +67,11 @@ line-most k = rw (length-append (word_of k) (fields (shown_fields k))) (go k)
     go (var_line n d l u s e) = simp field-length (omega (arith, natural-most n, shown-most l, upper-most u, wholes-most e))
     go (col_line j i v) = simp (field-length, end-length) (omega (arith, natural-most j, natural-most i, shown-most v))
     go ending_line = simp end-length (omega arith)
+
+pub low-most : (n : ℕ) (o : Option Value) → length (shown_lines (low_lines n o)) ≤ 128
+unfolding low_lines shown_lines
+low-most n None = omega arith
+low-most n (Some v) = simp length-append (omega (arith, line-most (low_line n v)))
 
 pub row-most : (n : ℕ) (q : Kind) (v : Value) → length (bare_row n q v) ≤ 128
 unfolding bare_row

@@ -12,7 +12,7 @@ use borrow.Rule.Slice.PartMut.{put_mid}
 use Rattle.value.specs.declared.Value.{Value}
 use Rattle.value.specs.Printed.{printed_whole, Written}
 use Rattle.value.proofs.Writing.{written_none, written_then, shown-valid}
-use Rattle.language.specs.Listing.{Line, lp_line, row_line, low_line, var_line, col_line, ending_line, fields, upper_field, bytes_of, bytes_of_all}
+use Rattle.language.specs.Listing.{Line, lp_line, row_line, low_line, low_lines, var_line, col_line, ending_line, fields, upper_field, bytes_of, bytes_of_all}
 use Rattle.language.specs.All.{All}
 use Rattle.language.specs.Valid.{SmallElement, ValidIfAny}
 use Rattle.language.specs.Proper.{Proper}
@@ -65,6 +65,15 @@ lines_join ks ls w v = rw (lines-append ks ls) (written_then _ _ _ _ _ _ _ _ w v
 pub lines_none : (l : List ℕ) (at : ℕ) → Written l at (shown_lines []) at l
 unfolding shown_lines
 lines_none l at = written_none l at
+
+-- a floor's line, if there is a floor
+pub low-none : (n : ℕ) (o : Option Value) (l : List ℕ) → o ≡ None → Written l 0 (shown_lines (low_lines n o)) 0 l
+unfolding low_lines
+low-none n o l e = rw e (lines_none l 0)
+
+pub low-some : (n : ℕ) (o : Option Value) (v : Value) {l : List ℕ} {r : ℕ} {l' : List ℕ} → o ≡ Some v → Written l 0 (shown_line (low_line n v)) r l' → Written l 0 (shown_lines (low_lines n o)) r l'
+unfolding low_lines shown_lines
+low-some n o v e w = rw (e, append-nil (shown_line (low_line n v))) w
 
 pub lines_end : {l₀ : List ℕ} {at₀ : ℕ} {text l : List ℕ} {at : ℕ} → Left l₀ at₀ text l at (shown_lines []) → Written l₀ at₀ text at l
 lines_end h = h.whole _ _ (lines_none _ _)

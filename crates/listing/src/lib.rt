@@ -1,6 +1,8 @@
 // The lines of a listing. Each is written from the first byte of the part of the output that is lent to its writer, as far as
 // the part reaches; a writer gives the line's length, whether or not the part reaches that far.
 // Every public function is total: nothing stands for a number or a value that is out of range.
+// What writes takes the output and a place in it, and gives the place behind what it wrote: document 01 names this form, where the rest of
+// the output is lent to the writer of a line.
 #![tactic(auto)]
 
 pub mod bare;
@@ -11,8 +13,8 @@ ghost use Rattle.rules.specs.Characters.{tab};
 ghost use Rattle.rules.specs.Limits.{byte_limit};
 ghost use Rattle.value.specs.Printed.{shown, Written};
 ghost use Rattle.store.specs.Element.{list_of};
-ghost use Rattle.language.specs.Listing.{lp_line, row_line, low_line, var_line, col_line, ending_line, kind_field, fields};
-ghost use Rattle.listing.specs.Shown.{shown_whole, shown_natural, shown_or, shown_line, shown_refused};
+ghost use Rattle.language.specs.Listing.{lp_line, row_line, low_lines, var_line, col_line, ending_line, kind_field, fields};
+ghost use Rattle.listing.specs.Shown.{shown_whole, shown_natural, shown_or, shown_line, shown_lines, shown_refused};
 ghost use Rattle.listing.specs.Bare.{row_start, variable_start};
 ghost use Rattle.listing.specs.Kinds.{kind_in};
 ghost use Rattle.listing.specs.Spans.{idle_field, shown_span};
@@ -92,7 +94,7 @@ fn letter_field(out: &mut [u8], at: usize, b: u8) -> usize
     put(out, next, b)
 }
 
-// What a row is: of `<=` or `>=`, of `=`, or with a floor.
+// What a row is: of `<=` or `>=`, of `=`, or with a floor. Where it is a parameter it is data that is written, not a step.
 #[derive(Clone, Copy)]
 pub enum Kind {
     Less,
@@ -130,7 +132,7 @@ fn whole_field(out: &mut [u8], at: usize, k: i64) -> usize
     requires { at < 2 ^ 63 + 2 ^ 31 }
     ensures { (Written out.old at (tab ∷ shown_whole k) result out.new) × (result ≤ at + 32) }
 {
-    value_field(out, at, value::of_whole(k))
+    value_field(out, at, value::Value::from(k))
 }
 
 fn number_field(out: &mut [u8], at: usize, n: usize) -> usize
@@ -224,10 +226,13 @@ pub fn row(
     element_fields(out, at, e)
 }
 
-// The floor of a row.
-pub fn low(row: usize, v: value::Value, out: &mut [u8]) -> usize
-    ensures { Written out.old 0 (shown_line (low_line row v)) result out.new }
+// The floor of a row, if it has one.
+pub fn low(row: usize, floor: Option<value::Value>, out: &mut [u8]) -> usize
+    ensures { Written out.old 0 (shown_lines (low_lines row floor)) result out.new }
 {
+    let Some(v) = floor else {
+        return 0;
+    };
     let at = put_text(out, 0, b"low");
     let at = number_field(out, at, row);
     let at = value_field(out, at, v);

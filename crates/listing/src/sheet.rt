@@ -1,5 +1,7 @@
 // The listing of a problem, written from its tables. Each line is written from the byte where the last one ended, as far as the
 // output reaches; the listing's length is given whether or not the output reaches that far.
+// What writes takes the output and a place in it, and gives the place behind what it wrote: document 01 names this form, where the rest of
+// the output is lent to the writer of a line.
 ghost use Rattle.std.specs.Prelude.{◌≡◌, cond, ◌+◌, ◌<◌, ◌≤◌, ◌^◌, length};
 ghost use Rattle.value.specs.Printed.{Written};
 ghost use Rattle.lexer.specs.View.{part_of};
@@ -16,6 +18,7 @@ ghost use Rattle.tokens.specs.Text.{In};
 
 use constraints::layout;
 use evaluator::steps::names;
+use store::Row;
 use tokens::Text;
 
 // Whether a text of n bytes and a problem of these sizes are within the limits.
@@ -91,7 +94,7 @@ fn last_line(out: &mut [u8], at: usize) -> usize
 
 // ---- rows
 
-// The kind of a row, by whether it is one of `=` and by its floor.
+// The kind of a row, by whether it is one of `=`, which is data and not a step, and by its floor.
 pub fn kind_of(equal: bool, floor: Option<value::Value>) -> super::Kind
     ensures { kind_in result ≡ cond equal Listing.equal (kind_by floor) }
 {
@@ -109,13 +112,8 @@ fn floor_line(row: usize, floor: Option<value::Value>, out: &mut [u8], at: usize
     requires { at < 2 ^ 41 }
     ensures { (Written out.old at (shown_lines (low_lines row floor)) result out.new) × (result ≤ at + 128) }
 {
-    match floor {
-        None => at,
-        Some(v) => {
-            let from = super::rest_from(out.len(), at);
-            at + super::low(row, v, &mut out[from..])
-        }
-    }
+    let from = super::rest_from(out.len(), at);
+    at + super::low(row, floor, &mut out[from..])
 }
 
 // The line of the row in slot k, of a number and a kind, without its floor's.
@@ -123,7 +121,7 @@ fn row_alone(
     text: &[u8],
     tokens: &[u64],
     constraints: &[u64],
-    rows: &[u64],
+    rows: &[Row],
     k: usize,
     number: usize,
     kind: super::Kind,
@@ -145,7 +143,7 @@ fn row_line(
     text: &[u8],
     tokens: &[u64],
     constraints: &[u64],
-    rows: &[u64],
+    rows: &[Row],
     less: usize,
     i: usize,
     out: &mut [u8],
@@ -166,7 +164,7 @@ fn row_lines(
     text: &[u8],
     tokens: &[u64],
     constraints: &[u64],
-    rows: &[u64],
+    rows: &[Row],
     less: usize,
     n: usize,
     out: &mut [u8],
@@ -187,7 +185,7 @@ fn row_lines(
 fn variable_line(
     text: &[u8],
     names: &[u64],
-    variables: &[u64],
+    variables: &[Row],
     bounds: &[u64],
     discrete: usize,
     j: usize,
@@ -205,11 +203,11 @@ fn variable_line(
     at + super::variable(j + 1, j < discrete, lower, upper, name, e, &mut out[from..])
 }
 
-// The lines of n variables.
+// The lines of n variables. A loop beside that of `row_lines`: a line that is handed over as a closure states its bounds again.
 fn variable_lines(
     text: &[u8],
     names: &[u64],
-    variables: &[u64],
+    variables: &[Row],
     bounds: &[u64],
     discrete: usize,
     n: usize,
@@ -245,7 +243,7 @@ fn cell(variable: usize, row: usize, z: i64, out: &mut [u8], at: usize) -> usize
         return at;
     }
     let v = rows::value_of(z);
-    if value::is_zero(v) {
+    if v.is_zero() {
         return at;
     }
     column_line(variable, row, v, out, at)
@@ -292,8 +290,8 @@ fn columns(
 pub fn write(
     text: Text<'_>,
     constraints: &[u64],
-    variables: &[u64],
-    rows: &[u64],
+    variables: &[Row],
+    rows: &[Row],
     bounds: &[u64],
     matrix: &[i64],
     sizes: rows::Sizes,

@@ -45,6 +45,7 @@ use Rattle.gatherer.specs.Cycle.{Model}
 use Rattle.matrix.specs.declared.sides.Bounded.{Bounded}
 use Rattle.matrix.specs.Sides.Answers.{EndsAt, fact_with, BoundFound, BoundIs, Holds, GathersTo, RowOn, Rowed, RightIs}
 use Rattle.matrix.specs.Answers.{Stays, Takes, RowAdds, BoundAdds, ObjectiveAdds, ObjectiveIs}
+use Rattle.store.specs.Table.{Table}
 
 -- ---- what the definition adds
 
@@ -96,12 +97,12 @@ pub slot-low : (less equal slot : ℕ) (b : Bool) → slot ≡ next_slot less eq
 slot-low less equal slot b h = omega (arith, (next-within less equal b).0)
 
 -- rows so far
-counted : (vs : List Variable) (t : List ℕ) (m : List ℤ) (less equal : ℕ) (es : List Entry) → RowsHeld vs t m less equal es → length (keep any_row es) ≡ less + equal
+counted : (vs : List Variable) (t : Table) (m : List ℤ) (less equal : ℕ) (es : List Entry) → RowsHeld vs t m less equal es → length (keep any_row es) ≡ less + equal
 counted vs t m less equal es h = omega (arith, rows-counted es, h.less_count, h.equal_count)
 
 -- ---- one element
 
-module _ (ns ts ds : List ℕ) (given : ℕ) (xs : List ℕ) (total : ℕ) where
+module _ (ns ts : List ℕ) (ds : Table) (given : ℕ) (xs : Table) (total : ℕ) where
   -- all names are visible
   pub seen_all : (w : World ns ts ds given) → seen_by w 64 ≡ w.names
   unfolding name_limit
@@ -117,7 +118,7 @@ module _ (ns ts ds : List ℕ) (given : ℕ) (xs : List ℕ) (total : ℕ) where
       record { right = x.0; floor = x.1 }
 
   -- a row in its slot
-  module _ (n : ℕ) (p : Parts) (sc : Scope) (e : Element) (f : Filled) (t : List ℕ) (m : List ℤ) (few : total ≤ 512) (wide : 263168 ≤ length m)
+  module _ (n : ℕ) (p : Parts) (sc : Scope) (e : Element) (f : Filled) (t : Table) (m : List ℤ) (few : total ≤ 512) (wide : 263168 ≤ length m)
       (slot : ℕ) (hs : slot ≡ next_slot f.less f.equal p.equal) (q : List ℤ) (side : Result (Value × ℕ) Refused)
       (kept : length q ≡ length (take (slot * 512 + total - slot * 512) (drop (slot * 512) m)))
       (h : RightIs p.flips p.floor ns ts ds given xs total 64 sc p.left p.right (take (slot * 512 + total - slot * 512) (drop (slot * 512) m)) side q) where
@@ -166,7 +167,7 @@ module _ (ns ts ds : List ℕ) (given : ℕ) (xs : List ℕ) (total : ℕ) where
                 ∙ ap (refused Full) k.tells.place;
           }
 
-      pub row_written : not room ≡ false → 4104 ≤ length t → (g : Filled) (t' : List ℕ) → Wrote t f p.equal n (list_of e) v word g t'
+      pub row_written : not room ≡ false → 1026 ≤ length t → (g : Filled) (t' : Table) → Wrote t f p.equal n (list_of e) v word g t'
           → RowAdds ns ts ds given xs total n p sc (list_of e) f t m (Ok g) t' written
       unfolding row_limit
       row_written z size g t' wr =
@@ -227,11 +228,11 @@ module _ (ns ts ds : List ℕ) (given : ℕ) (xs : List ℕ) (total : ℕ) where
 -- ---- the objective
 
 -- nothing is bound in an empty scope
-pub under_none : {ns ts ds : List ℕ} {given : ℕ} (w : World ns ts ds given) (sc : Scope) → bindings_of sc ≡ [] → under w sc ≡ nothing_bound w
+pub under_none : {ns ts : List ℕ} {ds : Table} {given : ℕ} (w : World ns ts ds given) (sc : Scope) → bindings_of sc ≡ [] → under w sc ≡ nothing_bound w
 unfolding scope_of
 under_none w sc h = rw h
 
-module _ (b : Bool) (ns ts ds : List ℕ) (given : ℕ) (xs : List ℕ) (total at : ℕ) where
+module _ (b : Bool) (ns ts : List ℕ) (ds : Table) (given : ℕ) (xs : Table) (total at : ℕ) where
   pub objective-many : (r : Result Unit Refused) (m' : List ℤ) → 512 < total → ObjectiveIs b ns ts ds given xs total at r m'
   unfolding variable_limit
   objective-many r m' h = record { is = λ g. absurd (omega arith) }

@@ -29,10 +29,11 @@ use Rattle.rows.proofs.Slotting.{rows_none}
 use Rattle.rows.proofs.Bounding.{bounds-none}
 use Rattle.gatherer.specs.Cycle.{Model}
 use Rattle.matrix.specs.Answers.{State, Adds, AddsBounds, Stays, Takes, RowsAdd, BoundsAdd, OneAdds, AllAdd, Generates}
+use Rattle.store.specs.Table.{Table}
 
 -- ---- one constraint
 
-module _ (ns ts ds : List ℕ) (given : ℕ) (xs : List ℕ) (total : ℕ) (cs : List ℕ) (k : ℕ) (f : Filled) (t b : List ℕ) (m : List ℤ) (p : Parts) (h : PartsAre ts cs k p) where
+module _ (ns ts : List ℕ) (ds : Table) (given : ℕ) (xs : Table) (total : ℕ) (cs : List ℕ) (k : ℕ) (f : Filled) (t : Table) (b : List ℕ) (m : List ℤ) (p : Parts) (h : PartsAre ts cs k p) where
   -- what the row tells
   takes : (w : Model ns ts ds given xs total) → k < name_bound → (c : Constraint) → RowOf w.world.text ts (row_at cs k) w.world.names c → Takes ns ts ds given xs total w k c p
   takes w n c r = record { tells = h.is w.world.text w.world.names c r; numbered = n }
@@ -40,7 +41,7 @@ module _ (ns ts ds : List ℕ) (given : ℕ) (xs : List ℕ) (total : ℕ) (cs :
   side-is : (v : Bool) → p.bare ≡ v → (w : Model ns ts ds given xs total) (c : Constraint) → RowOf w.world.text ts (row_at cs k) w.world.names c → is_bare c.left ≡ v
   side-is v i w c r = (h.is w.world.text w.world.names c r).bare ∙ i
 
-  pub one-rows : p.bare ≡ false → (r : Result Filled Refused) (t' : List ℕ) (m' : List ℤ) → RowsAdd ns ts ds given xs total k p f t m r t' m' → OneAdds ns ts ds given xs total cs k f t b m r t' b m'
+  pub one-rows : p.bare ≡ false → (r : Result Filled Refused) (t' : Table) (m' : List ℤ) → RowsAdd ns ts ds given xs total k p f t m r t' m' → OneAdds ns ts ds given xs total cs k f t b m r t' b m'
   one-rows i r t' m' a = record { stays = a.stays; adds = λ w n c row es st. a.adds w c (takes w n c row) (side-is false i w c row) b es st }
 
   module _ (i : p.bare ≡ true) (q : Result Unit Refused) (b' : List ℕ) (a : BoundsAdd ns ts ds given xs total p b q b') where
@@ -129,19 +130,19 @@ module _ (vs : List Variable) (s : Bindings) (k : ℕ) (l : List Constraint) (es
 
 -- ---- the loop
 
-module _ (ns ts ds : List ℕ) (given : ℕ) (xs : List ℕ) (total : ℕ) (cs : List ℕ) (count : ℕ) (t₀ b₀ : List ℕ) (m₀ : List ℤ) where
+module _ (ns ts : List ℕ) (ds : Table) (given : ℕ) (xs : Table) (total : ℕ) (cs : List ℕ) (count : ℕ) (t₀ : Table) (b₀ : List ℕ) (m₀ : List ℤ) where
   abbrev all-entries : (w : Model ns ts ds given xs total) → List Constraint → Outcome (List Entry)
   all-entries w l = add_entries w.variables (nothing_bound w.world) 0 l []
 
-  record AllAt (w : Model ns ts ds given xs total) (l : List Constraint) (f : Filled) (t b : List ℕ) (m : List ℤ) (k : ℕ) : Type 0 where
+  record AllAt (w : Model ns ts ds given xs total) (l : List Constraint) (f : Filled) (t : Table) (b : List ℕ) (m : List ℤ) (k : ℕ) : Type 0 where
     entries : List Entry
     state : State w.variables t m b f entries
     due : all-entries w l ≡ add_entries w.variables (nothing_bound w.world) k (drop k l) entries
 
-  pub record AllOn (f : Filled) (t b : List ℕ) (m : List ℤ) (k : ℕ) : Type 0 where
+  pub record AllOn (f : Filled) (t : Table) (b : List ℕ) (m : List ℤ) (k : ℕ) : Type 0 where
     pub few : total ≤ 512
     pub rowed : 320 ≤ length cs
-    pub room : 4104 ≤ length t
+    pub room : 1026 ≤ length t
     pub words : 1024 ≤ length b
     pub wide : 263168 ≤ length m
     pub slots : length t ≡ length t₀
@@ -152,7 +153,7 @@ module _ (ns ts ds : List ℕ) (given : ℕ) (xs : List ℕ) (total : ℕ) (cs :
     on : (w : Model ns ts ds given xs total) → count ≤ constraint_limit → (l : List Constraint) → Rows w.world.text ts (rows_of count cs) w.world.names l
         → ((i : ℕ) → get_or b₀ i 0 ≡ 0) → AllAt w l f t b m k
 
-  pub all_start : total ≤ 512 → 320 ≤ length cs → 4104 ≤ length t₀ → 1024 ≤ length b₀ → 263168 ≤ length m₀ → AllOn (record { less = 0; equal = 0 }) t₀ b₀ m₀ 0
+  pub all_start : total ≤ 512 → 320 ≤ length cs → 1026 ≤ length t₀ → 1024 ≤ length b₀ → 263168 ≤ length m₀ → AllOn (record { less = 0; equal = 0 }) t₀ b₀ m₀ 0
   all_start a b c d e =
       record {
         few = a;
@@ -168,7 +169,7 @@ module _ (ns ts ds : List ℕ) (given : ℕ) (xs : List ℕ) (total : ℕ) (cs :
         on = λ w i l r z. record { entries = []; state = record { rows = rows_none w.variables t₀ m₀; bounds = bounds-none b₀ (length w.variables) z }; due = refl };
       }
 
-  module _ (f : Filled) (t b : List ℕ) (m : List ℤ) (k : ℕ) (o : AllOn f t b m k) where
+  module _ (f : Filled) (t : Table) (b : List ℕ) (m : List ℤ) (k : ℕ) (o : AllOn f t b m k) where
     size-rows : count ≤ constraint_limit → length (rows_of count cs) ≡ count * 5
     unfolding constraint_limit
     size-rows h = length-take (count * 5) cs ∙ omega (arith, o.rowed)
@@ -183,7 +184,7 @@ module _ (ns ts ds : List ℕ) (given : ℕ) (xs : List ℕ) (total : ℕ) (cs :
               record { entries = x.entries; is = x.due ∙ entries_none w.variables (nothing_bound w.world) k l x.entries (drop_of_length-le l n); state = x.state };
         }
 
-    module _ (g : k < count) (q : Result Filled Refused) (t' b' : List ℕ) (m' : List ℤ) (a : OneAdds ns ts ds given xs total cs k f t b m q t' b' m') where
+    module _ (g : k < count) (q : Result Filled Refused) (t' : Table) (b' : List ℕ) (m' : List ℤ) (a : OneAdds ns ts ds given xs total cs k f t b m q t' b' m') where
       -- the constraint in row k
       next_row : (w : Model ns ts ds given xs total) → count ≤ constraint_limit → (l : List Constraint) → Rows w.world.text ts (rows_of count cs) w.world.names l → RowHere w.world.text ts w.world.names (rows_of count cs) l k
       next_row w i l r = row_here w.world.text ts w.world.names (rows_of count cs) l r k (omega (arith, size-rows i))
@@ -232,7 +233,7 @@ module _ (ns ts ds : List ℕ) (given : ℕ) (xs : List ℕ) (total : ℕ) (cs :
 
 -- ---- at most 512 variables
 
-module _ (ns ts ds : List ℕ) (given : ℕ) (xs : List ℕ) (total : ℕ) (cs : List ℕ) (count : ℕ) (b : List ℕ) (m : List ℤ) (r : Result Filled Refused) (t' b' : List ℕ) (m' : List ℤ) where
+module _ (ns ts : List ℕ) (ds : Table) (given : ℕ) (xs : Table) (total : ℕ) (cs : List ℕ) (count : ℕ) (b : List ℕ) (m : List ℤ) (r : Result Filled Refused) (t' : Table) (b' : List ℕ) (m' : List ℤ) where
   pub too_many : 512 < total → Generates ns ts ds given xs total cs count b m r t' b' m'
   unfolding variable_limit
   too_many h = record { all = λ g. absurd (omega arith) }

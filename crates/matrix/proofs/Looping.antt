@@ -1,10 +1,10 @@
 -- Laws of the loops over the elements of a constraint: they start, add an entry, are refused or end.
 use Rattle.std.specs.Prelude.{Err, None, Ok, Option, Result, Some}
 use Rattle.rules.specs.declared.Refused.{Refused}
-use mathlib.Core.Path.{◌≡◌, refl, sym, ◌∙◌, ap, subst}
+use mathlib.Core.Path.{◌≡◌, refl, sym, ◌∙◌, subst}
 use mathlib.Core.Bool.{true, false}
-use mathlib.Core.List.{List, [], ◌∷◌, map}
-use Prim.Native.Nat.{ℕ, ◌<◌, ◌≤◌}
+use mathlib.Core.List.{List, [], map}
+use Prim.Native.Nat.{ℕ, ◌≤◌}
 use native.Mathlib.Omega.{arith}
 use lib.ListN.{length}
 use lib.IntN.{ℤ}
@@ -21,29 +21,18 @@ use Rattle.evaluator.specs.Cycle.{nothing_bound, under}
 use Rattle.constraints.specs.Rows.{is_bare}
 use Rattle.elements.specs.declared.here.Here.{Here}
 use Rattle.elements.specs.Held.{held, number_of, bound}
-use Rattle.elements.specs.Steps.{turns_left, FirstIs, NextIs}
+use Rattle.elements.specs.Steps.{FirstIs, NextIs}
 use Rattle.elements.specs.Loops.{Remains}
-use Rattle.elements.proofs.Held.{map-take}
-use Rattle.elements.proofs.Loops.{next-less, loop-start, loop-more, loop-refused, loop-done, loop-stopped, loop-small, loop-subscripts}
+use Rattle.elements.proofs.Held.{element_at, element-held}
+use Rattle.elements.proofs.Loops.{loop-start, loop-more, loop-refused, loop-done, loop-stopped, loop-small, loop-subscripts}
 use Rattle.matrix.specs.declared.parts.Parts.{Parts}
 use Rattle.rows.specs.declared.Filled.{Filled}
 use Rattle.gatherer.specs.Cycle.{Model}
 use Rattle.matrix.specs.Answers.{State, Adds, AddsBounds, Stays, Takes, RowAdds, RowsAdd, BoundAdds, BoundsAdd}
 use Rattle.matrix.proofs.Adding.{seen_all}
+use Rattle.store.specs.Table.{Table}
 
--- the measure of both loops
-pub step-falls : (ns ts ds : List ℕ) (given level : ℕ) (h : Here) (q q' : Option Here) (r : Result (Option Here) Refused) → q ≡ Some h → NextIs ns ts ds given level h r → r ≡ Ok q' → turns_left (Ok q') < turns_left (Ok q)
-step-falls ns ts ds given level h q q' r e x f = subst (λ y. turns_left y < turns_left (Ok q)) f (next-less ns ts ds given level h (Ok q) r (ap Ok e) x)
-
--- the numbers of an element, where the step doesn't ask for them
-abbrev numbers : Here → Element
-numbers h = record { count = h.count; a = h.first.number; b = h.second.number; c = h.third.number; d = h.fourth.number }
-
-numbers-same : (h : Here) → list_of (numbers h) ≡ map number_of (held h)
-unfolding list_of held
-numbers-same h = sym (map-take number_of h.count (h.first ∷ h.second ∷ h.third ∷ h.fourth ∷ []))
-
-module _ (ns ts ds : List ℕ) (given : ℕ) (xs : List ℕ) (total : ℕ) where
+module _ (ns ts : List ℕ) (ds : Table) (given : ℕ) (xs : Table) (total : ℕ) where
   -- what is left to do at the elements that a step has
   abbrev Left : (w : Model ns ts ds given xs total) (n : ℕ) (c : Constraint) → Parts → Result (Option Here) Refused → List Entry → Outcome (List Entry) → Type 0
   Left w n c p = Remains w.world 64 p.count p.at (add_entry w.variables n c)
@@ -59,15 +48,15 @@ module _ (ns ts ds : List ℕ) (given : ℕ) (xs : List ℕ) (total : ℕ) where
 
   -- ---- rows
 
-  module _ (n : ℕ) (p : Parts) (f₀ : Filled) (t₀ : List ℕ) (m₀ : List ℤ) where
-    record RowsAt (w : Model ns ts ds given xs total) (c : Constraint) (b : List ℕ) (es : List Entry) (f : Filled) (t : List ℕ) (m : List ℤ) (r : Result (Option Here) Refused) : Type 0 where
+  module _ (n : ℕ) (p : Parts) (f₀ : Filled) (t₀ : Table) (m₀ : List ℤ) where
+    record RowsAt (w : Model ns ts ds given xs total) (c : Constraint) (b : List ℕ) (es : List Entry) (f : Filled) (t : Table) (m : List ℤ) (r : Result (Option Here) Refused) : Type 0 where
       entries : List Entry
       state : State w.variables t m b f entries
       remains : Left w n c p r entries (whole w n c es)
 
-    pub record RowsOn (f : Filled) (t : List ℕ) (m : List ℤ) (r : Result (Option Here) Refused) : Type 0 where
+    pub record RowsOn (f : Filled) (t : Table) (m : List ℤ) (r : Result (Option Here) Refused) : Type 0 where
       pub few : total ≤ 512
-      pub room : 4104 ≤ length t
+      pub room : 1026 ≤ length t
       pub wide : 263168 ≤ length m
       pub slots : length t ≡ length t₀
       pub counts : length m ≡ length m₀
@@ -75,19 +64,20 @@ module _ (ns ts ds : List ℕ) (given : ℕ) (xs : List ℕ) (total : ℕ) where
       on : (w : Model ns ts ds given xs total) (c : Constraint) → Takes ns ts ds given xs total w n c p → is_bare c.left ≡ false
           → (b : List ℕ) (es : List Entry) → State w.variables t₀ m₀ b f₀ es → RowsAt w c b es f t m r
 
-    pub rows_start : (r : Result (Option Here) Refused) → FirstIs ns ts ds given 64 p.count p.at r → (q : Option Here) → r ≡ Ok q → total ≤ 512 → 4104 ≤ length t₀ → 263168 ≤ length m₀ → RowsOn f₀ t₀ m₀ (Ok q)
-    rows_start r i q e x y z = subst (RowsOn f₀ t₀ m₀) e (record { few = x; room = y; wide = z; slots = refl; counts = refl; stays = refl; on = λ w c k b bs es st. record { entries = es; state = st; remains = left-start w n c p k r i es } })
+    pub rows_start : (r : Result (Option Here) Refused) → FirstIs ns ts ds given 64 p.count p.at r → total ≤ 512 → 1026 ≤ length t₀ → 263168 ≤ length m₀ → RowsOn f₀ t₀ m₀ r
+    rows_start r i x y z = record { few = x; room = y; wide = z; slots = refl; counts = refl; stays = refl; on = λ w c k b bs es st. record { entries = es; state = st; remains = left-start w n c p k r i es } }
 
-    pub rows-unstarted : (r : Result (Option Here) Refused) → FirstIs ns ts ds given 64 p.count p.at r → (e : Refused) → r ≡ Err e → RowsAdd ns ts ds given xs total n p f₀ t₀ m₀ (Err e) t₀ m₀
-    rows-unstarted r i y e =
-        record {
-          stays = refl;
-          adds = λ w c k b bs es st.
-              loop-stopped w.world 64 p.count p.at (add_entry w.variables n c) y es (whole w n c es) (subst (λ z. Left w n c p z es (whole w n c es)) e (left-start w n c p k r i es));
-        }
+    module _ (f : Filled) (t : Table) (m : List ℤ) (q : Result (Option Here) Refused) (s : RowsOn f t m q) where
+      pub rows-stopped : (e : Refused) → q ≡ Err e → RowsAdd ns ts ds given xs total n p f₀ t₀ m₀ (Err e) t m
+      rows-stopped y e =
+          record {
+            stays = s.stays;
+            adds = λ w c k b bs es st.
+                let x = s.on w c k b bs es st in
+                loop-stopped w.world 64 p.count p.at (add_entry w.variables n c) y x.entries (whole w n c es) (subst (λ z. Left w n c p z x.entries (whole w n c es)) e x.remains);
+          }
 
-    module _ (f : Filled) (t : List ℕ) (m : List ℤ) (q : Option Here) (s : RowsOn f t m (Ok q)) where
-      pub rows-done : q ≡ None → RowsAdd ns ts ds given xs total n p f₀ t₀ m₀ (Ok f) t m
+      pub rows-done : q ≡ Ok None → RowsAdd ns ts ds given xs total n p f₀ t₀ m₀ (Ok f) t m
       rows-done e =
           record {
             stays = s.stays;
@@ -95,12 +85,12 @@ module _ (ns ts ds : List ℕ) (given : ℕ) (xs : List ℕ) (total : ℕ) where
                 let x = s.on w c k b bs es st in
                 record {
                   entries = x.entries;
-                  is = loop-done w.world 64 p.count p.at (add_entry w.variables n c) x.entries (whole w n c es) (subst (λ z. Left w n c p (Ok z) x.entries (whole w n c es)) e x.remains);
+                  is = loop-done w.world 64 p.count p.at (add_entry w.variables n c) x.entries (whole w n c es) (subst (λ z. Left w n c p z x.entries (whole w n c es)) e x.remains);
                   state = x.state;
                 };
           }
 
-      module _ (h : Here) (e : q ≡ Some h) (sc : Scope) (hs : bindings_of sc ≡ bound (held h) []) (l : Element) (hl : list_of l ≡ map number_of (held h)) (z : Result Filled Refused) (t' : List ℕ) (m' : List ℤ)
+      module _ (h : Here) (e : q ≡ Ok (Some h)) (sc : Scope) (hs : bindings_of sc ≡ bound (held h) []) (l : Element) (hl : list_of l ≡ map number_of (held h)) (z : Result Filled Refused) (t' : Table) (m' : List ℤ)
           (add : RowAdds ns ts ds given xs total n p sc (list_of l) f t m z t' m') where
         -- the step at the element
         stepped : (w : Model ns ts ds given xs total) (c : Constraint) → Takes ns ts ds given xs total w n c p → is_bare c.left ≡ false → (b : List ℕ) (es : List Entry) → State w.variables t₀ m₀ b f₀ es
@@ -116,7 +106,7 @@ module _ (ns ts ds : List ℕ) (given : ℕ) (xs : List ℕ) (total : ℕ) where
             record {
               stays = add.stays ∙ s.stays;
               adds = λ w c k b bs es st.
-                  let x = subst (λ z. RowsAt w c bs es f t m (Ok z)) e (s.on w c k b bs es st) in
+                  let x = subst (RowsAt w c bs es f t m) e (s.on w c k b bs es st) in
                   let y = subst (λ z. Adds w.variables (add_entry w.variables n c (under w.world sc) (list_of l) x.entries) z t' m' bs) j (stepped w c k b bs es st x) in
                   loop-refused w.world 64 p.count p.at (add_entry w.variables n c) h x.entries (whole w n c es) x.remains sc hs l hl o.refusal o.place y;
             }
@@ -125,7 +115,7 @@ module _ (ns ts ds : List ℕ) (given : ℕ) (xs : List ℕ) (total : ℕ) where
           -- the entry is added, and the next step is r
           next-at : (w : Model ns ts ds given xs total) (c : Constraint) → Takes ns ts ds given xs total w n c p → is_bare c.left ≡ false → (b : List ℕ) (es : List Entry) → State w.variables t₀ m₀ b f₀ es → RowsAt w c b es g t' m' r
           next-at w c k b bs es st =
-              let x = subst (λ z. RowsAt w c bs es f t m (Ok z)) e (s.on w c k b bs es st) in
+              let x = subst (RowsAt w c bs es f t m) e (s.on w c k b bs es st) in
               let y = subst (λ z. Adds w.variables (add_entry w.variables n c (under w.world sc) (list_of l) x.entries) z t' m' bs) j (stepped w c k b bs es st x) in
               record {
                 entries = y.entries;
@@ -133,17 +123,8 @@ module _ (ns ts ds : List ℕ) (given : ℕ) (xs : List ℕ) (total : ℕ) where
                 remains = loop-more w.world 64 p.count p.at (add_entry w.variables n c) h x.entries (whole w n c es) x.remains sc hs l hl y.entries r y.is i;
               }
 
-          pub rows-stopped : (e : Refused) → r ≡ Err e → RowsAdd ns ts ds given xs total n p f₀ t₀ m₀ (Err e) t' m'
-          rows-stopped y e =
-              record {
-                stays = add.stays ∙ s.stays;
-                adds = λ w c k b bs es st.
-                    let x = next-at w c k b bs es st in
-                    loop-stopped w.world 64 p.count p.at (add_entry w.variables n c) y x.entries (whole w n c es) (subst (λ z. Left w n c p z x.entries (whole w n c es)) e x.remains);
-              }
-
-          pub rows_more : (q' : Option Here) → r ≡ Ok q' → length t' ≡ length t → length m' ≡ length m → RowsOn g t' m' (Ok q')
-          rows_more q' e ht hm =
+          pub rows_more : length t' ≡ length t → length m' ≡ length m → RowsOn g t' m' r
+          rows_more ht hm =
               record {
                 few = s.few;
                 room = omega (arith, s.room);
@@ -151,13 +132,13 @@ module _ (ns ts ds : List ℕ) (given : ℕ) (xs : List ℕ) (total : ℕ) where
                 slots = ht ∙ s.slots;
                 counts = hm ∙ s.counts;
                 stays = add.stays ∙ s.stays;
-                on = λ w c k b bs es st. subst (RowsAt w c bs es g t' m') e (next-at w c k b bs es st);
+                on = next-at;
               }
 
   -- ---- bounds
 
   module _ (p : Parts) (b₀ : List ℕ) where
-    record BoundsAt (w : Model ns ts ds given xs total) (n : ℕ) (c : Constraint) (t : List ℕ) (m : List ℤ) (f : Filled) (es : List Entry) (b : List ℕ) (r : Result (Option Here) Refused) : Type 0 where
+    record BoundsAt (w : Model ns ts ds given xs total) (n : ℕ) (c : Constraint) (t : Table) (m : List ℤ) (f : Filled) (es : List Entry) (b : List ℕ) (r : Result (Option Here) Refused) : Type 0 where
       entries : List Entry
       state : State w.variables t m b f entries
       remains : Left w n c p r entries (whole w n c es)
@@ -167,74 +148,67 @@ module _ (ns ts ds : List ℕ) (given : ℕ) (xs : List ℕ) (total : ℕ) where
       pub room : 1024 ≤ length b
       pub words : length b ≡ length b₀
       on : (w : Model ns ts ds given xs total) (n : ℕ) (c : Constraint) → Takes ns ts ds given xs total w n c p → is_bare c.left ≡ true
-          → (t : List ℕ) (m : List ℤ) (f : Filled) (es : List Entry) → State w.variables t m b₀ f es → BoundsAt w n c t m f es b r
+          → (t : Table) (m : List ℤ) (f : Filled) (es : List Entry) → State w.variables t m b₀ f es → BoundsAt w n c t m f es b r
 
-    pub bounds-start : (r : Result (Option Here) Refused) → FirstIs ns ts ds given 64 p.count p.at r → (q : Option Here) → r ≡ Ok q → total ≤ 512 → 1024 ≤ length b₀ → BoundsOn b₀ (Ok q)
-    bounds-start r i q e x y = subst (BoundsOn b₀) e (record { few = x; room = y; words = refl; on = λ w n c k a t m f es st. record { entries = es; state = st; remains = left-start w n c p k r i es } })
+    pub bounds-start : (r : Result (Option Here) Refused) → FirstIs ns ts ds given 64 p.count p.at r → total ≤ 512 → 1024 ≤ length b₀ → BoundsOn b₀ r
+    bounds-start r i x y = record { few = x; room = y; words = refl; on = λ w n c k a t m f es st. record { entries = es; state = st; remains = left-start w n c p k r i es } }
 
-    pub bounds-unstarted : (r : Result (Option Here) Refused) → FirstIs ns ts ds given 64 p.count p.at r → (e : Refused) → r ≡ Err e → BoundsAdd ns ts ds given xs total p b₀ (Err e) b₀
-    bounds-unstarted r i y e =
-        record {
-          adds = λ w n c k a t m f es st.
-              loop-stopped w.world 64 p.count p.at (add_entry w.variables n c) y es (whole w n c es) (subst (λ z. Left w n c p z es (whole w n c es)) e (left-start w n c p k r i es));
-        }
+    module _ (b : List ℕ) (q : Result (Option Here) Refused) (s : BoundsOn b q) where
+      pub bounds-stopped : (e : Refused) → q ≡ Err e → BoundsAdd ns ts ds given xs total p b₀ (Err e) b
+      bounds-stopped y e =
+          record {
+            adds = λ w n c k a t m f es st.
+                let x = s.on w n c k a t m f es st in
+                loop-stopped w.world 64 p.count p.at (add_entry w.variables n c) y x.entries (whole w n c es) (subst (λ z. Left w n c p z x.entries (whole w n c es)) e x.remains);
+          }
 
-    module _ (b : List ℕ) (q : Option Here) (s : BoundsOn b (Ok q)) where
-      pub bounds-done : q ≡ None → BoundsAdd ns ts ds given xs total p b₀ (Ok tt) b
+      pub bounds-done : q ≡ Ok None → BoundsAdd ns ts ds given xs total p b₀ (Ok tt) b
       bounds-done e =
           record {
             adds = λ w n c k a t m f es st.
                 let x = s.on w n c k a t m f es st in
                 record {
                   entries = x.entries;
-                  is = loop-done w.world 64 p.count p.at (add_entry w.variables n c) x.entries (whole w n c es) (subst (λ z. Left w n c p (Ok z) x.entries (whole w n c es)) e x.remains);
+                  is = loop-done w.world 64 p.count p.at (add_entry w.variables n c) x.entries (whole w n c es) (subst (λ z. Left w n c p z x.entries (whole w n c es)) e x.remains);
                   state = x.state;
                 };
           }
 
-      module _ (h : Here) (e : q ≡ Some h) (sc : Scope) (hs : bindings_of sc ≡ bound (held h) []) (z : Result Unit Refused) (b' : List ℕ) (add : BoundAdds ns ts ds given xs total p sc b z b') where
-        stated : (w : Model ns ts ds given xs total) (n : ℕ) (c : Constraint) → Takes ns ts ds given xs total w n c p → is_bare c.left ≡ true → (t : List ℕ) (m : List ℤ) (f : Filled) (es : List Entry)
-            → (x : BoundsAt w n c t m f es b (Ok (Some h))) → AddsBounds w.variables (add_entry w.variables n c (under w.world sc) (list_of (numbers h)) x.entries) z t m b' f
+      module _ (h : Here) (e : q ≡ Ok (Some h)) (sc : Scope) (hs : bindings_of sc ≡ bound (held h) []) (z : Result Unit Refused) (b' : List ℕ) (add : BoundAdds ns ts ds given xs total p sc b z b') where
+        stated : (w : Model ns ts ds given xs total) (n : ℕ) (c : Constraint) → Takes ns ts ds given xs total w n c p → is_bare c.left ≡ true → (t : Table) (m : List ℤ) (f : Filled) (es : List Entry)
+            → (x : BoundsAt w n c t m f es b (Ok (Some h))) → AddsBounds w.variables (add_entry w.variables n c (under w.world sc) (list_of (element_at h)) x.entries) z t m b' f
         stated w n c k a t m f es x =
             add.adds w n c k a
-            (loop-small w.world 64 p.count p.at (add_entry w.variables n c) h x.entries (whole w n c es) x.remains sc hs (numbers h) (numbers-same h))
-            (list_of (numbers h)) t m f x.entries x.state
+            (loop-small w.world 64 p.count p.at (add_entry w.variables n c) h x.entries (whole w n c es) x.remains sc hs (element_at h) (element-held h))
+            (list_of (element_at h)) t m f x.entries x.state
 
         pub bounds-refused : (e : Refused) → z ≡ Err e → BoundsAdd ns ts ds given xs total p b₀ (Err e) b'
         bounds-refused o j =
             record {
               adds = λ w n c k a t m f es st.
-                  let x = subst (λ z. BoundsAt w n c t m f es b (Ok z)) e (s.on w n c k a t m f es st) in
-                  let y = subst (λ z. AddsBounds w.variables (add_entry w.variables n c (under w.world sc) (list_of (numbers h)) x.entries) z t m b' f) j (stated w n c k a t m f es x) in
-                  loop-refused w.world 64 p.count p.at (add_entry w.variables n c) h x.entries (whole w n c es) x.remains sc hs (numbers h) (numbers-same h) o.refusal o.place y;
+                  let x = subst (BoundsAt w n c t m f es b) e (s.on w n c k a t m f es st) in
+                  let y = subst (λ z. AddsBounds w.variables (add_entry w.variables n c (under w.world sc) (list_of (element_at h)) x.entries) z t m b' f) j (stated w n c k a t m f es x) in
+                  loop-refused w.world 64 p.count p.at (add_entry w.variables n c) h x.entries (whole w n c es) x.remains sc hs (element_at h) (element-held h) o.refusal o.place y;
             }
 
         module _ (j : z ≡ Ok tt) (r : Result (Option Here) Refused) (i : NextIs ns ts ds given 64 h r) where
           -- the entry is added, and the next step is r
-          bound-next : (w : Model ns ts ds given xs total) (n : ℕ) (c : Constraint) → Takes ns ts ds given xs total w n c p → is_bare c.left ≡ true → (t : List ℕ) (m : List ℤ) (f : Filled) (es : List Entry) → State w.variables t m b₀ f es
+          bound-next : (w : Model ns ts ds given xs total) (n : ℕ) (c : Constraint) → Takes ns ts ds given xs total w n c p → is_bare c.left ≡ true → (t : Table) (m : List ℤ) (f : Filled) (es : List Entry) → State w.variables t m b₀ f es
               → BoundsAt w n c t m f es b' r
           bound-next w n c k a t m f es st =
-              let x = subst (λ z. BoundsAt w n c t m f es b (Ok z)) e (s.on w n c k a t m f es st) in
-              let y = subst (λ z. AddsBounds w.variables (add_entry w.variables n c (under w.world sc) (list_of (numbers h)) x.entries) z t m b' f) j (stated w n c k a t m f es x) in
+              let x = subst (BoundsAt w n c t m f es b) e (s.on w n c k a t m f es st) in
+              let y = subst (λ z. AddsBounds w.variables (add_entry w.variables n c (under w.world sc) (list_of (element_at h)) x.entries) z t m b' f) j (stated w n c k a t m f es x) in
               record {
                 entries = y.entries;
                 state = y.state;
-                remains = loop-more w.world 64 p.count p.at (add_entry w.variables n c) h x.entries (whole w n c es) x.remains sc hs (numbers h) (numbers-same h) y.entries r y.is i;
+                remains = loop-more w.world 64 p.count p.at (add_entry w.variables n c) h x.entries (whole w n c es) x.remains sc hs (element_at h) (element-held h) y.entries r y.is i;
               }
 
-          pub bounds-stopped : (e : Refused) → r ≡ Err e → BoundsAdd ns ts ds given xs total p b₀ (Err e) b'
-          bounds-stopped y e =
-              record {
-                adds = λ w n c k a t m f es st.
-                    let x = bound-next w n c k a t m f es st in
-                    loop-stopped w.world 64 p.count p.at (add_entry w.variables n c) y x.entries (whole w n c es) (subst (λ z. Left w n c p z x.entries (whole w n c es)) e x.remains);
-              }
-
-          pub bounds-more : (q' : Option Here) → r ≡ Ok q' → length b' ≡ length b → BoundsOn b' (Ok q')
-          bounds-more q' e hb =
+          pub bounds-more : length b' ≡ length b → BoundsOn b' r
+          bounds-more hb =
               record {
                 few = s.few;
                 room = omega (arith, s.room);
                 words = hb ∙ s.words;
-                on = λ w n c k a t m f es st. subst (BoundsAt w n c t m f es b') e (bound-next w n c k a t m f es st);
+                on = bound-next;
               }

@@ -22,23 +22,24 @@ use Rattle.rows.specs.declared.Filled.{Filled}
 use Rattle.rows.specs.Slots.{counts_at, objective_row, ObjectiveHeld, RowsHeld}
 use Rattle.rows.specs.Bounds.{BoundsHeld}
 use Rattle.gatherer.specs.Cycle.{Model}
+use Rattle.store.specs.Table.{Table}
 
 -- ---- what the tables hold of the entries so far
 
-pub record State (vs : List Variable) (t : List ℕ) (m : List ℤ) (b : List ℕ) (f : Filled) (es : List Entry) : Type 0 where
+pub record State (vs : List Variable) (t : Table) (m : List ℤ) (b : List ℕ) (f : Filled) (es : List Entry) : Type 0 where
   pub rows : RowsHeld vs t m f.less f.equal es
   pub bounds : BoundsHeld b (length vs) es
 
-pub record Added (vs : List Variable) (o : Outcome (List Entry)) (t : List ℕ) (m : List ℤ) (b : List ℕ) (f : Filled) : Type 0 where
+pub record Added (vs : List Variable) (o : Outcome (List Entry)) (t : Table) (m : List ℤ) (b : List ℕ) (f : Filled) : Type 0 where
   pub entries : List Entry
   pub is : o ≡ done entries
   pub state : State vs t m b f entries
 
-abbrev pub Adds : List Variable → Outcome (List Entry) → Result Filled Refused → List ℕ → List ℤ → List ℕ → Type 0
+abbrev pub Adds : List Variable → Outcome (List Entry) → Result Filled Refused → Table → List ℤ → List ℕ → Type 0
 Adds vs o (Ok f) t m b = Added vs o t m b f
 Adds vs o (Err e) t m b = o ≡ refused e.refusal e.place
 
-abbrev pub AddsBounds : List Variable → Outcome (List Entry) → Result Unit Refused → List ℕ → List ℤ → List ℕ → Filled → Type 0
+abbrev pub AddsBounds : List Variable → Outcome (List Entry) → Result Unit Refused → Table → List ℤ → List ℕ → Filled → Type 0
 AddsBounds vs o (Ok tt) t m b f = Added vs o t m b f
 AddsBounds vs o (Err e) t m b f = o ≡ refused e.refusal e.place
 
@@ -48,20 +49,20 @@ Stays total m m' = counts_at m' total objective_row ≡ counts_at m total object
 
 -- ---- one constraint
 
-module _ (ns ts ds : List ℕ) (given : ℕ) (xs : List ℕ) (total : ℕ) where
+module _ (ns ts : List ℕ) (ds : Table) (given : ℕ) (xs : Table) (total : ℕ) where
   -- constraint number n is c, whose parts are p
   pub record Takes (w : Model ns ts ds given xs total) (n : ℕ) (c : Constraint) (p : Parts) : Type 0 where
     pub tells : Tells w.world.text ts w.world.names c p
     pub numbered : n < name_bound
 
   -- its row at one element, and at all
-  pub record RowAdds (n : ℕ) (p : Parts) (sc : Scope) (e : List ℤ) (f : Filled) (t : List ℕ) (m : List ℤ) (r : Result Filled Refused) (t' : List ℕ) (m' : List ℤ) : Type 0 where
+  pub record RowAdds (n : ℕ) (p : Parts) (sc : Scope) (e : List ℤ) (f : Filled) (t : Table) (m : List ℤ) (r : Result Filled Refused) (t' : Table) (m' : List ℤ) : Type 0 where
     pub stays : Stays total m m'
     pub adds : (w : Model ns ts ds given xs total) (c : Constraint) → Takes w n c p → is_bare c.left ≡ false → Small sc → Subscripts e
         → (b : List ℕ) (es : List Entry) → State w.variables t m b f es
         → Adds w.variables (add_entry w.variables n c (under w.world sc) e es) r t' m' b
 
-  pub record RowsAdd (n : ℕ) (p : Parts) (f : Filled) (t : List ℕ) (m : List ℤ) (r : Result Filled Refused) (t' : List ℕ) (m' : List ℤ) : Type 0 where
+  pub record RowsAdd (n : ℕ) (p : Parts) (f : Filled) (t : Table) (m : List ℤ) (r : Result Filled Refused) (t' : Table) (m' : List ℤ) : Type 0 where
     pub stays : Stays total m m'
     pub adds : (w : Model ns ts ds given xs total) (c : Constraint) → Takes w n c p → is_bare c.left ≡ false
         → (b : List ℕ) (es : List Entry) → State w.variables t m b f es
@@ -70,31 +71,31 @@ module _ (ns ts ds : List ℕ) (given : ℕ) (xs : List ℕ) (total : ℕ) where
   -- its bound at one element, and at all
   pub record BoundAdds (p : Parts) (sc : Scope) (b : List ℕ) (r : Result Unit Refused) (b' : List ℕ) : Type 0 where
     pub adds : (w : Model ns ts ds given xs total) (n : ℕ) (c : Constraint) → Takes w n c p → is_bare c.left ≡ true → Small sc
-        → (e : List ℤ) (t : List ℕ) (m : List ℤ) (f : Filled) (es : List Entry) → State w.variables t m b f es
+        → (e : List ℤ) (t : Table) (m : List ℤ) (f : Filled) (es : List Entry) → State w.variables t m b f es
         → AddsBounds w.variables (add_entry w.variables n c (under w.world sc) e es) r t m b' f
 
   pub record BoundsAdd (p : Parts) (b : List ℕ) (r : Result Unit Refused) (b' : List ℕ) : Type 0 where
     pub adds : (w : Model ns ts ds given xs total) (n : ℕ) (c : Constraint) → Takes w n c p → is_bare c.left ≡ true
-        → (t : List ℕ) (m : List ℤ) (f : Filled) (es : List Entry) → State w.variables t m b f es
+        → (t : Table) (m : List ℤ) (f : Filled) (es : List Entry) → State w.variables t m b f es
         → AddsBounds w.variables (over c.domain (nothing_bound w.world) (add_entry w.variables n c) es) r t m b' f
 
 -- ---- all constraints
 
 -- constraint number k, in its row of the table cs
-pub record OneAdds (ns ts ds : List ℕ) (given : ℕ) (xs : List ℕ) (total : ℕ) (cs : List ℕ) (k : ℕ) (f : Filled) (t b : List ℕ) (m : List ℤ) (r : Result Filled Refused) (t' b' : List ℕ) (m' : List ℤ) : Type 0 where
+pub record OneAdds (ns ts : List ℕ) (ds : Table) (given : ℕ) (xs : Table) (total : ℕ) (cs : List ℕ) (k : ℕ) (f : Filled) (t : Table) (b : List ℕ) (m : List ℤ) (r : Result Filled Refused) (t' : Table) (b' : List ℕ) (m' : List ℤ) : Type 0 where
   pub stays : Stays total m m'
   pub adds : (w : Model ns ts ds given xs total) → k < name_bound → (c : Constraint) → RowOf w.world.text ts (row_at cs k) w.world.names c
       → (es : List Entry) → State w.variables t m b f es
       → Adds w.variables (over c.domain (nothing_bound w.world) (add_entry w.variables k c) es) r t' m' b'
 
 -- the constraints of the first `count` rows, from tables in which no bound is stated
-pub record AllAdd (ns ts ds : List ℕ) (given : ℕ) (xs : List ℕ) (total : ℕ) (cs : List ℕ) (count : ℕ) (b : List ℕ) (m : List ℤ) (r : Result Filled Refused) (t' b' : List ℕ) (m' : List ℤ) : Type 0 where
+pub record AllAdd (ns ts : List ℕ) (ds : Table) (given : ℕ) (xs : Table) (total : ℕ) (cs : List ℕ) (count : ℕ) (b : List ℕ) (m : List ℤ) (r : Result Filled Refused) (t' : Table) (b' : List ℕ) (m' : List ℤ) : Type 0 where
   pub stays : Stays total m m'
   pub adds : (w : Model ns ts ds given xs total) → count ≤ constraint_limit → (l : List Constraint) → Rows w.world.text ts (rows_of count cs) w.world.names l
       → ((k : ℕ) → get_or b k 0 ≡ 0) → Adds w.variables (add_entries w.variables (nothing_bound w.world) 0 l []) r t' m' b'
 
 -- the same for at most 512 variables
-pub record Generates (ns ts ds : List ℕ) (given : ℕ) (xs : List ℕ) (total : ℕ) (cs : List ℕ) (count : ℕ) (b : List ℕ) (m : List ℤ) (r : Result Filled Refused) (t' b' : List ℕ) (m' : List ℤ) : Type 0 where
+pub record Generates (ns ts : List ℕ) (ds : Table) (given : ℕ) (xs : Table) (total : ℕ) (cs : List ℕ) (count : ℕ) (b : List ℕ) (m : List ℤ) (r : Result Filled Refused) (t' : Table) (b' : List ℕ) (m' : List ℤ) : Type 0 where
   pub all : total ≤ variable_limit → AllAdd ns ts ds given xs total cs count b m r t' b' m'
 
 -- ---- the objective
@@ -110,6 +111,6 @@ ObjectiveAdds vs b o (Ok tt) m = Objective vs b o m
 ObjectiveAdds vs b o (Err e) m = o ≡ refused e.refusal e.place
 
 -- the form at a position, negated for a minimum
-pub record ObjectiveIs (b : Bool) (ns ts ds : List ℕ) (given : ℕ) (xs : List ℕ) (total : ℕ) (at : ℕ) (r : Result Unit Refused) (m' : List ℤ) : Type 0 where
+pub record ObjectiveIs (b : Bool) (ns ts : List ℕ) (ds : Table) (given : ℕ) (xs : Table) (total : ℕ) (at : ℕ) (r : Result Unit Refused) (m' : List ℤ) : Type 0 where
   pub is : total ≤ variable_limit → (w : Model ns ts ds given xs total) (x : Linear) → Stands (linear_at w.world.names nesting_limit) w.world.text ts at x
       → ObjectiveAdds w.variables b (gathered w.variables x.form (nothing_bound w.world)) r m'

@@ -11,29 +11,30 @@ ghost use Rattle.store.specs.Element.{list_of};
 ghost use Rattle.matrix.specs.Answers.{RowAdds, RowsAdd, BoundAdds, BoundsAdd, OneAdds, AllAdd, Generates, ObjectiveIs};
 ghost use Rattle.evaluator.specs.Context.{Over};
 
+use elements::walk::Walk;
 use evaluator::steps::scope::Scope;
 use evaluator::{Context, Stored};
 use parts::Parts;
 use rows::Filled;
 use rules::{Refused, refused};
-use store::Element;
+use store::{Element, Row};
 
 // ---- rows
 
 // The row of constraint number k at the element e, where `scope` is bound.
 fn row(
     stored: Stored<'_>,
-    variables: &[u64],
+    variables: &[Row],
     total: usize,
     k: usize,
     parts: Parts,
     scope: Scope,
     e: Element,
     filled: Filled,
-    slots: &mut [u64],
+    slots: &mut [Row],
     counts: &mut [i64],
 ) -> Result<Filled, Refused>
-    requires { (total ≤ 512) × (4104 ≤ length slots.old) × (263168 ≤ length counts.old) }
+    requires { (total ≤ 512) × (1026 ≤ length slots.old) × (263168 ≤ length counts.old) }
     ensures { Over RowAdds stored.entry variables.now total k parts scope (list_of e) filled slots.old counts.old result slots.new counts.new }
 {
     let equal = parts.equal;
@@ -65,15 +66,15 @@ fn row(
 // The rows of constraint number k.
 fn rows_of(
     stored: Stored<'_>,
-    variables: &[u64],
+    variables: &[Row],
     total: usize,
     k: usize,
     parts: Parts,
     filled: Filled,
-    slots: &mut [u64],
+    slots: &mut [Row],
     counts: &mut [i64],
 ) -> Result<Filled, Refused>
-    requires { (total ≤ 512) × (4104 ≤ length slots.old) × (263168 ≤ length counts.old) }
+    requires { (total ≤ 512) × (1026 ≤ length slots.old) × (263168 ≤ length counts.old) }
     ensures { Over RowsAdd stored.entry variables.now total k parts filled slots.old counts.old result slots.new counts.new }
 {
     let cx = Context {
@@ -82,9 +83,9 @@ fn rows_of(
         nest: rules::NESTING_LIMIT,
         scope: Scope::none(),
     };
-    let mut step = elements::first(&cx, parts.count, parts.at)?;
     let mut f = filled;
-    while let Some(h) = step {
+    for here in Walk::new(cx, parts.count, parts.at) {
+        let h = here?;
         f = row(
             stored,
             variables,
@@ -97,7 +98,6 @@ fn rows_of(
             slots,
             counts,
         )?;
-        step = elements::next(&cx, h)?;
     }
     Ok(f)
 }
@@ -107,7 +107,7 @@ fn rows_of(
 // The bound of a constraint where `scope` is bound.
 fn bound(
     stored: Stored<'_>,
-    variables: &[u64],
+    variables: &[Row],
     total: usize,
     parts: Parts,
     scope: Scope,
@@ -137,7 +137,7 @@ fn bound(
 // The bounds of a constraint.
 fn bounds_of(
     stored: Stored<'_>,
-    variables: &[u64],
+    variables: &[Row],
     total: usize,
     parts: Parts,
     bounds: &mut [u64],
@@ -151,10 +151,9 @@ fn bounds_of(
         nest: rules::NESTING_LIMIT,
         scope: Scope::none(),
     };
-    let mut step = elements::first(&cx, parts.count, parts.at)?;
-    while let Some(h) = step {
+    for here in Walk::new(cx, parts.count, parts.at) {
+        let h = here?;
         bound(stored, variables, total, parts, h.scope(), bounds)?;
-        step = elements::next(&cx, h)?;
     }
     Ok(())
 }
@@ -164,16 +163,16 @@ fn bounds_of(
 // Constraint number k: bounds where its left side is one variable, else rows.
 fn one(
     stored: Stored<'_>,
-    variables: &[u64],
+    variables: &[Row],
     total: usize,
     constraints: &[u64],
     k: usize,
     filled: Filled,
-    slots: &mut [u64],
+    slots: &mut [Row],
     bounds: &mut [u64],
     counts: &mut [i64],
 ) -> Result<Filled, Refused>
-    requires { (total ≤ 512) × (4104 ≤ length slots.old) × (1024 ≤ length bounds.old) × (263168 ≤ length counts.old) }
+    requires { (total ≤ 512) × (1026 ≤ length slots.old) × (1024 ≤ length bounds.old) × (263168 ≤ length counts.old) }
     ensures { Over OneAdds stored.entry variables.now total constraints.now k filled slots.old bounds.old counts.old result slots.new bounds.new counts.new }
 {
     let parts = parts::read(stored.tokens, constraints, k);
@@ -187,15 +186,15 @@ fn one(
 // The constraints of the first `count` rows.
 fn all(
     stored: Stored<'_>,
-    variables: &[u64],
+    variables: &[Row],
     total: usize,
     constraints: &[u64],
     count: usize,
-    slots: &mut [u64],
+    slots: &mut [Row],
     bounds: &mut [u64],
     counts: &mut [i64],
 ) -> Result<Filled, Refused>
-    requires { (total ≤ 512) × (4104 ≤ length slots.old) × (1024 ≤ length bounds.old) × (263168 ≤ length counts.old) × (320 ≤ length constraints.now) }
+    requires { (total ≤ 512) × (1026 ≤ length slots.old) × (1024 ≤ length bounds.old) × (263168 ≤ length counts.old) × (320 ≤ length constraints.now) }
     ensures { Over AllAdd stored.entry variables.now total constraints.now count bounds.old counts.old result slots.new bounds.new counts.new }
 {
     let mut f = Filled { less: 0, equal: 0 };
@@ -218,11 +217,11 @@ fn all(
 // All constraints, in the first `count` rows of their table: the slots of their rows, their bounds, and the rows of counts.
 pub fn constraints(
     stored: Stored<'_>,
-    variables: &[u64],
+    variables: &[Row],
     total: usize,
     constraints: &[u64; 320],
     count: usize,
-    slots: &mut [u64; 4104],
+    slots: &mut [Row; 1026],
     bounds: &mut [u64; 1024],
     counts: &mut [i64; 263168],
 ) -> Result<Filled, Refused>
@@ -248,7 +247,7 @@ pub fn constraints(
 // The objective's row of counts, behind the slots.
 fn objective_row(
     stored: Stored<'_>,
-    variables: &[u64],
+    variables: &[Row],
     total: usize,
     at: usize,
     minimize: bool,
@@ -272,7 +271,7 @@ fn objective_row(
 // The objective, whose form stands at a position, in its row of counts; negated for a minimum.
 pub fn objective(
     stored: Stored<'_>,
-    variables: &[u64],
+    variables: &[Row],
     total: usize,
     at: usize,
     minimize: bool,

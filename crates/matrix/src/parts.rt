@@ -3,7 +3,7 @@
 ghost use Rattle.matrix.specs.Parts.Parts.{PlaceIs, FirstIs, PartsAre};
 
 use constraints::layout;
-use lexer::marks;
+use lexer::Mark;
 
 // A constraint's place, the positions of its sides and of the first entry of its domain, and how many entries there are. `bare`:
 // its left side is one variable; `floor`: a floor follows its right side; `flips`: both sides of its row are negated; `equal`: it
@@ -40,7 +40,7 @@ fn first_entry(tokens: &[u64], at: usize) -> usize
     let Ok(token) = tokens::token_at(tokens, at) else {
         return at;
     };
-    if token.kind == marks::LEFT_PAREN as u64 {
+    if token.kind == Mark::LeftParen as u64 {
         return token.next;
     }
     at
@@ -66,9 +66,9 @@ pub fn read(tokens: &[u64], constraints: &[u64], k: usize) -> Parts
         count,
         bare,
         floor,
-        flips: mark == marks::AT_LEAST as u64,
-        equal: mark == marks::EQUALS as u64,
-        lower: mark != marks::AT_MOST as u64,
-        upper: mark != marks::AT_LEAST as u64,
+        flips: mark == Mark::AtLeast as u64,
+        equal: mark == Mark::Equals as u64,
+        lower: mark != Mark::AtMost as u64,
+        upper: mark != Mark::AtLeast as u64,
     }
 }

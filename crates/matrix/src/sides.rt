@@ -8,6 +8,7 @@ ghost use Rattle.evaluator.specs.Context.{Over, Under};
 use evaluator::Context;
 use evaluator::steps::{passing, values};
 use rules::{Refused, refused};
+use store::Row;
 use value::Value;
 
 // A variable's number from 0, the right side, and the word of the floor.
@@ -18,7 +19,8 @@ pub struct Bounded {
     pub floor: u64,
 }
 
-// The right side at a position and, where there is one, the floor behind it: two signs and a formula.
+// The right side at a position and, where there is one, the floor behind it: two signs and a formula. Here and below `floor` says what was
+// read of the constraint: data, not a step.
 fn ends_at(cx: &Context<'_>, at: usize, floor: bool) -> Result<(Value, u64), Refused>
     ensures { Under (EndsAre floor) cx.now at result }
 {
@@ -33,7 +35,7 @@ fn ends_at(cx: &Context<'_>, at: usize, floor: bool) -> Result<(Value, u64), Ref
 
 // The number of the variable that is the left side at a position.
 fn number_of(
-    variables: &[u64],
+    variables: &[Row],
     total: usize,
     cx: &Context<'_>,
     at: usize,
@@ -60,7 +62,7 @@ fn number_of(
 // What a constraint states at an element: the left side, one variable, stands at `left`, the right side at `right`, and a floor
 // may follow it.
 pub fn bound_at(
-    variables: &[u64],
+    variables: &[Row],
     total: usize,
     cx: &Context<'_>,
     left: usize,
@@ -80,7 +82,7 @@ pub fn bound_at(
 
 // The coefficients of the linear form at a position, gathered from zeros.
 fn gather(
-    variables: &[u64],
+    variables: &[Row],
     total: usize,
     cx: &Context<'_>,
     at: usize,
@@ -105,7 +107,7 @@ fn turn(negative: bool, counts: &mut [i64])
 // The row that a constraint gives at an element, both sides negated where `flips`: its counts, its right side and its floor. The
 // left side stands at `left`, the right side at `right`, and a floor may follow it.
 pub fn row_at(
-    variables: &[u64],
+    variables: &[Row],
     total: usize,
     cx: &Context<'_>,
     left: usize,
@@ -124,7 +126,7 @@ pub fn row_at(
 
 // The coefficients of the objective, whose form stands at a position, negated for a minimum.
 pub fn objective_at(
-    variables: &[u64],
+    variables: &[Row],
     total: usize,
     cx: &Context<'_>,
     at: usize,

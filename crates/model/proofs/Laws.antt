@@ -28,6 +28,7 @@ use Rattle.data.specs.Sections.{GivenIs, ReadsData}
 use Rattle.model.specs.declared.Model.{Model}
 use Rattle.model.specs.ReadAs.{Scans, model_of, made, Finishes, Reading, ReadAs}
 use Rattle.model.proofs.Grounds.{resolved-structure, placed_of, ground-of, ground-names}
+use Rattle.store.specs.Table.{Table}
 
 -- ---- parts of tables
 
@@ -47,7 +48,7 @@ scan-holds s t t' r e w = record { few = omega (arith, e, w.within); holds = tab
 
 -- ---- what is answered
 
-module _ (s t ns t' ds : List ℕ) (n : ℕ) (x : Parsed) (a : ℕ) (g : Result Given Refused) (z : Resolves s (rows_of x.names ns) (take n t) (take n t')) (d : ReadsData s (rows_of x.names ns) (take n t') a g ds) where
+module _ (s t ns t' : List ℕ) (ds : Table) (n : ℕ) (x : Parsed) (a : ℕ) (g : Result Given Refused) (z : Resolves s (rows_of x.names ns) (take n t) (take n t')) (d : ReadsData s (rows_of x.names ns) (take n t') a g ds) where
   pub finish-refused : (e : Refused) → g ≡ Err e → Finishes s t ns n x a (Err e) t' ds
   finish-refused e i = record { section = g; resolves = z; reads = d; model = rw i refl }
 
@@ -56,7 +57,7 @@ module _ (s t ns t' ds : List ℕ) (n : ℕ) (x : Parsed) (a : ℕ) (g : Result 
 
 -- ---- the whole text
 
-module _ (s t ns cs ds : List ℕ) (n : ℕ) (r : Result (Parsed × ℕ) Refused) (c : Scans s n t) (h : ParsedAs s (take n t) r ns cs) where
+module _ (s t ns cs : List ℕ) (ds : Table) (n : ℕ) (r : Result (Parsed × ℕ) Refused) (c : Scans s n t) (h : ParsedAs s (take n t) r ns cs) where
   parsing : Parsing (structure (tokens s)) s (take n t) r ns cs
   parsing = subst (λ l. Parsing (structure l) s (take n t) r ns cs) (holds-from s (take n t) c.holds) h.outcome
 

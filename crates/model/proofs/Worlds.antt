@@ -17,10 +17,11 @@ use Rattle.elements.specs.Placed.{Placed}
 use Rattle.data.proofs.Rows.{stores-given}
 use Rattle.model.specs.declared.Model.{Model}
 use Rattle.model.specs.ReadAs.{ModelAt, Reading, ReadAs}
+use Rattle.store.specs.Table.{Table}
 
 -- ---- the answer
 
-module _ (s : List ℕ) (r : Result Model Refused) (ts ns cs ds : List ℕ) (h : ReadAs s r ts ns cs ds) where
+module _ (s : List ℕ) (r : Result Model Refused) (ts ns cs : List ℕ) (ds : Table) (h : ReadAs s r ts ns cs ds) where
   pub text-refused : (e : Refused) → r ≡ Err e → read_model s ≡ refused e.refusal e.place
   text-refused z e = go (read_model s) (subst (Reading (read_model s) s ts ns cs ds) e h.outcome)
     where
@@ -44,14 +45,14 @@ module _ (s : List ℕ) (r : Result Model Refused) (ts ns cs ds : List ℕ) (h :
 -- ---- the world
 
 -- the tables hold the text s and the names and data of m
-pub record Holds (s ns ts ds : List ℕ) (given : ℕ) (m : language.Model) : Type 0 where
+pub record Holds (s ns ts : List ℕ) (ds : Table) (given : ℕ) (m : language.Model) : Type 0 where
   pub world : World ns ts ds given
   pub text : world.text ≡ s
   pub names : world.names ≡ m.structure.names
   pub known : world.known ≡ stored m.given.store
   pub placed : Placed ns world.names
 
-pub model-holds : (s ts ns cs ds : List ℕ) (r : Model) (m : language.Model) → ModelAt s ts ns cs ds r m → Holds s (rows_of r.names ns) ts ds r.given m
+pub model-holds : (s ts ns cs : List ℕ) (ds : Table) (r : Model) (m : language.Model) → ModelAt s ts ns cs ds r m → Holds s (rows_of r.names ns) ts ds r.given m
 model-holds s ts ns cs ds r m h =
     record {
       world = world_on h.ground (stores-given ds r.given m.given.store h.store);
@@ -62,6 +63,6 @@ model-holds s ts ns cs ds r m h =
     }
 
 -- evaluation starts with all data and nothing bound
-pub holds-start : (s ns ts ds : List ℕ) (given : ℕ) (m : language.Model) (h : Holds s ns ts ds given m) → nothing_bound h.world ≡ start m
+pub holds-start : (s ns ts : List ℕ) (ds : Table) (given : ℕ) (m : language.Model) (h : Holds s ns ts ds given m) → nothing_bound h.world ≡ start m
 unfolding start scope_of
 holds-start s ns ts ds given m h = rw h.known refl

@@ -15,6 +15,7 @@ use Rattle.data.specs.declared.Given.{Given}
 use Rattle.data.specs.Stores.{Stores}
 use Rattle.data.specs.Sections.{ReadsData}
 use Rattle.model.specs.declared.Model.{Model}
+use Rattle.store.specs.Table.{Table}
 
 -- the first n words of the table are the text's tokens
 pub record Scans (s : List ℕ) (n : ℕ) (ts : List ℕ) : Type 0 where
@@ -42,7 +43,7 @@ made n x (Ok w) = Ok (model_of n x w)
 made n x (Err e) = Err e
 
 -- the names of the structure x are resolved, and the data section is read from the position a on
-pub record Finishes (s t ns : List ℕ) (n : ℕ) (x : Parsed) (a : ℕ) (r : Result Model Refused) (t' ds : List ℕ) : Type 0 where
+pub record Finishes (s t ns : List ℕ) (n : ℕ) (x : Parsed) (a : ℕ) (r : Result Model Refused) (t' : List ℕ) (ds : Table) : Type 0 where
   pub section : Result Given Refused
   pub resolves : Resolves s (rows_of x.names ns) (take n t) (take n t')
   pub reads : ReadsData s (rows_of x.names ns) (take n t') a section ds
@@ -56,7 +57,7 @@ parsed_of r = record { title = r.title; names = r.names; minimize = r.minimize; 
 
 -- ts are the text's tokens with the numbers of their names; the first rows of ns and cs tell of the names and constraints, those
 -- of ds hold the data
-pub record ModelAt (s ts ns cs ds : List ℕ) (r : Model) (m : language.Model) : Type 0 where
+pub record ModelAt (s ts ns cs : List ℕ) (ds : Table) (r : Model) (m : language.Model) : Type 0 where
   pub ground : Ground s (rows_of r.names ns) ts
   pub names : ground.names ≡ m.structure.names
   pub placed : Placed (rows_of r.names ns) m.structure.names
@@ -65,13 +66,13 @@ pub record ModelAt (s ts ns cs ds : List ℕ) (r : Model) (m : language.Model) :
   pub store : Stores ds r.given m.given.store
 
 -- the same refusal, or the tables tell of the model
-abbrev pub Reading : Outcome language.Model → List ℕ → List ℕ → List ℕ → List ℕ → List ℕ → Result Model Refused → Type 0
+abbrev pub Reading : Outcome language.Model → List ℕ → List ℕ → List ℕ → List ℕ → Table → Result Model Refused → Type 0
 Reading (done m) s ts ns cs ds (Ok r) = ModelAt s (take r.tokens ts) ns cs ds r m
 Reading (done m) s ts ns cs ds (Err e) = ⊥
 Reading (refused k q) s ts ns cs ds (Ok r) = ⊥
 Reading (refused k q) s ts ns cs ds (Err e) = (k ≡ e.refusal) × (q ≡ e.place)
 
-pub record ReadAs (s : List ℕ) (r : Result Model Refused) (ts ns cs ds : List ℕ) : Type 0 where
+pub record ReadAs (s : List ℕ) (r : Result Model Refused) (ts ns cs : List ℕ) (ds : Table) : Type 0 where
   pub scanned : IfOk r (λ x. x.tokens ≤ 16385)
   pub named : IfOk r (λ x. x.names ≤ 64)
   pub constrained : IfOk r (λ x. x.constraints ≤ 64)

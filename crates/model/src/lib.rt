@@ -10,6 +10,7 @@ ghost use Rattle.model.specs.ReadAs.{Scans, Finishes, ReadAs};
 
 use data::Given;
 use rules::Refused;
+use store::Row;
 use tokens::Text;
 
 // The number of a text's tokens; the position of its string, the number of its names, whether its objective is a minimum and at
@@ -66,7 +67,7 @@ fn read_section(
     count: usize,
     tokens: &[u64],
     n: usize,
-    store: &mut [u64; 8192],
+    store: &mut [Row; 2048],
     at: usize,
 ) -> Result<Given, Refused>
     requires { (n ≤ length tokens.now) × (320 ≤ length names.now) × (count ≤ 64) }
@@ -86,7 +87,7 @@ fn finish(
     text: &[u8],
     tokens: &mut [u64; 16385],
     names: &[u64],
-    store: &mut [u64; 8192],
+    store: &mut [Row; 2048],
     n: usize,
     structure: parser::Parsed,
     at: usize,
@@ -116,7 +117,7 @@ pub fn read(
     tokens: &mut [u64; 16385],
     names: &mut [u64; 320],
     constraints: &mut [u64; 320],
-    store: &mut [u64; 8192],
+    store: &mut [Row; 2048],
 ) -> Result<Model, Refused>
     ensures { ReadAs text.now result tokens.new names.new constraints.new store.new }
 {

@@ -14,7 +14,7 @@ use Rattle.value.proofs.Operations.{negate-valid, zero_is}
 use Rattle.language.specs.All.{All}
 use Rattle.language.proofs.All.{all_left, all_right}
 use Rattle.language.specs.Valid.{ValidIfAny}
-use Rattle.language.proofs.Outcome.{some-injective, none-some}
+use Rattle.language.proofs.Outcome.{some-injective}
 use Rattle.mps.specs.Sheet.{Column, Bounds, Sheet, ColumnFormed, BoundsFormed, Formed}
 use Rattle.mps.specs.Export.{named, less_line, floor_line, equal_line, cell_head, floor_cell_head, objective_head, right_head, floor_head, lower_head, upper_head, no_upper_line, value_line, if_floor, first_floor, later_floors, less_lines, equal_lines, cell_lines, column_lines, columns_from, discrete_lines, right_lines, upper_line, bound_lines, mps_of}
 use Rattle.mps.specs.Reading.{Read, strip, as_read, floor_here, less_rows, equal_rows, repeated, cell_by, read_cells, read_column, columns_by, read_columns, discrete_by, read_discrete, read_floor, read_less, read_equal, upper_by, read_upper, read_bounds, read_kinds, read_sheet, alone, sheet_in}
@@ -309,4 +309,4 @@ pub export-once : (s t : Sheet) → Formed s → Formed t → mps_of s ≡ mps_o
 export-once s t hs ht e = some-injective (sym (complete s hs) ∙ ap sheet_in e ∙ complete t ht)
 
 pub not-export : (text : List ℕ) → sheet_in text ≡ None → (s : Sheet) → Formed s → mps_of s ≡ text → ⊥
-not-export text n s h e = none-some (sym n ∙ ap sheet_in (sym e) ∙ complete s h)
+not-export text n s h e = cc (sym n ∙ ap sheet_in (sym e) ∙ complete s h)

@@ -23,18 +23,18 @@ use Rattle.language.specs.Syntax
 use Rattle.language.specs.Written.{scope_at}
 use Rattle.language.specs.Model.{Model, start, discretes, continuouses}
 use Rattle.language.specs.Store.{all_given}
-use Rattle.language.specs.Numbering.{Variable, add_variables, Row, gathered, Fact, bound, row, Entry, is_equal, add_entries, less_row, equal_row, Lp, less_rows, equal_rows, rows, lower_of, upper_of, generate}
-use Rattle.language.proofs.Numbered.{true-false, variables-made, keep-in}
+use Rattle.language.specs.Numbering.{Variable, add_variables, Row, gathered, Entry, is_equal, add_entries, less_row, equal_row, Lp, less_rows, equal_rows, rows, lower_of, upper_of, generate}
+use Rattle.language.proofs.Numbered.{variables-made, keep-in}
 use Rattle.language.specs.Demand3.{FloorIs}
 use Rattle.language.proofs.Kept.{keeps}
 use Rattle.language.specs.Listing.{Kind, Line, row_line, var_line, col_line, ending_line, right_of, coefficients_of, kind_of, low_lines, row_lines, var_lines, column_lines, col_lines, lines_of, kind_by}
 use Rattle.language.specs.Listing as Listing
 use Rattle.language.specs.Answer.{Accepted, accepted}
 use Rattle.language.proofs.Answer.{accepted-of}
-use Rattle.language.specs.Valid.{ValidRow, ValidFact, ValidIfAny, ValidEntry, ValidProblem}
+use Rattle.language.specs.Valid.{ValidIfAny, ValidEntry, ValidProblem}
 use Rattle.language.proofs.ValidProblem.{lower-valid, upper-valid}
 use Rattle.language.proofs.ValidText.{accepted-valid}
-use Rattle.language.proofs.ProperText.{kept-all}
+use Rattle.language.proofs.ProperText.{right_of-valid, coefficients-valid, kept-all}
 use Rattle.mps.specs.Sheet.{columns, ColumnFormed, BoundsFormed, Formed}
 use Rattle.mps.specs.Report.{bare_line, bare_lines, rows_from, variables_from, cells_from, column_of, columns_of, sheet_lines, bare_of}
 use Rattle.mps.specs.Problem.{entry_right, entry_floor, cell_of, column_at, bounds_at, each, sheet_of}
@@ -67,19 +67,11 @@ discrete-first m p e =
 
 right_valid : (e : Entry) → ValidEntry e → Valid (entry_right e)
 unfolding entry_right
-right_valid e h = go e.fact h.fact
-  where
-    go : (f : Fact) → ValidFact f → Valid (right_of f)
-    go (bound j v) h = zero-valid
-    go (row r v) h = h.1
+right_valid e h = right_of-valid e.fact h.fact
 
 cell-valid : (j : ℕ) (e : Entry) → ValidEntry e → Valid (cell_of j e)
 unfolding cell_of
-cell-valid j e h = all_get_d Valid (coefficients_of e.fact) j zero_value (go e.fact h.fact) zero-valid
-  where
-    go : (f : Fact) → ValidFact f → ValidRow (coefficients_of f)
-    go (bound i v) h = tt
-    go (row r v) h = h.0
+cell-valid j e h = all_get_d Valid (coefficients_of e.fact) j zero_value (coefficients-valid e.fact h.fact) zero-valid
 
 -- ---- one for each variable
 
@@ -154,14 +146,14 @@ NoFloor e = (Listing.equal ≡ kind_of e.source.constraint.relation) × (None �
 kind-by-floor : (r : Relation) (s : Scope) (w : Option Value) (t : Bool) → FloorIs r s w → cond (is_equal r) false t ≡ true → kind_by w ≡ kind_of r
 kind-by-floor at_most s w t h e = ap kind_by h
 kind-by-floor at_least s w t h e = ap kind_by h
-kind-by-floor Syntax.equal s w t h e = true-false (sym e)
+kind-by-floor Syntax.equal s w t h e = cc
 kind-by-floor (between f) s w t h e = ap kind_by h.1
 
 no-floor : (r : Relation) (s : Scope) (w : Option Value) (t : Bool) → FloorIs r s w → cond (is_equal r) t false ≡ true → (Listing.equal ≡ kind_of r) × (None ≡ w)
-no-floor at_most s w t h e = true-false (sym e)
-no-floor at_least s w t h e = true-false (sym e)
+no-floor at_most s w t h e = cc
+no-floor at_least s w t h e = cc
 no-floor Syntax.equal s w t h e = (refl, sym h)
-no-floor (between f) s w t h e = true-false (sym e)
+no-floor (between f) s w t h e = cc
 
 module _ (m : Model) (p : Lp) (made : generate m ≡ done p) where
   floor-is : (e : Entry) → In (rows p) e → FloorIs e.source.constraint.relation (scope_at m e.source) e.floor

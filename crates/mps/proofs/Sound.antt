@@ -14,7 +14,7 @@ use Rattle.value.proofs.Operations.{negate-valid, zero-valid}
 use Rattle.language.specs.All.{All}
 use Rattle.language.proofs.All.{all_append}
 use Rattle.language.specs.Valid.{ValidIfAny}
-use Rattle.language.proofs.Outcome.{some-injective, none-some}
+use Rattle.language.proofs.Outcome.{some-injective}
 use Rattle.mps.specs.Sheet.{Column, Bounds, Sheet, ColumnFormed, BoundsFormed, Formed}
 use Rattle.mps.specs.Export.{less_line, floor_line, equal_line, cell_head, floor_cell_head, objective_head, right_head, floor_head, lower_head, upper_head, no_upper_line, value_line, if_floor, first_floor, later_floors, less_lines, equal_lines, cell_lines, column_lines, columns_from, discrete_lines, right_lines, upper_line, bound_lines, mps_of}
 use Rattle.mps.specs.Reading.{Read, strip, read_value, line_value, floor_here, less_rows, equal_rows, repeated, cell_by, read_cells, read_column, columns_by, read_columns, is_none, discrete_by, read_discrete, read_floor, Sides, read_less, read_equal, upper_by, read_upper, read_bounds, Kinds, read_kinds, read_sheet, alone, sheet_in}
@@ -46,8 +46,8 @@ floor-here i l w e = go (strip (floor_line (suc i)) l) refl w e
 
     go : (o : Option (List ℕ)) → strip (floor_line (suc i)) l ≡ o → (w : Option Value) → has_floor w ≡ (found o).what → l ≡ if_floor w (λ _. floor_line (suc i)) ++ (found o).rest
     go None p None e = refl
-    go None p (Some w) e = absurd (let z : ◌≡◌ {A = ℕ} 0 1 = cc in omega arith)
-    go (Some r) p None e = absurd (let z : ◌≡◌ {A = ℕ} 0 1 = cc in omega arith)
+    go None p (Some w) e = cc
+    go (Some r) p None e = cc
     go (Some r) p (Some w) e = strip-is _ l r p
 
 -- whatever their floors are
@@ -61,7 +61,7 @@ none_named k i l = record { text = text; few = omega arith }
   where
     text : (ws : List (Option Value)) → map has_floor ws ≡ [] → l ≡ less_lines i ws ++ l
     text [] e = refl
-    text (w ∷ ws) e = absurd (let z : ◌≡◌ {A = ℕ} 0 1 = cc in omega arith)
+    text (w ∷ ws) e = cc
 
 less-named : (k i : ℕ) (l : List ℕ) → Named k i l (less_rows k i l)
 unfolding less_rows less_lines
@@ -70,7 +70,7 @@ less-named (suc k) i l = go (strip (less_line (suc i)) l) refl (less-named k (su
   where
     text : (r : List ℕ) → strip (less_line (suc i)) l ≡ Some r → (q : Read (List Bool)) → Named k (suc i) (floor_here i r).rest q
         → (ws : List (Option Value)) → map has_floor ws ≡ (floor_here i r).what ∷ q.what → l ≡ less_lines i ws ++ q.rest
-    text r p q h [] e = absurd (let z : ◌≡◌ {A = ℕ} 0 1 = cc in omega arith)
+    text r p q h [] e = cc
     text r p q h (w ∷ ws) e =
         joined (less_line (suc i)) _ l r q.rest (strip-is (less_line (suc i)) l r p)
         (joined (if_floor w (λ _. floor_line (suc i))) (less_lines (suc i) ws) r _ q.rest (floor-here i r w (head-eq_of_cons-eq e)) (h.text ws (tail-eq_of_cons-eq e)))
@@ -189,7 +189,7 @@ closing = bytes " M 'MARKER' 'INTEND'\n"
 
 discrete-some : (ws : List (Option Value)) (cs : List Column) → is_none cs ≡ false → discrete_lines ws cs ≡ opening ++ (columns_from ws 0 cs ++ closing)
 unfolding discrete_lines
-discrete-some ws [] e = absurd (let z : ◌≡◌ {A = ℕ} 0 1 = cc in omega arith)
+discrete-some ws [] e = cc
 discrete-some ws (c ∷ cs) e = refl
 
 discrete-taken : (ws : List (Option Value)) (rows : ℕ) (l : List ℕ) (q : Read (List Column)) → read_discrete (map has_floor ws) rows l ≡ Some q → Taken (discrete_lines ws) (Few (ColumnFormed rows) variable_limit) l q
@@ -387,8 +387,8 @@ sound text s e = go (read_sheet text) refl e
   where
     last : (q : Read Sheet) (r : List ℕ) → q.rest ≡ r → read_sheet text ≡ Some q → elim r as (λ _. Option Sheet) [ [] ↦ Some q.what | b ∷ t ↦ None ] ≡ Some s → Formed s × (mps_of s ≡ text)
     last q [] z p e = let h = subst (IsExport text) (some-injective e) (sheet-taken text q p z) in (h.formed, h.text)
-    last q (b ∷ t) z p e = absurd (none-some e)
+    last q (b ∷ t) z p e = cc
 
     go : (o : Option (Read Sheet)) → read_sheet text ≡ o → alone o ≡ Some s → Formed s × (mps_of s ≡ text)
-    go None p e = absurd (none-some e)
+    go None p e = cc
     go (Some q) p e = last q q.rest refl p e

@@ -12,7 +12,7 @@ use Rattle.rules.specs.Characters.{bytes, space}
 use Rattle.rules.specs.Limits.{mantissa_limit}
 use Rattle.value.specs.Printed.{digits, natural}
 use Rattle.language.specs.All.{All}
-use Rattle.language.proofs.Outcome.{some-injective, none-some}
+use Rattle.language.proofs.Outcome.{some-injective}
 use Rattle.language.proofs.Figures.{natural-once}
 use Rattle.mps.specs.Export.{named, cell_head, objective_head}
 use Rattle.mps.specs.Reading.{strip}
@@ -31,12 +31,12 @@ strip-same (b ∷ w) u r = rw (eq-eqb b b refl, strip) (strip-same w u r)
 pub strip-is : (w l r : List ℕ) → strip w l ≡ Some r → l ≡ w ++ r
 unfolding strip
 strip-is [] l r e = some-injective e
-strip-is (b ∷ w) [] r e = absurd (none-some e)
+strip-is (b ∷ w) [] r e = cc
 strip-is (b ∷ w) (c ∷ l) r e = go (eqb b c) refl (strip-is w l r) e
   where
     go : (t : Bool) → eqb b c ≡ t → (strip w l ≡ Some r → l ≡ w ++ r) → elim t as (λ _. Option (List ℕ)) [ true ↦ strip w l | false ↦ None ] ≡ Some r → c ∷ l ≡ b ∷ (w ++ r)
     go true p h e = let q = eqb-true b c p in let k = h e in cc
-    go false p h e = absurd (none-some e)
+    go false p h e = cc
 
 strip-none : (w l : List ℕ) → ((r : List ℕ) → l ≡ w ++ r → ⊥) → strip w l ≡ None
 strip-none w l h = go (strip w l) refl

@@ -3,11 +3,10 @@ use Rattle.std.specs.Prelude.{Option, Some, None}
 use mathlib.Core.Path.{◌≡◌, refl, sym, ◌∙◌, ap, subst}
 use mathlib.Core.Bool.{Bool, true, false, cond}
 use mathlib.Core.List.{List, [], ◌∷◌, ◌++◌, append_assoc}
-use Prim.Native.Nat.{ℕ, zero, suc}
-use native.Mathlib.Omega.{arith}
+use Prim.Native.Nat.{ℕ}
 use borrow.Author.Tests.{ne_eqb}
 use lib.Dec.{eqb}
-use lib.IntN.{ℤ, pos, negsuc, neg_ℤ}
+use lib.IntN.{neg_ℤ-neg_ℤ}
 use Rattle.rules.specs.Characters.{code, line_feed}
 use Rattle.value.specs.declared.Value.{Value}
 use Rattle.value.specs.Decimal.{Valid, negate}
@@ -19,7 +18,7 @@ use Rattle.value.proofs.ReadBack.{opposite, read_back, read_back_lem}
 use Rattle.lexer.specs.Text.{front, behind, same_bytes}
 use Rattle.lexer.proofs.Same.{same-bytes-equal, same-bytes-refl}
 use Rattle.language.specs.All.{All}
-use Rattle.language.proofs.Outcome.{some-injective, none-some}
+use Rattle.language.proofs.Outcome.{some-injective}
 use Rattle.language.proofs.Figures.{printed-text}
 use Rattle.language.proofs.Fields.{NoLineFeed, text-line}
 use Rattle.mps.specs.Export.{value_line}
@@ -30,7 +29,7 @@ use Rattle.mps.proofs.Stripped.{strip-own, strip-is}
 
 module _ {A B : Type 0} where
   pub after : {C : Type 0} (m : Option (Read A)) (f : A → Reader B) (q : Read B) → follow m f ≡ Some q → ((a : Read A) → m ≡ Some a → f a.what a.rest ≡ Some q → C) → C
-  after None f q e k = absurd (none-some e)
+  after None f q e k = cc
   after (Some a) f q e k = k a refl e
 
   pub onward : (m : Option (Read A)) (f : A → Reader B) (a : Read A) (o : Option (Read B)) → m ≡ Some a → f a.what a.rest ≡ o → follow m f ≡ o
@@ -40,7 +39,7 @@ pub word-taken : (w l : List ℕ) (q : Read (Unit {0})) → as_read (strip w l) 
 word-taken w l q e = go (strip w l) refl e
   where
     go : (o : Option (List ℕ)) → strip w l ≡ o → as_read o ≡ Some q → l ≡ w ++ q.rest
-    go None p e = absurd (none-some e)
+    go None p e = cc
     go (Some r) p e = strip-is w l r p ∙ ap (λ (a : Read (Unit {0})). w ++ a.rest) (some-injective e)
 
 module _ {B : Type 0} where
@@ -52,7 +51,7 @@ module _ {B : Type 0} where
   past_word w r f o k = ap (λ n. follow (as_read n) f) (strip-own w r) ∙ k
 
   pub after-unless : {C : Type 0} (t : Bool) (m : Reader B) (l : List ℕ) (q : Read B) → unless t m l ≡ Some q → (t ≡ false → m l ≡ Some q → C) → C
-  after-unless true m l q e k = absurd (none-some e)
+  after-unless true m l q e k = cc
   after-unless false m l q e k = k refl e
 
 -- ---- a value
@@ -60,7 +59,7 @@ module _ {B : Type 0} where
 opposite-valid : (f : Option Value) (v : Value) → ((w : Value) → f ≡ Some w → Valid w) → opposite f ≡ Some v → Valid v
 unfolding opposite
 opposite-valid (Some w) v h e = let q : negate w ≡ v = cc in subst Valid q (negate-valid w (h w refl))
-opposite-valid None v h e = absurd (let z : ◌≡◌ {A = ℕ} 0 1 = cc in omega arith)
+opposite-valid None v h e = cc
 
 read-valid : (f : List ℕ) (v : Value) → read_back f ≡ Some v → Valid v
 unfolding read_back
@@ -81,11 +80,11 @@ value-of f v e = go (read_back f) refl e
   where
     tested : (w : Value) → read_back f ≡ Some w → (t : Bool) → same_bytes (printed w) f ≡ t → cond t (Some w) None ≡ Some v → Prints f v
     tested w p true s e = subst (Prints f) (some-injective e) (record { valid = read-valid f w p; same = same-bytes-equal (printed w) f s })
-    tested w p false s e = absurd (none-some e)
+    tested w p false s e = cc
 
     go : (o : Option Value) → read_back f ≡ o → print_of f o ≡ Some v → Prints f v
     go (Some w) p e = tested w p (same_bytes (printed w) f) refl e
-    go None p e = absurd (none-some e)
+    go None p e = cc
 
 of-value : (v : Value) → Valid v → value_of (printed v) ≡ Some v
 unfolding value_of print_of
@@ -129,7 +128,7 @@ unfolding read_value
 value_taken l q e = go (value_of (front in_line l)) refl e
   where
     go : (o : Option Value) → value_of (front in_line l) ≡ o → value_then o (behind in_line l) ≡ Some q → Taken value_text Valid l q
-    go None p e = absurd (none-some e)
+    go None p e = cc
     go (Some v) p e =
         let w = value-of (front in_line l) v p in
         after-word (line_feed ∷ []) (behind in_line l) _ q e λ r b e.
@@ -169,9 +168,4 @@ line_read h v r k = rw line_first (past_word h (value_text v ++ r) _ _ (value_re
 
 pub negate-twice : (v : Value) → negate (negate v) ≡ v
 unfolding negate
-negate-twice v = ap {B = Value} (λ z. record { m = z; s = v.s }) (go v.m)
-  where
-    go : (z : ℤ) → neg_ℤ (neg_ℤ z) ≡ z
-    go (pos zero) = refl
-    go (pos (suc n)) = refl
-    go (negsuc n) = refl
+negate-twice v = ap {B = Value} (λ z. record { m = z; s = v.s }) (neg_ℤ-neg_ℤ v.m)

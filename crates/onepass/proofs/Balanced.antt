@@ -4,15 +4,14 @@ use mathlib.Core.Bool.{Bool, true, false, cond, ◌||◌}
 use mathlib.Core.Logic.{◌⊎◌, inl, inr}
 use mathlib.Core.List.{List, ◌∷◌}
 use Prim.Native.Nat.{ℕ, zero, suc}
-use native.Mathlib.Omega.{arith}
-use lib.Dec.{eqb, eqb→eq}
+use borrow.Author.Tests.{eqb-true}
+use lib.Dec.{eqb}
 use Rattle.rules.specs.declared.Refusal.{Refusal}
 use Rattle.rules.specs.declared.Refusal.TheVariants.{Misplaced, Full}
 use Rattle.rules.specs.Limits.{token_limit}
 use Rattle.lexer.specs.Marks.{plus_sign, minus_sign, times_sign, comma, opens, closes, opens_list, closes_list, sum_word, sigma_word}
 use Rattle.lexer.specs.Text.{Token, Kind}
 use Rattle.lexer.specs.Text
-use Rattle.language.proofs.Outcome.{refused-done}
 use Rattle.language.specs.Syntax.{Formula, Spans, Name, Sort, Form, Term, factor, variable, point, span}
 use Rattle.language.specs.Syntax
 use Rattle.language.specs.Reader.{Reader, ◌>>=◌, give, refuse, next, look, mark_of, is_mark, expect, bracket, known, read_index}
@@ -43,9 +42,6 @@ token-depth t ts d = go (opens_bracket t) refl (closes_bracket t) refl d
     go false e true h (suc d) = rw (e, h, behind_bracket) refl
     go false e false h zero = rw (e, h, behind_bracket) refl
     go false e false h (suc d) = rw (e, h, behind_bracket) refl
-
-same_number : (m n : ℕ) → eqb m n ≡ true → m ≡ n
-same_number m n e = eqb→eq m n (rw e tt)
 
 -- ---- readers: from one and d more open to f d open
 
@@ -80,7 +76,7 @@ module _ {A : Type 0} where
   given a = record { shifts = λ ts b rest e d. ap (behind_bracket d) (same_rest e) }
 
   never : (f : ℕ → ℕ) (n : Refusal) (p : ℕ) → Shifts {A = A} f (refuse n p)
-  never f n p = record { shifts = λ ts b rest e d. absurd (refused-done e) }
+  never f n p = record { shifts = λ ts b rest e d. cc }
 
   either : (f : ℕ → ℕ) (b : Bool) (R S : Reader A) → Shifts f R → Shifts f S → Shifts {A = A} f (elim b as (λ _. Reader A) [ true ↦ R | false ↦ S ])
   either f true R S r s = record { shifts = r.shifts }
@@ -107,7 +103,7 @@ expect-shifts c =
       shifts = λ ts p rest e d.
           let x = expect-is c ts p rest e in
           ap (behind_bracket d) (next-is ts x.token rest x.stands) ∙ token-depth x.token rest d
-          ∙ ap (λ m. behind (depth m d) rest) (same_number (mark_of x.token.kind) c x.marked);
+          ∙ ap (λ m. behind (depth m d) rest) (eqb-true (mark_of x.token.kind) c x.marked);
     }
 
 bracket-shifts : (c n : ℕ) → Shifts (depth c) (bracket c n)
@@ -121,11 +117,11 @@ sum-plain : (t : Token) (d : ℕ) → is_sum t ≡ true → depth (mark_of t.kin
 sum-plain t d e = go (is_mark plus_sign t) refl e
   where
     go : (b : Bool) → is_mark plus_sign t ≡ b → (b || is_mark minus_sign t) ≡ true → depth (mark_of t.kind) d ≡ suc d
-    go true h e = ap (λ m. depth m d) (same_number (mark_of t.kind) plus_sign h)
-    go false h e = ap (λ m. depth m d) (same_number (mark_of t.kind) minus_sign e)
+    go true h e = ap (λ m. depth m d) (eqb-true (mark_of t.kind) plus_sign h)
+    go false h e = ap (λ m. depth m d) (eqb-true (mark_of t.kind) minus_sign e)
 
 sigma-plain : (t : Token) (d : ℕ) → is_mark sigma_word t ≡ true → depth (mark_of t.kind) d ≡ suc d
-sigma-plain t d e = ap (λ m. depth m d) (same_number (mark_of t.kind) sigma_word e)
+sigma-plain t d e = ap (λ m. depth m d) (eqb-true (mark_of t.kind) sigma_word e)
 
 -- ---- formulas
 
@@ -230,14 +226,14 @@ module _ (names : List Name) (n : ℕ) (F : Reader Formula) (a : Balanced F) whe
     where
       go : (x : Bool) → eqb c sum_word ≡ x → (y : Bool) → eqb c opens ≡ y → (ts : List Token) (f : Formula) (rest : List Token)
           → cond x (sum_formula names n F p) (cond y (nested_of n F p) (refuse Misplaced p)) ts ≡ read f rest → (d : ℕ) → behind (depth c d) ts ≡ behind_bracket d rest
-      go true h y i ts f rest e d = ap (λ m. behind (depth m d) ts) (same_number c sum_word h) ∙ (sum-balanced names n F a p).shifts ts f rest e d
-      go false h true i ts f rest e d = ap (λ m. behind (depth m d) ts) (same_number c opens i) ∙ (nested-closes F a n p).shifts ts f rest e (suc d)
-      go false h false i ts f rest e d = absurd (refused-done e)
+      go true h y i ts f rest e d = ap (λ m. behind (depth m d) ts) (eqb-true c sum_word h) ∙ (sum-balanced names n F a p).shifts ts f rest e d
+      go false h true i ts f rest e d = ap (λ m. behind (depth m d) ts) (eqb-true c opens i) ∙ (nested-closes F a n p).shifts ts f rest e (suc d)
+      go false h false i ts f rest e d = cc
   primary_by-begun p (Text.name l) = record { begun = (keeps _ (known names l p) _ (known-balanced names l p) (λ u. named-balanced F a n u.number p u.sort)).shifts }
   primary_by-begun p (Text.literal w v) = record { begun = (given (Syntax.literal v)).shifts }
-  primary_by-begun p (Text.string l) = record { begun = λ ts f rest e d. absurd (refused-done e) }
-  primary_by-begun p Text.end = record { begun = λ ts f rest e d. absurd (refused-done e) }
-  primary_by-begun p (Text.wrong r) = record { begun = λ ts f rest e d. absurd (refused-done e) }
+  primary_by-begun p (Text.string l) = record { begun = λ ts f rest e d. cc }
+  primary_by-begun p Text.end = record { begun = λ ts f rest e d. cc }
+  primary_by-begun p (Text.wrong r) = record { begun = λ ts f rest e d. cc }
 
   primary-balanced : Balanced (primary_of names n F)
   unfolding primary_of
@@ -262,7 +258,7 @@ module _ (names : List Name) where
   head_plain true (Text.mark c) = go (eqb c sigma_word) refl
     where
       go : (b : Bool) → eqb c sigma_word ≡ b → (cond b a_sigma a_primary ≡ a_primary) ⊎ ((d : ℕ) → depth c d ≡ suc d)
-      go true h = inr (λ d. ap (λ m. depth m d) (same_number c sigma_word h))
+      go true h = inr (λ d. ap (λ m. depth m d) (eqb-true c sigma_word h))
       go false h = inl refl
   head_plain sigmas (Text.name l) = inr (λ d. refl)
   head_plain sigmas (Text.literal w v) = inl refl
@@ -285,9 +281,9 @@ module _ (names : List Name) where
               | a_variable i d ↦ subscripts_of n F d >>= (λ fs. give (variable i d fs t.place))
               | a_primary ↦ primary_by names n F t.place t.kind >>= (λ f. expect times_sign >>= (λ p. linear_term names S sigmas n k >>= (λ y. give (factor f p y))))
             ])
-        go ih t a_sigma d (inl e) = absurd (let x = sym d ∙ e in let z : ◌≡◌ {A = ℕ} 0 1 = cc in omega arith)
+        go ih t a_sigma d (inl e) = cc (sym d ∙ e)
         go ih t a_sigma d (inr plain) = begun-plain _ _ plain (a t.place)
-        go ih t (a_variable i v) d (inl e) = absurd (let x = sym d ∙ e in let z : ◌≡◌ {A = ℕ} 0 1 = cc in omega arith)
+        go ih t (a_variable i v) d (inl e) = cc (sym d ∙ e)
         go ih t (a_variable i v) d (inr plain) = begun-plain _ _ plain (made _ (subscripts_of n F v) _ (subscripts-balanced F (inside-balanced n) n v))
         go ih t a_primary d o =
             begun-keeps _ (primary_by names n F t.place t.kind) _ (primary_by-begun names n F (inside-balanced n) t.place t.kind) λ f.

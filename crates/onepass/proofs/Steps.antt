@@ -10,7 +10,7 @@ use Rattle.lexer.specs.Marks.{comma, opens}
 use Rattle.lexer.specs.Text.{Token, Kind, same_bytes}
 use Rattle.lexer.specs.Text
 use Rattle.language.specs.Outcome.{Outcome, done, refused, ◌>>=◌}
-use Rattle.language.proofs.Outcome.{done-injective, refused-done, some-injective, none-some}
+use Rattle.language.proofs.Outcome.{done-injective, some-injective}
 use Rattle.language.specs.Syntax.{Name}
 use Rattle.language.specs.Reader.{Reader, Read, follow, as_read, refuse, passed, next, look, is_mark, name_of, demand, require, expect, bracket, Used, find, found, known, read_known, is_index, read_index}
 use Rattle.language.specs.Formulas.{head_of}
@@ -24,7 +24,7 @@ module _ {A B : Type 0} where
   -- what a sequence that reads something is made of
   pub after_read : {C : Type 0} (o : Outcome (Read A)) (f : A → Reader B) (x : Read B) → follow o f ≡ done x → ((a : A) (l : List Token) → o ≡ read a l → f a l ≡ done x → C) → C
   after_read (done r) f x e k = k r.what r.rest refl e
-  after_read (refused n p) f x e k = absurd (refused-done e)
+  after_read (refused n p) f x e k = cc
 
   -- a step that is known
   pub on : (o : Outcome (Read A)) (f : A → Reader B) (a : A) (l : List Token) (z : Outcome (Read B)) → o ≡ read a l → f a l ≡ z → follow o f ≡ z
@@ -78,7 +78,7 @@ pub record Walks {X A : Type 0} (R : Reader X) (h : X → Outcome A) (W : Reader
   pub walks : (ts : List Token) (x : X) (rest : List Token) → R ts ≡ read x rest → W ts ≡ as_read (h x) rest
 
 pub nothing : {X A : Type 0} {h : X → Outcome A} {W : Reader A} (n : Refusal) (p : ℕ) → Walks (refuse n p) h W
-nothing n p = record { walks = λ ts x rest e. absurd (refused-done e) }
+nothing n p = record { walks = λ ts x rest e. cc }
 
 -- ---- one token
 
@@ -89,18 +89,18 @@ passed_is (Text.name l) t ts x e = e
 passed_is (Text.literal w v) t ts x e = e
 passed_is (Text.string l) t ts x e = e
 passed_is Text.end t ts x e = e
-passed_is (Text.wrong r) t ts x e = absurd (refused-done e)
+passed_is (Text.wrong r) t ts x e = cc
 
 -- the token that stands first
 pub next-is : (ts : List Token) (t : Token) (m : List Token) → next ts ≡ read t m → ts ≡ t ∷ m
 unfolding next
-next-is [] t m e = absurd (refused-done e)
+next-is [] t m e = cc
 next-is (u ∷ us) t m e = ap (λ (r : Read Token). r.what ∷ r.rest) (done-injective (passed_is u.kind u us _ e))
 
 -- a token looked at stays
 pub look_is : (ts : List Token) (t : Token) (l : List Token) → look ts ≡ read t l → (m : List Token) × (ts ≡ t ∷ m) × (l ≡ t ∷ m)
 unfolding look
-look_is [] t l e = absurd (refused-done e)
+look_is [] t l e = cc
 look_is (u ∷ us) t l e =
     let h : read u (u ∷ us) ≡ read t l = passed_is u.kind u (u ∷ us) _ e in
     (us, ap (λ x. x ∷ us) (same-what h), sym (same_rest h) ∙ ap (λ x. x ∷ us) (same-what h))
@@ -130,7 +130,7 @@ pub record Sign (c : ℕ) (ts : List Token) (p : ℕ) (rest : List Token) : Type
 required : {A : Type 0} (b : Bool) (n : Refusal) (p : ℕ) (f : Unit {0} → Reader A) (ts : List Token) (x : Read A) → follow (require b n p ts) f ≡ done x → (b ≡ true) × (f tt ts ≡ done x)
 unfolding require
 required true n p f ts x e = (refl, e)
-required false n p f ts x e = absurd (refused-done e)
+required false n p f ts x e = cc
 
 pub expect-is : (c : ℕ) (ts : List Token) (p : ℕ) (rest : List Token) → expect c ts ≡ read p rest → Sign c ts p rest
 unfolding expect
@@ -148,7 +148,7 @@ expect-place c ts t l p m e h = let s = expect-is c l p m h in sym s.at ∙ ap (
 
 pub bracket-is : (c n : ℕ) (ts : List Token) (p : ℕ) (rest : List Token) → bracket c n ts ≡ read p rest → expect c ts ≡ read p rest
 unfolding bracket
-bracket-is c zero ts p rest e = after_read (expect c ts) _ _ e λ q l ql e. absurd (refused-done e)
+bracket-is c zero ts p rest e = after_read (expect c ts) _ _ e λ q l ql e. cc
 bracket-is c (suc n) ts p rest e = e
 
 -- ---- names
@@ -156,7 +156,7 @@ bracket-is c (suc n) ts p rest e = e
 -- a name's number does not depend on where it is used
 found_at : (l : List ℕ) (names : List Name) (i p : ℕ) (u : Used) → find l names i p ≡ Some u → (used_number (find l names i 0) ≡ u.number) × (p ≡ u.place)
 unfolding find
-found_at l [] i p u e = absurd (none-some e)
+found_at l [] i p u e = cc
 found_at l (x ∷ xs) i p u e = go (same_bytes l x.spelling) refl (found_at l xs (suc i) p u)
   where
     go : (b : Bool) → same_bytes l x.spelling ≡ b → (find l xs (suc i) p ≡ Some u → (used_number (find l xs (suc i) 0) ≡ u.number) × (p ≡ u.place))
@@ -181,7 +181,7 @@ module _ (names : List Name) where
   known_is l p ts u rest e = go (find l names 0 p) e
     where
       go : (o : Option Used) → found o p ts ≡ read u rest → (o ≡ Some u) × (ts ≡ rest)
-      go None e = absurd (refused-done e)
+      go None e = cc
       go (Some v) e = (ap Some (same-what e), same_rest e)
 
   pub read_known-is : (ts : List Token) (u : Used) (rest : List Token) → read_known names ts ≡ read u rest → Named names ts u rest
@@ -189,15 +189,15 @@ module _ (names : List Name) where
   read_known-is ts u rest e = after_read (next ts) _ _ e λ t m tm e. go t m tm t.kind refl e
     where
       go : (t : Token) (m : List Token) → next ts ≡ read t m → (k : Kind) → t.kind ≡ k → follow (demand (name_of k) t.place m) (λ l. known names l t.place) ≡ read u rest → Named names ts u rest
-      go t m tm (Text.mark c) d e = absurd (refused-done e)
+      go t m tm (Text.mark c) d e = cc
       go t m tm (Text.name l) d e =
           let h = known_is l t.place m u rest e in
           let i = found_at l names 0 t.place u h.0 in
           record { token = t; stands = tm ∙ ap (read t) h.1; letters = l; spells = d; number = ap (name_number names) d ∙ i.0; at = i.1 }
-      go t m tm (Text.literal w v) d e = absurd (refused-done e)
-      go t m tm (Text.string l) d e = absurd (refused-done e)
-      go t m tm Text.end d e = absurd (refused-done e)
-      go t m tm (Text.wrong r) d e = absurd (refused-done e)
+      go t m tm (Text.literal w v) d e = cc
+      go t m tm (Text.string l) d e = cc
+      go t m tm Text.end d e = cc
+      go t m tm (Text.wrong r) d e = cc
 
   -- a name of which something is required
   pub required-is : (test : Used → Bool) (n : Refusal) (ts : List Token) (u : Used) (rest : List Token)

@@ -4,7 +4,6 @@ use mathlib.Core.Path.{◌≡◌, refl, sym, ◌∙◌, ap, fun_ext}
 use mathlib.Core.Bool.{Bool, true, false}
 use mathlib.Core.List.{List}
 use Prim.Native.Nat.{ℕ, zero, suc}
-use native.Mathlib.Omega.{arith}
 use lib.IntN.{ℤ}
 use Rattle.rules.specs.declared.Refusal.TheVariants.{Misplaced, Full}
 use Rattle.rules.specs.Limits.{token_limit}
@@ -13,7 +12,6 @@ use Rattle.value.specs.Decimal.{product_of}
 use Rattle.lexer.specs.Marks.{minus_sign, times_sign, comma, closes, sigma_word}
 use Rattle.lexer.specs.Text.{Token}
 use Rattle.language.specs.Outcome.{done, fitting}
-use Rattle.language.proofs.Outcome.{refused-done}
 use Rattle.language.specs.Syntax.{Formulas, Spans, Name, Form, Term, also, factor, variable}
 use Rattle.language.specs.Syntax
 use Rattle.language.specs.Reader.{Reader, as_read, ◌>>=◌, give, lift, next, look, is_mark, expect}
@@ -44,7 +42,7 @@ no_sign_lem ts g l e w = after_read (look ts) _ _ e λ t m tm e. look-stays ts t
     go t m true e =
         after_read (next m) _ _ e λ _ _ _ e.
         let h = ap (λ (s : Signed). s.written) (same-what e) ∙ w in
-        absurd (let z : ◌≡◌ {A = ℕ} 0 1 = cc in omega arith)
+        cc
     go t m false e = same_rest e
 
 no-terms : (T : Reader Term) (k : ℕ) (ts l : List Token) → linear_terms T k ts ≡ read Syntax.end l → ts ≡ l
@@ -207,7 +205,7 @@ module _ (vs : List Variable) (names : List Name) where
 
   sigma-gathers : (n p : ℕ) → TermAgrees (sigma_at names n p) (walk_sigma vs names n p)
   unfolding sigma_at walk_sigma gather
-  sigma-gathers zero p s c m r = record { walks = λ ts t rest e. after_read (head_of names zero ts) _ _ e λ i l il e. absurd (refused-done e) }
+  sigma-gathers zero p s c m r = record { walks = λ ts t rest e. after_read (head_of names zero ts) _ _ e λ i l il e. cc }
   sigma-gathers (suc n) p s c m r =
       record {
         walks = λ ts t rest e.
@@ -246,19 +244,18 @@ module _ (vs : List Variable) (names : List Name) where
   module _ (i : ℕ) (d : Spans) (fs : Formulas) (p : ℕ) where
     no-sigma : (n q : ℕ) (ts rest : List Token) → sigma_at names n q ts ≡ read (variable i d fs p) rest → ⊥
     unfolding sigma_at
-    no-sigma zero q ts rest e = after_read (head_of names zero ts) _ _ e λ i l il e. refused-done e
+    no-sigma zero q ts rest e = after_read (head_of names zero ts) _ _ e λ i l il e. cc
     no-sigma (suc n) q ts rest e =
         after_read (head_of names (suc n) ts) _ _ e λ _ l _ e.
         after_read (part_of (formula_at names n) comma l) _ _ e λ _ l _ e.
         after_read (part_of (formula_at names n) comma l) _ _ e λ _ l _ e.
         after_read (body_of names (sigma_at names n) n l) _ _ e λ _ l _ e.
         after_read (expect closes l) _ _ e λ _ l _ e.
-        let z : ◌≡◌ {A = ℕ} 0 1 = cc (same-what e) in
-        omega arith
+        cc (same-what e)
 
     bare-term : (n k : ℕ) (ts rest : List Token) → linear_term names (sigma_at names n) true n k ts ≡ read (variable i d fs p) rest → Bare n i d fs p ts rest
     unfolding linear_term
-    bare-term n zero ts rest e = absurd (refused-done e)
+    bare-term n zero ts rest e = cc
     bare-term n (suc k) ts rest e = after_read (next ts) _ _ e λ x l xl e. go x l xl (head_by names true x.kind) refl e
       where
         go : (x : Token) (l : List Token) → next ts ≡ read x l → (h : Head) → head_by names true x.kind ≡ h
@@ -288,7 +285,7 @@ module _ (vs : List Variable) (names : List Name) where
             after_read (primary_by names n (inside_at names n) x.place x.kind l) _ _ e λ _ l _ e.
             after_read (expect times_sign l) _ _ e λ _ l _ e.
             after_read (linear_term names (sigma_at names n) true n k l) _ _ e λ _ l _ e.
-            absurd (let z : ◌≡◌ {A = ℕ} 0 1 = cc (same-what e) in omega arith)
+            cc (same-what e)
 
     pub bare-walk : (n : ℕ) (ts : List Token) (x : Linear) (rest : List Token) → linear_at names n ts ≡ done (record { what = x; rest = rest })
         → x.signed ≡ false → x.form ≡ also false (variable i d fs p) Syntax.end → Bare n i d fs p ts rest

@@ -7,7 +7,7 @@ ghost use Rattle.tokens.specs.Text.{In};
 ghost use Rattle.parser.specs.Readers.{opening_in, objective_in};
 ghost use Rattle.parser.specs.Parsed.{TitleAt, ObjectiveAt, Bodied, ParsedAs};
 
-use lexer::marks;
+use lexer::Mark;
 use rules::Refused;
 use tokens::Text;
 
@@ -43,7 +43,7 @@ fn read_opening(text: Text<'_>, at: usize) -> Result<(usize, usize), Refused>
         (λ w. In (Gives opening_in (TitleAt text.entry.bytes.now text.entry.tokens.now w.0)) text.entry at (Ok w.1))
         (λ e. In (Moves opening_in) text.entry at (Err e)) }
 {
-    let title = tokens::expect(text, at, marks::OPEN)?;
+    let title = tokens::expect(text, at, Mark::Open)?;
     let end = constraints::title(text, title)?;
     Ok((title, end))
 }
@@ -55,7 +55,7 @@ fn objective(text: Text<'_>, at: usize) -> Result<(Aim, usize), Refused>
         (λ e. In (Moves objective_in) text.entry at (Err e)) }
 {
     let (minimize, next) = constraints::goal(text, at)?;
-    let form = tokens::expect(text, next, marks::COLON)?;
+    let form = tokens::expect(text, next, Mark::Colon)?;
     let end = linear::linear(text, form, rules::NESTING_LIMIT)?;
     let aim = Aim {
         minimize,

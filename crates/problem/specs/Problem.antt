@@ -21,11 +21,12 @@ use Rattle.rows.specs.Bounds.{BoundsHeld}
 use Rattle.rows.specs.Problems.{KeyedVariable, FromConstraint}
 use Rattle.problem.specs.Variables.Order.{InOrder}
 use Rattle.problem.specs.declared.Problem.{Problem}
+use Rattle.store.specs.Table.{Table}
 
 -- ---- the model
 
 -- the tables, which hold a world, tell of the model m: its names, its objective at `aim`, its constraints; and no bound is stated
-pub record Poses (ns ts ds : List ℕ) (given aim : ℕ) (b : Bool) (cs : List ℕ) (count : ℕ) (bs : List ℕ) (w : World ns ts ds given) (m : Model) : Type 0 where
+pub record Poses (ns ts : List ℕ) (ds : Table) (given aim : ℕ) (b : Bool) (cs : List ℕ) (count : ℕ) (bs : List ℕ) (w : World ns ts ds given) (m : Model) : Type 0 where
   pub names : w.names ≡ m.structure.names
   pub start : nothing_bound w ≡ start m
   pub placed : Placed ns w.names
@@ -39,7 +40,7 @@ pub record Poses (ns ts ds : List ℕ) (given aim : ℕ) (b : Bool) (cs : List �
 -- ---- the problem
 
 -- the tables of variables, slots, bounds and counts hold the problem p of the constraints cs
-pub record Holds (xs t bs : List ℕ) (m : List ℤ) (discrete total : ℕ) (f : Filled) (cs : List Constraint) (p : Lp) : Type 0 where
+pub record Holds (xs t : Table) (bs : List ℕ) (m : List ℤ) (discrete total : ℕ) (f : Filled) (cs : List Constraint) (p : Lp) : Type 0 where
   pub discretes : discrete ≡ p.discrete
   pub few : length p.variables ≤ variable_limit
   pub numbered : Numbered xs total p.variables
@@ -50,14 +51,14 @@ pub record Holds (xs t bs : List ℕ) (m : List ℤ) (discrete total : ℕ) (f :
   pub bounds : BoundsHeld bs total p.entries
 
 -- the same refusal, or the problem
-abbrev pub Generating : Outcome Lp → List Constraint → Result Problem Refused → List ℕ → List ℕ → List ℕ → List ℤ → Type 0
+abbrev pub Generating : Outcome Lp → List Constraint → Result Problem Refused → Table → Table → List ℕ → List ℤ → Type 0
 Generating (done p) cs (Ok x) xs t bs m = Holds xs t bs m x.discrete x.total x.filled cs p
 Generating (done p) cs (Err e) xs t bs m = ⊥
 Generating (refused k q) cs (Ok x) xs t bs m = ⊥
 Generating (refused k q) cs (Err e) xs t bs m = (k ≡ e.refusal) × (q ≡ e.place)
 
 -- the variables are numbered: n of them, the first a of which are discrete
-pub record Numbers (xs : List ℕ) (a n : ℕ) (m : Model) : Type 0 where
+pub record Numbers (xs : Table) (a n : ℕ) (m : Model) : Type 0 where
   pub given : all_given 0 m.structure.names (start m) ≡ done tt
   pub discretes : List Variable
   pub variables : List Variable
@@ -68,9 +69,9 @@ pub record Numbers (xs : List ℕ) (a n : ℕ) (m : Model) : Type 0 where
   pub numbered : Numbered xs n variables
   pub keyed : All KeyedVariable variables
 
-pub record ShapesAs (ns ts ds : List ℕ) (given : ℕ) (xs : List ℕ) (discrete total aim : ℕ) (b : Bool) (cs : List ℕ) (count : ℕ) (bs : List ℕ) (r : Result Problem Refused) (t bs' : List ℕ) (c : List ℤ) : Type 0 where
+pub record ShapesAs (ns ts : List ℕ) (ds : Table) (given : ℕ) (xs : Table) (discrete total aim : ℕ) (b : Bool) (cs : List ℕ) (count : ℕ) (bs : List ℕ) (r : Result Problem Refused) (t : Table) (bs' : List ℕ) (c : List ℤ) : Type 0 where
   pub is : (w : World ns ts ds given) (m : Model) → Poses ns ts ds given aim b cs count bs w m → Numbers xs discrete total m
       → Generating (generate m) m.structure.constraints r xs t bs' c
 
-pub record GeneratesAs (ns ts ds : List ℕ) (given aim : ℕ) (b : Bool) (cs : List ℕ) (count : ℕ) (bs : List ℕ) (r : Result Problem Refused) (xs t bs' : List ℕ) (c : List ℤ) : Type 0 where
+pub record GeneratesAs (ns ts : List ℕ) (ds : Table) (given aim : ℕ) (b : Bool) (cs : List ℕ) (count : ℕ) (bs : List ℕ) (r : Result Problem Refused) (xs t : Table) (bs' : List ℕ) (c : List ℤ) : Type 0 where
   pub is : (w : World ns ts ds given) (m : Model) → Poses ns ts ds given aim b cs count bs w m → Generating (generate m) m.structure.constraints r xs t bs' c

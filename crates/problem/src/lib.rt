@@ -11,6 +11,7 @@ ghost use Rattle.evaluator.specs.Context.{Over};
 use evaluator::Stored;
 use rows::Filled;
 use rules::Refused;
+use store::Row;
 
 // How many variables are discrete, how many there are, and how many rows.
 #[derive(Clone, Copy)]
@@ -23,14 +24,14 @@ pub struct Problem {
 // The objective and the constraints of `total` variables, the first of which are discrete.
 fn shape(
     stored: Stored<'_>,
-    variables: &[u64],
+    variables: &[Row],
     discrete: usize,
     total: usize,
     aim: usize,
     minimize: bool,
     constraints: &[u64; 320],
     count: usize,
-    slots: &mut [u64; 4104],
+    slots: &mut [Row; 1026],
     bounds: &mut [u64; 1024],
     counts: &mut [i64; 263168],
 ) -> Result<Problem, Refused>
@@ -62,8 +63,8 @@ pub fn generate(
     minimize: bool,
     constraints: &[u64; 320],
     count: usize,
-    variables: &mut [u64; 2048],
-    slots: &mut [u64; 4104],
+    variables: &mut [Row; 512],
+    slots: &mut [Row; 1026],
     bounds: &mut [u64; 1024],
     counts: &mut [i64; 263168],
 ) -> Result<Problem, Refused>

@@ -3,15 +3,16 @@ ghost use Rattle.store.specs.Element.{list_of};
 ghost use Rattle.problem.specs.Missing.Given.{IsGiven, DomainGiven, NameGiven, AllGiven};
 ghost use Rattle.evaluator.specs.Context.{Over};
 
+use elements::walk::Walk;
 use evaluator::steps::names;
 use evaluator::steps::scope::Scope;
 use evaluator::{Context, Stored};
 use rules::{Refused, refused};
-use store::Element;
-use tokens::sorts;
+use store::{Element, Row};
+use tokens::Sort;
 
 // Does the table have a value of name i at an element?
-fn is_given(table: &[u64], given: usize, i: usize, e: Element) -> bool
+fn is_given(table: &[Row], given: usize, i: usize, e: Element) -> bool
     ensures { IsGiven table.now given i (list_of e) result }
 {
     store::find(table, given, store::key_of(i, e)).is_some()
@@ -30,12 +31,11 @@ fn domain_given(stored: Stored<'_>, i: usize) -> Result<(), Refused>
         nest: 0,
         scope: Scope::none(),
     };
-    let mut step = elements::first(&cx, count, at)?;
-    while let Some(h) = step {
+    for here in Walk::new(cx, count, at) {
+        let h = here?;
         if !is_given(stored.table, stored.given, i, h.element()) {
             return refused!(Missing, place);
         }
-        step = elements::next(&cx, h)?;
     }
     Ok(())
 }
@@ -45,7 +45,7 @@ fn name_given(stored: Stored<'_>, i: usize) -> Result<(), Refused>
     ensures { Over NameGiven stored.entry i result }
 {
     let sort = names::word_of(stored.names, i, 2);
-    if (sort == sorts::INTEGER) | (sort == sorts::REAL) {
+    if (sort == Sort::Integer as u64) | (sort == Sort::Real as u64) {
         return domain_given(stored, i);
     }
     Ok(())

@@ -22,7 +22,6 @@ use Rattle.language.specs.Numbering.{Row, Entry, Lp, xor, lower_of, upper_of}
 use Rattle.language.specs.Listing.{coefficients_of}
 use Rattle.language.specs.Demand3.{BelowUpper}
 use Rattle.language.proofs.Outcome.{some-injective, none-some}
-use Rattle.language.proofs.Numbered.{true-false}
 use Rattle.language.proofs.Gathered.{dot}
 use Rattle.reach.specs.Reach.{is_negative, takes, added, product, reach_from, reach}
 
@@ -67,7 +66,7 @@ below (negsuc n) e = refl
 
 above : (z : ℤ) → lt_z z (pos 0) ≡ false → le_z (pos 0) z ≡ true
 above (pos n) e = leb-zero n
-above (negsuc n) e = true-false e
+above (negsuc n) e = cc
 
 -- a value's sign is that of its number
 sign : (c : Value) → Beyond (is_negative c) (exactly c) 𝟎

@@ -2,14 +2,15 @@
 -- tables hold it is the definition's end of a row.
 use Rattle.std.specs.Prelude.{Option, Some, None}
 use mathlib.Core.Path.{◌≡◌, refl, sym, ◌∙◌, ap}
-use mathlib.Core.Bool.{Bool, true, false, not, cond, beq}
+use mathlib.Core.Bool.{Bool, true, false, not, cond}
 use mathlib.Core.List.{List, [], ◌∷◌}
 use Prim.Native.Nat.{ℕ, zero, suc, ◌+◌, ◌-◌, ◌<◌, ◌≤◌}
 use native.Mathlib.Omega.{arith}
 use native.Mathlib.Numerals.{add-one}
+use borrow.Author.Tests.{le-leb, le-ltb}
 use lib.ListN.{length, get_or}
-use lib.IntN.{ℤ, pos}
-use lib.Signed.{lt_z}
+use lib.IntN.{ℤ, pos, negsuc}
+use lib.Signed.{le_z, lt_z}
 use Rattle.value.specs.declared.Value.{Value}
 use Rattle.value.specs.Decimal.{Valid, zero_value, of_whole, is_zero, if_in_range, sum_of, product_of}
 use Rattle.value.proofs.Operations.{zero-valid, sum-valid, product-valid}
@@ -24,25 +25,47 @@ use Rattle.rows.specs.Slots.{Slot}
 use Rattle.rows.specs.Read.{slot_at, count_at, value_of, lower_in, end_in}
 use Rattle.rows.specs.Held.{Held}
 use Rattle.rows.proofs.Held.{slot_held, value-told, lower-told, upper-told, row-valid, lower-held, upper-held}
+use Rattle.reach.specs.declared.End.{End}
+use Rattle.reach.specs.declared.End.TheVariants.{Least, Greatest}
 use Rattle.reach.specs.Reach.{is_negative, takes, added, product, reach_from, reach}
-use Rattle.reach.specs.Tables.{sum_in, added_in, column_in, Reaches}
+use Rattle.reach.specs.Tables.{is_greatest, lower_taken, sum_in, added_in, column_in, Reaches}
+use Rattle.store.specs.Table.{Table}
 
 -- ---- what code answers
 
-alike : (a b t : Bool) → beq a b ≡ t → xor a b ≡ not t
-alike true true t e = ap not e
-alike true false t e = ap not e
-alike false true t e = ap not e
-alike false false t e = ap not e
+least-lower : (z : ℤ) → le_z (pos 0) z ≡ not (lt_z z (pos 0))
+least-lower (pos n) = le-leb 0 n (omega arith) ∙ ap not (sym (le-ltb n 0 (omega arith)))
+least-lower (negsuc n) = refl
 
-module _ (greatest : Bool) (c l : Value) (u : Option Value) where
-  pub takes-lower : (v : Value) → beq greatest (lt_z c.m (pos 0)) ≡ true → v ≡ l → (Some v) ≡ takes greatest c l u
-  unfolding takes is_negative
-  takes-lower v e h = rw (alike greatest (lt_z c.m (pos 0)) true e) (ap Some h)
+module _ (end : End) (c : Value) where
+  pub takes-least : end ≡ Least → le_z (pos 0) c.m ≡ lower_taken (is_greatest end) c
+  unfolding lower_taken is_negative
+  takes-least e = rw e (least-lower c.m)
 
-  pub takes-upper : (r : Option Value) → beq greatest (lt_z c.m (pos 0)) ≡ false → r ≡ u → r ≡ takes greatest c l u
-  unfolding takes is_negative
-  takes-upper r e h = rw (alike greatest (lt_z c.m (pos 0)) false e) h
+  pub takes-greatest : end ≡ Greatest → lt_z c.m (pos 0) ≡ lower_taken (is_greatest end) c
+  unfolding lower_taken is_negative
+  takes-greatest e = rw e (go (lt_z c.m (pos 0)))
+    where
+      go : (b : Bool) → b ≡ not (xor true b)
+      go true = refl
+      go false = refl
+
+module _ (greatest : Bool) (c : Value) where
+  pub takes-lower : (b : Bool) (v l : Value) (u : Option Value) → b ≡ lower_taken greatest c → b ≡ true → v ≡ l → Some v ≡ takes greatest c l u
+  unfolding takes lower_taken
+  takes-lower b v l u e t h = go (xor greatest (is_negative c)) (sym e ∙ t)
+    where
+      go : (x : Bool) → not x ≡ true → Some v ≡ cond x u (Some l)
+      go true e = cc
+      go false e = ap Some h
+
+  pub takes-upper : (b : Bool) (r : Option Value) (l : Value) (u : Option Value) → b ≡ lower_taken greatest c → b ≡ false → r ≡ u → r ≡ takes greatest c l u
+  unfolding takes lower_taken
+  takes-upper b r l u e f h = go (xor greatest (is_negative c)) (sym e ∙ f)
+    where
+      go : (x : Bool) → not x ≡ false → r ≡ cond x u (Some l)
+      go true e = h
+      go false e = cc
 
 module _ (t c : Value) (o : Option Value) where
   pub added-open : o ≡ None → None ≡ added_in t c o
@@ -162,7 +185,7 @@ module _ (m : List ℤ) (bounds : List ℕ) (k : ℕ) (greatest : Bool) (lower :
       ap (columns_in m bounds k greatest (length cs) (suc j)) (column-told j c t first v)
       ∙ columns-told (suc j) cs _ (λ i g. let y : suc j + i ≡ j + suc i = omega arith in rw y (h (suc i) (omega arith))) (column-valid t v (is_zero c) _)
 
-module _ {slots bounds : List ℕ} {m : List ℤ} {sizes : Sizes} {p : Lp} (h : Held slots bounds m sizes p) where
+module _ {slots : Table} {bounds : List ℕ} {m : List ℤ} {sizes : Sizes} {p : Lp} (h : Held slots bounds m sizes p) where
   pub slot : (i : ℕ) (e : Entry) → At (rows p) i e → Slot p.variables slots m (slot_at sizes.less i) e
   unfolding rows less_rows equal_rows
   slot i e a = slot_held p.variables slots m sizes.less sizes.equal p.entries h.rows i e a

@@ -6,15 +6,32 @@ ghost use Rattle.std.specs.Prelude.{◌≡◌};
 ghost use Rattle.rows.specs.Bounds.{lower_word, upper_word};
 ghost use Rattle.rows.specs.Read.{lower_in, end_in, value_of};
 ghost use Rattle.reach.specs.Reach.{takes};
-ghost use Rattle.reach.specs.Tables.{added_in, column_in, Reaches};
+ghost use Rattle.reach.specs.Tables.{is_greatest, lower_taken, added_in, column_in, Reaches};
 
 use value::Value;
 
-// The bound of variable j that an end of a row takes where its coefficient is c.
-fn taken(bounds: &[u64], j: usize, c: Value, greatest: bool) -> Option<Value>
-    ensures { result ≡ takes greatest c (lower_in (lower_word bounds.now j)) (end_in (upper_word bounds.now j)) }
+// The two ends of a row: its least value and its greatest.
+#[derive(Clone, Copy)]
+pub enum End {
+    Least,
+    Greatest,
+}
+
+// Does an end take the lower bound of a variable whose coefficient is c?
+fn takes_lower(end: End, c: Value) -> bool
+    ensures { result ≡ lower_taken (is_greatest end) c }
 {
-    if greatest == (c.m < 0) {
+    match end {
+        End::Least => 0 <= c.m,
+        End::Greatest => c.m < 0,
+    }
+}
+
+// The bound of variable j that an end of a row takes where its coefficient is c.
+fn taken(bounds: &[u64], j: usize, c: Value, end: End) -> Option<Value>
+    ensures { result ≡ takes (is_greatest end) c (lower_in (lower_word bounds.now j)) (end_in (upper_word bounds.now j)) }
+{
+    if takes_lower(end, c) {
         return Some(rows::lower_of(bounds, j));
     }
     rows::upper_of(bounds, j)
@@ -29,23 +46,23 @@ fn added(t: Value, c: Value, bound: Option<Value>) -> Option<Value>
 }
 
 // The sum t with the column of variable j, whose coefficient has the count z.
-fn column(t: Value, z: i64, bounds: &[u64], j: usize, greatest: bool) -> Option<Value>
-    ensures { result ≡ column_in bounds.now greatest j t (value_of z) }
+fn column(t: Value, z: i64, bounds: &[u64], j: usize, end: End) -> Option<Value>
+    ensures { result ≡ column_in bounds.now (is_greatest end) j t (value_of z) }
 {
     let c = rows::value_of(z);
-    if value::is_zero(c) {
+    if c.is_zero() {
         return Some(t);
     }
-    added(t, c, taken(bounds, j, c, greatest))
+    added(t, c, taken(bounds, j, c, end))
 }
 
-// The greatest or the least value of the row in slot k, over n variables.
-pub fn end_of(counts: &[i64], bounds: &[u64], k: usize, n: usize, greatest: bool) -> Option<Value>
-    ensures { Reaches counts.now bounds.now k n greatest result }
+// An end of the row in slot k, over n variables.
+pub fn end_of(counts: &[i64], bounds: &[u64], k: usize, n: usize, end: End) -> Option<Value>
+    ensures { Reaches counts.now bounds.now k n (is_greatest end) result }
 {
-    let mut t = value::of_whole(0);
+    let mut t = Value::from(0);
     for j in 0..n {
-        t = column(t, rows::count_at(counts, k, j), bounds, j, greatest)?;
+        t = column(t, rows::count_at(counts, k, j), bounds, j, end)?;
     }
     Some(t)
 }

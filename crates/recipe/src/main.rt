@@ -16,10 +16,10 @@ use std::io::{Eprint, Print};
 fn named(word: &[u8]) -> Option<Entry>
     ensures { result ≡ job_of word.now }
 {
-    if lexer::same_bytes(word, b"--mps") {
+    if word == b"--mps".as_slice() {
         return Some(Entry::Export);
     }
-    if lexer::same_bytes(word, b"--read-mps") {
+    if word == b"--read-mps".as_slice() {
         return Some(Entry::Read);
     }
     None

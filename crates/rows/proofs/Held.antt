@@ -22,7 +22,7 @@ use Rattle.language.specs.Listed.{At}
 use Rattle.language.proofs.Listed.{Split, at_length, at-append}
 use Rattle.language.specs.Numbering.{Variable, Row, Entry, keep, less_row, equal_row, extreme, is_at_least, largest, smallest, lower_of, upper_of}
 use Rattle.language.proofs.ValidProblem.{extreme-valid}
-use Rattle.store.specs.Table.{word_at}
+use Rattle.store.specs.Table.{Table, word_at}
 use Rattle.store.specs.Packed.{packed, unpacked}
 use Rattle.store.proofs.Words.{unpacked-packed}
 use Rattle.rows.specs.Counts.{RowOf}
@@ -34,7 +34,7 @@ use Rattle.rows.proofs.Bounding.{packed_above}
 -- ---- rows
 
 -- the row of number i, from 0, of all rows
-pub slot_held : (vs : List Variable) (t : List ℕ) (m : List ℤ) (less equal : ℕ) (es : List Entry) → RowsHeld vs t m less equal es → (i : ℕ) (e : Entry)
+pub slot_held : (vs : List Variable) (t : Table) (m : List ℤ) (less equal : ℕ) (es : List Entry) → RowsHeld vs t m less equal es → (i : ℕ) (e : Entry)
     → At (keep less_row es ++ keep equal_row es) i e → Slot vs t m (slot_at less i) e
 unfolding slot_at
 slot_held vs t m less equal es h i e a = go (at-append (keep less_row es) (keep equal_row es) i e a)
@@ -95,7 +95,7 @@ unfolding end_in floor_word
 end_back None h = refl
 end_back (Some v) h = rw (ne_eqb (packed v) 0 (packed_above v h)) (ap Some (word_back v h))
 
-pub floor-told : (vs : List Variable) (t : List ℕ) (m : List ℤ) (k : ℕ) (e : Entry) → Slot vs t m k e → end_in (word_at t (floor_slot k)) ≡ e.floor
+pub floor-told : (vs : List Variable) (t : Table) (m : List ℤ) (k : ℕ) (e : Entry) → Slot vs t m k e → end_in (word_at t (floor_slot k)) ≡ e.floor
 floor-told vs t m k e h = ap end_in h.floor ∙ end_back e.floor h.valid_floor
 
 -- ---- every value is valid

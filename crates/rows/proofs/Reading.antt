@@ -16,7 +16,7 @@ use Rattle.value.specs.Gathering.{millionths, of_millionths}
 use Rattle.value.proofs.Gathering.{of_millionths-own}
 use Rattle.value.proofs.Operations.{zero-valid}
 use Rattle.value.proofs.Ranges.{and-false, and_left, and_right}
-use Rattle.store.specs.Table.{word_at}
+use Rattle.store.specs.Table.{Table, word_at}
 use Rattle.store.specs.Packed.{unpacked}
 use Rattle.rows.specs.declared.Sizes.{Sizes}
 use Rattle.rows.specs.Slots.{floor_slot, less_slot, equal_slot}
@@ -132,7 +132,7 @@ module _ (b : List ℕ) (j : ℕ) where
 
 -- ---- floors
 
-module _ (t : List ℕ) (k q w : ℕ) (a : q ≡ floor_slot k) (b : w ≡ word_at t q) where
+module _ (t : Table) (k q w : ℕ) (a : q ≡ floor_slot k) (b : w ≡ word_at t q) where
   same_word : w ≡ word_at t (floor_slot k)
   same_word = b ∙ ap (word_at t) a
 

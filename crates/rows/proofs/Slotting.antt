@@ -4,13 +4,12 @@ use mathlib.Core.Path.{◌≡◌, refl, sym, ◌∙◌, ap, subst}
 use mathlib.Core.Bool.{Bool, true, false, cond}
 use mathlib.Core.List.{List, [], ◌∷◌, ◌++◌, append-nil}
 use mathlib.Core.Logic.{inl, inr}
-use Prim.Native.Nat.{ℕ, zero, suc, ◌+◌, ◌-◌, ◌*◌, ◌/◌, ◌<◌, ◌≤◌}
+use Prim.Native.Nat.{ℕ, zero, suc, ◌+◌, ◌-◌, ◌<◌, ◌≤◌}
 use native.Mathlib.Omega.{arith}
 use borrow.Author.Tests.{lt-ltb, le-ltb, ltb-true, ltb-false}
 use lib.Dec.{ltb}
 use lib.IntN.{ℤ}
-use lib.ListN.{length, set, length-append}
-use lib.Seq.{get_or-set_other}
+use lib.ListN.{length, length-append}
 use Rattle.rules.specs.Limits.{row_limit}
 use Rattle.value.specs.declared.Value.{Value}
 use Rattle.value.specs.Decimal.{Valid}
@@ -26,10 +25,10 @@ use Rattle.language.specs.Listing.{right_of, coefficients_of, kind_of, kind_by}
 use Rattle.language.specs.Listing as Listing
 use Rattle.store.specs.declared.Key.{Key}
 use Rattle.store.specs.Key.{key_number, key_of}
-use Rattle.store.specs.Table.{part_at, key_at, word_at, has_room, row_set, appended}
+use Rattle.store.specs.Table.{Table, nth_row, key_at, word_at, has_room, row_set, appended}
 use Rattle.store.specs.Packed.{packed}
 use Rattle.store.specs.Entries.{Keyed}
-use Rattle.store.proofs.Rows.{grown-append, append-size}
+use Rattle.store.proofs.Rows.{grown-append, append-size, row_other}
 use Rattle.rows.specs.Counts.{RowOf}
 use Rattle.rows.specs.declared.Filled.{Filled}
 use Rattle.rows.specs.Slots.{counts_at, objective_row, spare_row, ObjectiveHeld, floor_slot, floor_word, Slot, less_slot, equal_slot, next_slot, RowsHeld, one_more, counted_as, Entered, RowPut, Wrote}
@@ -78,31 +77,13 @@ rows-counted (e ∷ es) = go (is_equal e.source.constraint.relation) (is_row e.f
 
 -- ---- a row of a table
 
-module _ (t : List ℕ) (s : ℕ) (k : Key) (w : ℕ) where
-  -- after the first word, the second, the third
-  abbrev one : List ℕ
-  one = set t (s * 4) k.high
-
-  abbrev two : List ℕ
-  two = set one (s * 4 + 1) k.middle
-
-  abbrev third : List ℕ
-  third = set two (s * 4 + 2) k.low
-
-  set_other : (p f : ℕ) → (p ≡ s → ⊥) → f < 4 → part_at (row_set t s k w) p f ≡ part_at t p f
-  unfolding row_set part_at
-  set_other p f d h =
-      get_or-set_other third (s * 4 + 3) (p * 4 + f) w 0 (λ e. d (omega arith))
-      ∙ get_or-set_other two (s * 4 + 2) (p * 4 + f) k.low 0 (λ e. d (omega arith))
-      ∙ get_or-set_other one (s * 4 + 1) (p * 4 + f) k.middle 0 (λ e. d (omega arith))
-      ∙ get_or-set_other t (s * 4) (p * 4 + f) k.high 0 (λ e. d (omega arith))
-
-  part-other : (p f : ℕ) → (p ≡ s → ⊥) → f < 4 → part_at (appended t s k w) p f ≡ part_at t p f
+module _ (t : Table) (s : ℕ) (k : Key) (w : ℕ) where
+  row-kept : (p : ℕ) → (p ≡ s → ⊥) → nth_row (appended t s k w) p ≡ nth_row t p
   unfolding appended
-  part-other p f d h = go (has_room t s)
+  row-kept p d = go (has_room t s)
     where
-      go : (b : Bool) → part_at (cond b (row_set t s k w) t) p f ≡ part_at t p f
-      go true = set_other p f d h
+      go : (b : Bool) → nth_row (cond b (row_set t s k w) t) p ≡ nth_row t p
+      go true = row_other t s k w p d
       go false = refl
 
   key-put : (b : Bool) → has_room t s ≡ b → key_at (appended t s k w) s ≡ cond b (key_number k) (key_at t s)
@@ -122,19 +103,19 @@ module _ (t : List ℕ) (s : ℕ) (k : Key) (w : ℕ) where
         size = append-size t s k w;
         key = key-put (has_room t s) refl;
         word = word-put (has_room t s) refl;
-        other_key = λ p d. rw (part-other p 0 d (omega arith), part-other p 1 d (omega arith), part-other p 2 d (omega arith));
-        other_word = λ p d. part-other p 3 d (omega arith);
+        other_key = λ p d. rw (row-kept p d);
+        other_word = λ p d. rw (word_at, row-kept p d);
       }
 
 -- a row that lies in the table
-module _ (t : List ℕ) (s k w : ℕ) (t' : List ℕ) (x : Entered t s k w t') (h : s < length t / 4) where
+module _ (t : Table) (s k w : ℕ) (t' : Table) (x : Entered t s k w t') (h : s < length t) where
   entered-key : key_at t' s ≡ k
   unfolding has_room
-  entered-key = x.key ∙ rw (lt-ltb s (length t / 4) h) refl
+  entered-key = x.key ∙ rw (lt-ltb s (length t) h) refl
 
   entered-word : word_at t' s ≡ w
   unfolding has_room
-  entered-word = x.word ∙ rw (lt-ltb s (length t / 4) h) refl
+  entered-word = x.word ∙ rw (lt-ltb s (length t) h) refl
 
 -- ---- slots
 
@@ -176,7 +157,7 @@ module _ (k : ℕ) where
   floor-past h = rw (le-ltb k 514 h) refl
 
 -- both rows of slot s written
-module _ (t half t' : List ℕ) (s k v w : ℕ) (x : Entered t s k v half) (y : Entered half (floor_slot s) k w t') (low : s < 512) where
+module _ (t half t' : Table) (s k v w : ℕ) (x : Entered t s k v half) (y : Entered half (floor_slot s) k w t') (low : s < 512) where
   -- those of another slot
   pair-other : (i : ℕ) → i < 512 → (i ≡ s → ⊥) → (key_at t' i ≡ key_at t i) × (word_at t' i ≡ word_at t i) × (word_at t' (floor_slot i) ≡ word_at t (floor_slot i))
   pair-other i h d =
@@ -187,7 +168,7 @@ module _ (t half t' : List ℕ) (s k v w : ℕ) (x : Entered t s k v half) (y : 
         y.other_word (floor_slot i) (λ z. d (omega arith)) ∙ x.other_word (floor_slot i) (λ z. omega arith),
       )
 
-  pair-here : 4104 ≤ length t → (key_at t' s ≡ k) × (word_at t' s ≡ v) × (word_at t' (floor_slot s) ≡ w)
+  pair-here : 1026 ≤ length t → (key_at t' s ≡ k) × (word_at t' s ≡ v) × (word_at t' (floor_slot s) ≡ w)
   pair-here h =
       let e : s + 514 ≡ floor_slot s = floor-row s (omega arith) in (
         y.other_key s (λ z. omega arith) ∙ entered-key t s k v half x (omega arith),
@@ -207,7 +188,7 @@ kind-is Syntax.at_least s w h = rw h refl
 kind-is Syntax.equal s w h = refl
 kind-is (Syntax.between g) s w h = rw h.1 refl
 
-module _ (vs : List Variable) (t half t' : List ℕ) (m m' : List ℤ) (s k v w : ℕ) (p : List ℤ) (x : Entered t s k v half) (y : Entered half (floor_slot s) k w t') (low : s < 512)
+module _ (vs : List Variable) (t half t' : Table) (m m' : List ℤ) (s k v w : ℕ) (p : List ℤ) (x : Entered t s k v half) (y : Entered half (floor_slot s) k w t') (low : s < 512)
     (put : RowPut (length vs) m s p m') where
   slot_kept : (i : ℕ) (e : Entry) → i < 512 → (i ≡ s → ⊥) → Slot vs t m i e → Slot vs t' m' i e
   slot_kept i e b d h =
@@ -223,7 +204,7 @@ module _ (vs : List Variable) (t half t' : List ℕ) (m m' : List ℤ) (s k v w 
         row = subst (λ l. RowOf vs l (coefficients_of e.fact)) (sym (put.others i d)) h.row;
       }
 
-  slot-new : (e : Entry) (c : Scope) → 4104 ≤ length t → Keyed e.source.ordinal e.source.element → k ≡ key_of e.source.ordinal e.source.element → Valid (right_of e.fact)
+  slot-new : (e : Entry) (c : Scope) → 1026 ≤ length t → Keyed e.source.ordinal e.source.element → k ≡ key_of e.source.ordinal e.source.element → Valid (right_of e.fact)
       → v ≡ packed (right_of e.fact) → FloorIs e.source.constraint.relation c e.floor → ValidIfAny e.floor → w ≡ floor_word e.floor → RowOf vs p (coefficients_of e.fact)
       → Slot vs t' m' s e
   slot-new e c size u a d b f g l r =
@@ -343,14 +324,14 @@ module _ (f : Filled) (b : Bool) (r : Filled) (room : f.less + f.equal < 512) wh
   unfolding counted_as
   counted-less-is d e = rw (e, d) (one_more_lem f.less (omega arith), refl)
 
-pub wrote : (t half t' : List ℕ) (f r : Filled) (b : Bool) (i : ℕ) (l : List ℤ) (v : Value) (s q u w : ℕ) (k : Key) → s ≡ next_slot f.less f.equal b → key_number k ≡ key_of i l
+pub wrote : (t half t' : Table) (f r : Filled) (b : Bool) (i : ℕ) (l : List ℤ) (v : Value) (s q u w : ℕ) (k : Key) → s ≡ next_slot f.less f.equal b → key_number k ≡ key_of i l
     → u ≡ packed v → half ≡ appended t s k u → q ≡ floor_slot s → t' ≡ appended half q k w → r ≡ counted_as f b → Wrote t f b i l v w r t'
 wrote t half t' f r b i l v s q u w k hs hk hu hh hq ht hr =
     record { filled = hr; between = half; row = rw (sym hs, sym hk, sym hu, hh) (entered t s k u); floor = rw (sym hs, sym hq, sym hk, ht) (entered half q k w) }
 
 -- ---- one entry more
 
-module _ (vs : List Variable) (t : List ℕ) (m : List ℤ) where
+module _ (vs : List Variable) (t : Table) (m : List ℤ) where
   pub rows_none : RowsHeld vs t m 0 0 []
   unfolding keep
   rows_none = record { less_count = refl; equal_count = refl; room = omega arith; less_rows = λ i e a. absurd a; equal_rows = λ i e a. absurd a }
@@ -381,8 +362,8 @@ module _ (vs : List Variable) (t : List ℕ) (m : List ℤ) where
       not_equal = go-equal (is_equal e.source.constraint.relation)
 
   -- a row in its slot
-  module _ (t' : List ℕ) (m' p : List ℤ) (f r : Filled) (b : Bool) (es : List Entry) (e : Entry) where
-    pub row-added : RowsHeld vs t m f.less f.equal es → f.less + f.equal < 512 → 4104 ≤ length t → is_row e.fact ≡ true → is_equal e.source.constraint.relation ≡ b
+  module _ (t' : Table) (m' p : List ℤ) (f r : Filled) (b : Bool) (es : List Entry) (e : Entry) where
+    pub row-added : RowsHeld vs t m f.less f.equal es → f.less + f.equal < 512 → 1026 ≤ length t → is_row e.fact ≡ true → is_equal e.source.constraint.relation ≡ b
         → Keyed e.source.ordinal e.source.element → Valid (right_of e.fact) → (c : Scope) → FloorIs e.source.constraint.relation c e.floor → ValidIfAny e.floor
         → (w : ℕ) → w ≡ floor_word e.floor → Wrote t f b e.source.ordinal e.source.element (right_of e.fact) w r t'
         → RowPut (length vs) m (next_slot f.less f.equal b) p m' → RowOf vs p (coefficients_of e.fact) → RowsHeld vs t' m' r.less r.equal (es ++ (e ∷ []))

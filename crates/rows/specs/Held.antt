@@ -5,8 +5,9 @@ use Rattle.language.specs.Numbering.{Lp}
 use Rattle.rows.specs.declared.Sizes.{Sizes}
 use Rattle.rows.specs.Slots.{RowsHeld, ObjectiveHeld}
 use Rattle.rows.specs.Bounds.{BoundsHeld}
+use Rattle.store.specs.Table.{Table}
 
-pub record Held (slots bounds : List ℕ) (m : List ℤ) (sizes : Sizes) (p : Lp) : Type 0 where
+pub record Held (slots : Table) (bounds : List ℕ) (m : List ℤ) (sizes : Sizes) (p : Lp) : Type 0 where
   pub discrete : sizes.discrete ≡ p.discrete
   pub variables : sizes.variables ≡ length p.variables
   pub among : p.discrete ≤ length p.variables  -- the discrete variables are the first ones

@@ -12,7 +12,7 @@ use Rattle.language.specs.Listed.{At}
 use Rattle.language.specs.Listing.{right_of, coefficients_of, kind_of, kind_by}
 use Rattle.language.specs.Listing as Listing
 use Rattle.store.specs.Key.{key_of}
-use Rattle.store.specs.Table.{key_at, word_at, has_room}
+use Rattle.store.specs.Table.{Table, key_at, word_at, has_room}
 use Rattle.store.specs.Packed.{packed}
 use Rattle.store.specs.Entries.{Keyed}
 use Rattle.rows.specs.declared.Filled.{Filled}
@@ -46,7 +46,7 @@ floor_word None = 0
 floor_word (Some v) = packed v
 
 -- what slot k holds
-pub record Slot (vs : List Variable) (t : List ℕ) (m : List ℤ) (k : ℕ) (e : Entry) : Type 0 where
+pub record Slot (vs : List Variable) (t : Table) (m : List ℤ) (k : ℕ) (e : Entry) : Type 0 where
   pub keyed : Keyed e.source.ordinal e.source.element
   pub key : key_at t k ≡ key_of e.source.ordinal e.source.element
   pub valid : Valid (right_of e.fact)
@@ -71,7 +71,7 @@ next_slot less equal b = elim (ltb (less + equal) row_limit) [
 ]
 
 -- all rows among the entries
-pub record RowsHeld (vs : List Variable) (t : List ℕ) (m : List ℤ) (less equal : ℕ) (es : List Entry) : Type 0 where
+pub record RowsHeld (vs : List Variable) (t : Table) (m : List ℤ) (less equal : ℕ) (es : List Entry) : Type 0 where
   pub less_count : less ≡ length (keep less_row es)
   pub equal_count : equal ≡ length (keep equal_row es)
   pub room : less + equal ≤ row_limit
@@ -89,7 +89,7 @@ counted_as f true = record { less = f.less; equal = one_more f.equal }
 counted_as f false = record { less = one_more f.less; equal = f.equal }
 
 -- row s of a table now has the key k and the word w, if it lies there, and every other row is as it was
-pub record Entered (t : List ℕ) (s k w : ℕ) (t' : List ℕ) : Type 0 where
+pub record Entered (t : Table) (s k w : ℕ) (t' : Table) : Type 0 where
   pub size : length t' ≡ length t
   pub key : key_at t' s ≡ cond (has_room t s) k (key_at t s)
   pub word : word_at t' s ≡ cond (has_room t s) w (word_at t s)
@@ -103,8 +103,8 @@ pub record RowPut (n : ℕ) (m : List ℤ) (s : ℕ) (p m' : List ℤ) : Type 0 
   pub others : (k : ℕ) → (k ≡ s → ⊥) → counts_at m' n k ≡ counts_at m n k
 
 -- the next row of the constraint number i at the element l, with its right side v and the word w of its floor
-pub record Wrote (t : List ℕ) (f : Filled) (b : Bool) (i : ℕ) (l : List ℤ) (v : Value) (w : ℕ) (r : Filled) (t' : List ℕ) : Type 0 where
+pub record Wrote (t : Table) (f : Filled) (b : Bool) (i : ℕ) (l : List ℤ) (v : Value) (w : ℕ) (r : Filled) (t' : Table) : Type 0 where
   pub filled : r ≡ counted_as f b
-  pub between : List ℕ
+  pub between : Table
   pub row : Entered t (next_slot f.less f.equal b) (key_of i l) (packed v) between
   pub floor : Entered between (floor_slot (next_slot f.less f.equal b)) (key_of i l) w t'

@@ -11,6 +11,8 @@ ghost use Rattle.rows.specs.Slots.{next_slot, floor_slot, one_more, counted_as, 
 ghost use Rattle.rows.specs.Bounds.{lower_word, upper_word, gives_way, stated_word, state_word, bound_stated, floor_stated};
 ghost use Rattle.rows.specs.Read.{within, slot_at, count_at, value_of, lower_in, end_in};
 
+use store::Row;
+
 // ---- rows of counts
 
 pub fn clear(counts: &mut [i64])
@@ -59,7 +61,7 @@ pub fn has_room(filled: Filled) -> bool
     filled.equal < rules::ROW_LIMIT - less
 }
 
-// The slot of the row that comes next; where all are taken, the spare row.
+// The slot of the row that comes next; where all are taken, the spare row. `equal` is the row's relation: data, not a step.
 pub fn next_slot(filled: Filled, equal: bool) -> usize
     ensures { result ≡ next_slot filled.less filled.equal equal }
 {
@@ -81,7 +83,7 @@ fn one_more(n: usize) -> usize
     n
 }
 
-// One row more is counted, as far as there are slots.
+// One row more is counted, as far as there are slots. `equal` is its relation: data, not a step.
 fn counted(filled: Filled, equal: bool) -> Filled
     ensures { result ≡ counted_as filled equal }
 {
@@ -108,9 +110,9 @@ fn floor_slot(k: usize) -> usize
 }
 
 // Writes the next row's constraint, element and right side into its slot and its floor's word, 0 where it has none, into the slot's
-// second row, and counts it.
+// second row, and counts it. `equal` is its relation: data, not a step.
 pub fn write(
-    rows: &mut [u64],
+    rows: &mut [Row],
     filled: Filled,
     equal: bool,
     ordinal: usize,
@@ -135,9 +137,9 @@ fn gives_way(old: value::Value, new: value::Value, larger: bool) -> bool
     ensures { result ≡ gives_way larger old new }
 {
     if larger {
-        return value::at_most(old, new);
+        return old.at_most(new);
     }
-    value::at_most(new, old)
+    new.at_most(old)
 }
 
 // The word of a bound after v is stated; 0 before any is.
@@ -256,11 +258,11 @@ pub fn count_at(counts: &[i64], k: usize, j: usize) -> i64
 pub fn value_of(z: i64) -> value::Value
     ensures { result ≡ value_of z }
 {
-    value::of_millionths(z).unwrap_or(value::of_whole(0))
+    value::of_millionths(z).unwrap_or(value::Value::from(0))
 }
 
 // The floor of a slot, if it has one.
-pub fn floor_of(rows: &[u64], k: usize) -> Option<value::Value>
+pub fn floor_of(rows: &[Row], k: usize) -> Option<value::Value>
     ensures { result ≡ end_in (word_at rows.now (floor_slot k)) }
 {
     let w = store::word_at(rows, floor_slot(k));
@@ -275,11 +277,11 @@ pub fn lower_of(bounds: &[u64], j: usize) -> value::Value
     ensures { result ≡ lower_in (lower_word bounds.now j) }
 {
     if bounds.len() <= j {
-        return value::of_whole(0);
+        return value::Value::from(0);
     }
     let w = word(bounds, j * 2);
     if w == 0 {
-        return value::of_whole(0);
+        return value::Value::from(0);
     }
     store::unpack(w)
 }

@@ -8,7 +8,7 @@ ghost use Rattle.rules.specs.Refusals.{refusal_number};
 // Why a model comes back, in the order of document 01's table.
 #[derive(Clone, Copy, Debug, PartialEq, Eq)]
 pub enum Refusal {
-    LongText, // 1: text above 16,384 bytes
+    LongText = 1, // 1: text above 16,384 bytes
     StrangeByte, // 2: a byte that starts no token or may not stand in a string
     Misplaced, // 3: a misshapen or misplaced token
     BadName, // 4: a name too long, unknown, or declared again
@@ -77,20 +77,10 @@ pub const RUN_LIMIT: usize = 256;
 pub const INDEX_LIMIT: usize = 4;
 
 // Document 01's number of a refusal.
-pub fn number(r: Refusal) -> u32
-    ensures { result ≡ refusal_number r }
-{
-    match r {
-        Refusal::LongText => 1,
-        Refusal::StrangeByte => 2,
-        Refusal::Misplaced => 3,
-        Refusal::BadName => 4,
-        Refusal::Unfit => 5,
-        Refusal::Full => 6,
-        Refusal::BadIndex => 7,
-        Refusal::NotWhole => 8,
-        Refusal::Outside => 9,
-        Refusal::Missing => 10,
-        Refusal::LongListing => 11,
+impl From<Refusal> for u32 {
+    ghost from_gives = { λ r n. n ≡ refusal_number r };
+
+    fn from(r: Refusal) -> u32 {
+        r as u32
     }
 }

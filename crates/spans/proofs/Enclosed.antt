@@ -23,7 +23,6 @@ use Rattle.language.specs.Numbering.{Entry, Lp, lower_of, upper_of, rows, genera
 use Rattle.language.specs.Listing.{Kind, less, range, right_of, kind_of, Line, row_line, lines_of}
 use Rattle.language.specs.Listing as Listing
 use Rattle.language.specs.Demand3.{BelowUpper, row_value, Rising, RowLine, Keeps}
-use Rattle.language.proofs.Numbered.{true-false}
 use Rattle.language.proofs.Ordered.{rising-nil, rising-one, rising-append}
 use Rattle.language.proofs.Lines.{var-line}
 use Rattle.language.proofs.Kept.{keeps}
@@ -37,10 +36,10 @@ use Rattle.spans.proofs.Assigned.{assigned, assigned-is, rows_long, row-value}
 
 idle-means : (q : Kind) (o : Option Value) (v : Value) → is_idle q o v ≡ true → (q ≡ less) × (h : Value) × (o ≡ Some h) × (exactly h ⊑ exactly v)
 unfolding is_idle
-idle-means less None v e = true-false (sym e)
+idle-means less None v e = cc
 idle-means less (Some h) v e = (refl, h, refl, is_at_most-yes h v e)
-idle-means Listing.equal o v e = true-false (sym e)
-idle-means range o v e = true-false (sym e)
+idle-means Listing.equal o v e = cc
+idle-means range o v e = cc
 
 means-idle : (h v : Value) → exactly h ⊑ exactly v → is_idle less (Some h) v ≡ true
 unfolding is_idle

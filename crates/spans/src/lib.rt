@@ -1,5 +1,7 @@
 // The report of how far the rows of a problem can reach, written from its tables. Each line is written from the byte where the last one
 // ended, as far as the output reaches; the report's length is given whether or not the output reaches that far.
+// What writes takes the output and a place in it, and gives the place behind what it wrote: document 01 names this form, where the rest of
+// the output is lent to the writer of a line.
 #![tactic(auto)]
 
 ghost use Rattle.std.specs.Prelude.{◌≡◌, ◌+◌, ◌<◌, ◌≤◌, ◌^◌};
@@ -11,6 +13,8 @@ ghost use Rattle.listing.specs.Spans.{shown_span};
 ghost use Rattle.spans.specs.Told.{idle_in, span_text, RowWritten, RowsWritten, Reports};
 
 use listing::Kind;
+use reach::End;
+use store::Row;
 
 // Is the greatest value of a row no more than its right side?
 fn is_idle(greatest: Option<value::Value>, right: value::Value) -> bool
@@ -18,7 +22,7 @@ fn is_idle(greatest: Option<value::Value>, right: value::Value) -> bool
 {
     match greatest {
         None => false,
-        Some(v) => value::at_most(v, right),
+        Some(v) => v.at_most(right),
     }
 }
 
@@ -37,7 +41,7 @@ fn put_span(
     at + listing::span(number, least, greatest, idle, &mut out[from..])
 }
 
-// The line of a row of a kind; nothing for one with a floor.
+// The line of a row of a kind; nothing for one with a floor. The kind is data, not a step.
 fn span_line(
     kind: Kind,
     number: usize,
@@ -59,7 +63,7 @@ fn span_line(
 
 // The line of row i, of which the first `less` are those of `<=` and `>=`, over n variables.
 fn row_line(
-    slots: &[u64],
+    slots: &[Row],
     bounds: &[u64],
     counts: &[i64],
     less: usize,
@@ -73,15 +77,15 @@ fn row_line(
 {
     let k = rows::slot(less, i);
     let kind = listing::sheet::kind_of(less <= i, rows::floor_of(slots, k));
-    let least = reach::end_of(counts, bounds, k, n, false);
-    let greatest = reach::end_of(counts, bounds, k, n, true);
+    let least = reach::end_of(counts, bounds, k, n, End::Least);
+    let greatest = reach::end_of(counts, bounds, k, n, End::Greatest);
     let right = store::unpack(store::word_at(slots, k));
     span_line(kind, i + 1, least, greatest, right, out, at)
 }
 
 // The lines of all rows, so many.
 fn row_lines(
-    slots: &[u64],
+    slots: &[Row],
     bounds: &[u64],
     counts: &[i64],
     less: usize,
@@ -110,7 +114,7 @@ fn last_line(out: &mut [u8], at: usize) -> usize
 
 // The report of a problem, from the output's first byte on, and its length. Nothing is written where a number is past its limit.
 pub fn write(
-    slots: &[u64],
+    slots: &[Row],
     bounds: &[u64],
     counts: &[i64],
     sizes: rows::Sizes,

@@ -11,16 +11,10 @@ use Rattle.store.specs.declared.Key.{Key}
 use Rattle.store.specs.declared.Element.{Element}
 use Rattle.store.specs.Element.{list_of, extended}
 use Rattle.store.specs.Key.{digit_of, digit_at, with_digit, name_digit, paired, three_words, key_number, key_of, four_digits, high_of, middle_of, low_of, name_of, element_of}
-use Rattle.store.specs.Table.{part_at, key_at}
 use Rattle.store.specs.Entries.{Keyed}
 use Rattle.store.proofs.Keys.{digit-below, digit-above, digit-parts, name-digit}
 use Rattle.store.proofs.Words.{moved_back}
 use Rattle.store.proofs.Elements.{extended-room}
-
--- the three words of a row
-pub row_words : (t : List ℕ) (i h m l : ℕ) → h ≡ part_at t i 0 → m ≡ part_at t i 1 → l ≡ part_at t i 2 → key_number (record { high = h; middle = m; low = l }) ≡ key_at t i
-unfolding key_number key_at
-row_words t i h m l p q r = rw (p, q, r)
 
 -- ---- digits
 
@@ -117,27 +111,27 @@ module _ (k n : ℕ) (l : List ℤ) (a : Keyed n l) (e : k ≡ key_of n l) where
       let j : low_of k % 2147483648 ≡ digit_at l 3 = omega (arith, low_word, digit-at-below l 3) in
       rw (f, g, h, j) (four-digits l a.subscripts.few a.subscripts.small)
 
--- ---- rows
+-- ---- keys
 
-module _ (t : List ℕ) (i : ℕ) (k : Key) (w : key_number k ≡ key_at t i) (y : k.middle < 18446744073709551616) (z : k.low < 18446744073709551616) where
-  key-high : high_of (key_at t i) ≡ k.high
+module _ (k : Key) (y : k.middle < 18446744073709551616) (z : k.low < 18446744073709551616) where
+  key-high : high_of (key_number k) ≡ k.high
   unfolding key_number
-  key-high = rw (← w) (three-high k.high k.middle k.low y z)
+  key-high = three-high k.high k.middle k.low y z
 
-  key-middle : middle_of (key_at t i) ≡ k.middle
+  key-middle : middle_of (key_number k) ≡ k.middle
   unfolding key_number
-  key-middle = rw (← w) (three-middle k.high k.middle k.low y z)
+  key-middle = three-middle k.high k.middle k.low y z
 
-  key-low : low_of (key_at t i) ≡ k.low
+  key-low : low_of (key_number k) ≡ k.low
   unfolding key_number
-  key-low = rw (← w) (three-low k.high k.middle k.low y z)
+  key-low = three-low k.high k.middle k.low y z
 
-  pub name-read : k.high / 2147483648 ≡ name_of (key_at t i)
+  pub name-read : k.high / 2147483648 ≡ name_of (key_number k)
   unfolding name_of
   name-read = rw key-high refl
 
   pub element-read : (o p q r s : Element) → list_of o ≡ [] → list_of p ≡ with_digit (list_of o) (k.high % 2147483648)
       → list_of q ≡ with_digit (list_of p) (k.middle / 2147483648 % 2147483648) → list_of r ≡ with_digit (list_of q) (k.middle % 2147483648)
-      → list_of s ≡ with_digit (list_of r) (k.low % 2147483648) → list_of s ≡ element_of (key_at t i)
+      → list_of s ≡ with_digit (list_of r) (k.low % 2147483648) → list_of s ≡ element_of (key_number k)
   unfolding element_of four_digits
   element-read o p q r s u f g h j = j ∙ rw (h, g, f, u, key-high, key-middle, key-low) refl

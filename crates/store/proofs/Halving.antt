@@ -3,20 +3,17 @@
 use Rattle.std.specs.Prelude.{Option, Some, None, Result, Ok, Err}
 use Rattle.std.specs.Result.{result_ok}
 use mathlib.Core.Path.{◌≡◌, refl, sym, ◌∙◌, ap}
-use mathlib.Core.Bool.{Bool, true, false, cond}
-use mathlib.Core.List.{List}
+use mathlib.Core.Bool.{Bool, true, false, cond, ◌&&◌}
 use mathlib.Core.Logic.{◌⊎◌, inl, inr, ⊎_elim}
 use Prim.Native.Nat.{ℕ, zero, suc, ◌+◌, ◌-◌, ◌*◌, ◌<◌, ◌≤◌}
 use native.Mathlib.Omega.{arith}
 use native.Mathlib.Nat.{eq-or-lt_of_le}
 use borrow.Author.Tests.{lt-ltb, le-ltb, ltb-true, ltb-false, le-leb, lt-leb, leb-true, leb-false, eq-eqb, ne_eqb, eqb-true, eqb-false}
 use lib.Dec.{eqb, ltb, leb}
-use lib.ListN.{get_or}
-use mir.Syntax.{w64}
-use mir.Val.{Fits}
+use Rattle.std.specs.Ordering.{nat_cmp, is_lt, is_some_and, partial_ordering_then}
 use Rattle.store.specs.declared.Key.{Key}
 use Rattle.store.specs.Key.{three_words, key_number}
-use Rattle.store.specs.Table.{part_at, key_at, word_at, Sorted, row_from, row_of, word_in, lookup, halfway, rank_in, rank_of, place_at, place_of, found_row, Finds, Between, PlaceIs}
+use Rattle.store.specs.Table.{Table, key_at, word_at, Sorted, row_from, row_of, word_in, lookup, halfway, rank_in, rank_of, place_at, place_of, found_row, Finds, Between, PlaceIs}
 use Rattle.store.proofs.Keys.{higher, nearer, three}
 
 -- ---- three words as one number
@@ -71,62 +68,54 @@ module _ (h m l a b c : ℕ) (p : h ≡ a) (q : m ≡ b) where
       (λ u. rw (p, q, u) (eq-eqb c c refl ∙ sym (eq-eqb (three_words a b c) (three_words a b c) refl)))
       (λ u. ne_eqb l c (λ e. omega arith) ∙ sym (ne_eqb _ _ (λ e. less-not-equal (sym e) (low-less a b c h m l (sym p) (sym q) u))))
 
--- every word of a row fits where every element of the list does
-pub part-fits : (t : List ℕ) (i : ℕ) → ((j : ℕ) → Fits w64 (get_or t j 0)) → (f : ℕ) → part_at t i f < 18446744073709551616
-unfolding part_at
-part-fits t i h f = omega (arith, h (i * 4 + f))
-
--- a row's key against another, by the words h, m, l of the row
-module _ (t : List ℕ) (i : ℕ) (k : Key) (h m l : ℕ) (p : h ≡ part_at t i 0) (q : m ≡ part_at t i 1) (r : l ≡ part_at t i 2) where
-  row-key : key_at t i ≡ three_words h m l
-  unfolding key_at
-  row-key = rw (p, q, r)
-
-  high-below : h < k.high → m < 18446744073709551616 → l < 18446744073709551616 → true ≡ ltb (key_at t i) (key_number k)
+-- two keys, word by word
+module _ (x y : Key) (p : x.middle < 18446744073709551616) (q : x.low < 18446744073709551616) (r : y.middle < 18446744073709551616)
+    (s : y.low < 18446744073709551616) where
+  pub keys-same : (eqb x.high y.high && (eqb x.middle y.middle && eqb x.low y.low)) ≡ eqb (key_number x) (key_number y)
   unfolding key_number
-  high-below u v w = rw row-key (sym (lt-ltb _ _ (high-less h m l k.high k.middle k.low u v w)))
+  keys-same = by-high (eqb x.high y.high) refl
+    where
+      differ : (three_words x.high x.middle x.low ≡ three_words y.high y.middle y.low → ⊥) → false ≡ eqb (three_words x.high x.middle x.low) (three_words y.high y.middle y.low)
+      differ f = sym (ne_eqb _ _ f)
 
-  high-above : k.high < h → k.middle < 18446744073709551616 → k.low < 18446744073709551616 → false ≡ ltb (key_at t i) (key_number k)
+      by-middle : x.high ≡ y.high → (b : Bool) → eqb x.middle y.middle ≡ b → (b && eqb x.low y.low) ≡ eqb (three_words x.high x.middle x.low) (three_words y.high y.middle y.low)
+      by-middle h true e = last-equal _ _ _ _ _ _ h (eqb-true _ _ e)
+      by-middle h false e = differ (λ f. eqb-false _ _ e (same-middle _ _ _ _ _ _ p q r s f))
+
+      by-high : (b : Bool) → eqb x.high y.high ≡ b → (b && (eqb x.middle y.middle && eqb x.low y.low)) ≡ eqb (three_words x.high x.middle x.low) (three_words y.high y.middle y.low)
+      by-high true e = by-middle (eqb-true _ _ e) (eqb x.middle y.middle) refl
+      by-high false e = differ (λ f. eqb-false _ _ e (same-high _ _ _ _ _ _ p q r s f))
+
+  -- by the first word that differs
+  pub keys-less : is_some_and is_lt (partial_ordering_then (Some (nat_cmp x.high y.high)) (partial_ordering_then (Some (nat_cmp x.middle y.middle)) (Some (nat_cmp x.low y.low))))
+      ≡ ltb (key_number x) (key_number y)
   unfolding key_number
-  high-above u v w = rw row-key (sym (more (high-less k.high k.middle k.low h m l u v w)))
+  keys-less = three x.high y.high
+      (λ u. rw (lt-ltb x.high y.high u) (sym (key-less (high-less x.high x.middle x.low y.high y.middle y.low u p q))))
+      (λ u. rw (same-less u, eq-eqb x.high y.high u) (three x.middle y.middle
+      (λ v. rw (lt-ltb x.middle y.middle v) (sym (key-less (middle-less x.high x.middle x.low y.high y.middle y.low u v q))))
+      (λ v. rw (same-less v, eq-eqb x.middle y.middle v) (by-low ∙ last_less x.high x.middle x.low y.high y.middle y.low u v))
+      (λ v. rw (more v, ne_eqb x.middle y.middle (λ e. omega arith)) (sym (key-more (middle-less y.high y.middle y.low x.high x.middle x.low (sym u) v s))))))
+      (λ u. rw (more u, ne_eqb x.high y.high (λ e. omega arith)) (sym (key-more (high-less y.high y.middle y.low x.high x.middle x.low u r s))))
+    where
+      same-less : {a b : ℕ} → a ≡ b → ltb a b ≡ false
+      same-less {a} {b} e = le-ltb a b (omega arith)
 
-  middle-below : h ≡ k.high → m < k.middle → l < 18446744073709551616 → true ≡ ltb (key_at t i) (key_number k)
-  unfolding key_number
-  middle-below u v w = rw row-key (sym (lt-ltb _ _ (middle-less h m l k.high k.middle k.low u v w)))
+      key-less : three_words x.high x.middle x.low < three_words y.high y.middle y.low → ltb (key_number x) (key_number y) ≡ true
+      key-less h = lt-ltb _ _ h
 
-  middle-above : h ≡ k.high → k.middle < m → k.low < 18446744073709551616 → false ≡ ltb (key_at t i) (key_number k)
-  unfolding key_number
-  middle-above u v w = rw row-key (sym (more (middle-less k.high k.middle k.low h m l (sym u) v w)))
+      key-more : three_words y.high y.middle y.low < three_words x.high x.middle x.low → ltb (key_number x) (key_number y) ≡ false
+      key-more h = more h
 
-  -- the first word that differs decides
-  pub high-decides : (h ≡ k.high → ⊥) → m < 18446744073709551616 → l < 18446744073709551616 → k.middle < 18446744073709551616 → k.low < 18446744073709551616
-      → ltb h k.high ≡ ltb (key_at t i) (key_number k)
-  high-decides d w x y z = three h k.high (λ u. lt-ltb h k.high u ∙ high-below u w x) (λ u. absurd (d u)) (λ u. more u ∙ high-above u y z)
-
-  pub middle-decides : h ≡ k.high → (m ≡ k.middle → ⊥) → l < 18446744073709551616 → k.low < 18446744073709551616 → ltb m k.middle ≡ ltb (key_at t i) (key_number k)
-  middle-decides e d x z = three m k.middle (λ u. lt-ltb m k.middle u ∙ middle-below e u x) (λ u. absurd (d u)) (λ u. more u ∙ middle-above e u z)
-
-  pub low-decides : h ≡ k.high → m ≡ k.middle → ltb l k.low ≡ ltb (key_at t i) (key_number k)
-  unfolding key_number
-  low-decides u v = rw row-key (last_less h m l k.high k.middle k.low u v)
-
-  pub high-differs : (h ≡ k.high → ⊥) → m < 18446744073709551616 → l < 18446744073709551616 → k.middle < 18446744073709551616 → k.low < 18446744073709551616
-      → false ≡ eqb (key_at t i) (key_number k)
-  unfolding key_number
-  high-differs u w x y z = rw row-key (sym (ne_eqb _ _ (λ e. u (same-high h m l k.high k.middle k.low w x y z e))))
-
-  pub middle-differs : (m ≡ k.middle → ⊥) → m < 18446744073709551616 → l < 18446744073709551616 → k.middle < 18446744073709551616 → k.low < 18446744073709551616
-      → false ≡ eqb (key_at t i) (key_number k)
-  unfolding key_number
-  middle-differs u w x y z = rw row-key (sym (ne_eqb _ _ (λ e. u (same-middle h m l k.high k.middle k.low w x y z e))))
-
-  pub low_same : h ≡ k.high → m ≡ k.middle → eqb l k.low ≡ eqb (key_at t i) (key_number k)
-  unfolding key_number
-  low_same u v = rw row-key (last-equal h m l k.high k.middle k.low u v)
+      by-low : is_some_and is_lt (Some (nat_cmp x.low y.low)) ≡ ltb x.low y.low
+      by-low = three x.low y.low
+          (λ u. rw (lt-ltb x.low y.low u) refl)
+          (λ u. rw (same-less u, eq-eqb x.low y.low u) refl)
+          (λ u. rw (more u, ne_eqb x.low y.low (λ e. omega arith)) refl)
 
 -- ---- a bracketed key
 
-pub between_start : (t : List ℕ) (n k : ℕ) → Between t n k 0 n
+pub between_start : (t : Table) (n k : ℕ) → Between t n k 0 n
 between_start t n k = record {
   ordered = omega arith;
   within = omega arith;
@@ -134,7 +123,7 @@ between_start t n k = record {
   above = λ s p h g. absurd (omega arith);
 }
 
-module _ (t : List ℕ) (n k from to m : ℕ) (b : Between t n k from to) (f : from ≤ m) (g : m < to) where
+module _ (t : Table) (n k from to m : ℕ) (b : Between t n k from to) (f : from ≤ m) (g : m < to) where
   up : key_at t m < k → Between t n k (m + 1) to
   up h = record {
     ordered = omega arith;
@@ -158,12 +147,12 @@ module _ (t : List ℕ) (n k from to m : ℕ) (b : Between t n k from to) (f : f
   pub between-down : (r : Bool) → r ≡ ltb (key_at t m) k → r ≡ false → Between t n k from m
   between-down r e a = down (ltb-false (key_at t m) k (sym e ∙ a))
 
-pub between-end : (t : List ℕ) (n k from to : ℕ) → Between t n k from to → to ≤ from → Between t n k from from
+pub between-end : (t : Table) (n k from to : ℕ) → Between t n k from to → to ≤ from → Between t n k from from
 between-end t n k from to b h = let e : to ≡ from = omega (arith, b.ordered) in rw e at b
 
 -- ---- a free place
 
-module _ (t : List ℕ) (n k at : ℕ) (s : Sorted t n) (b : Between t n k at at) (f : at < n → key_at t at ≡ k → ⊥) where
+module _ (t : Table) (n k at : ℕ) (s : Sorted t n) (b : Between t n k at at) (f : at < n → key_at t at ≡ k → ⊥) where
   pub free-above : (p : ℕ) → at ≤ p → p < n → k < key_at t p
   free-above p y z = three k (key_at t p)
       (λ u. u)
@@ -175,7 +164,7 @@ module _ (t : List ℕ) (n k at : ℕ) (s : Sorted t n) (b : Between t n k at at
 
 -- ---- the row that a search from the front finds
 
-module _ (t : List ℕ) (k : ℕ) where
+module _ (t : Table) (k : ℕ) where
   from_at : (n i j : ℕ) → i ≤ j → j < i + n → ((p : ℕ) → i ≤ p → p < j → key_at t p ≡ k → ⊥) → key_at t j ≡ k → row_from t k i n ≡ Some j
   unfolding row_from
   from_at zero i j a b h e = absurd (omega arith)
@@ -200,7 +189,7 @@ module _ (t : List ℕ) (k : ℕ) where
       go false e (inl r) = inl (r.0, omega (arith, r.1), r.2)
       go false e (inr r) = inr (λ p h f. ⊎_elim (λ w. eqb-false (key_at t n) k e (rw w at f)) (λ w. r p w f) (eq-or-lt_of_le {n = p} {m = n} (omega arith)))
 
-module _ (t : List ℕ) (n k : ℕ) where
+module _ (t : Table) (n k : ℕ) where
   pub row_at : Sorted t n → (i : ℕ) → i < n → key_at t i ≡ k → row_of t n k ≡ Some i
   unfolding row_of
   row_at s i h e = from_at t k n 0 i (omega arith) (omega arith) (λ p y z w. omega (arith, s.rising p i z h)) e
@@ -219,7 +208,7 @@ module _ (t : List ℕ) (n k : ℕ) where
 
 -- ---- halving
 
-module _ (t : List ℕ) (k : ℕ) where
+module _ (t : Table) (k : ℕ) where
   -- more turns than rows make no difference
   rank-turns : (f g a b : ℕ) → b ≤ a + f → b ≤ a + g → rank_in t k f a b ≡ rank_in t k g a b
   unfolding rank_in
@@ -266,7 +255,7 @@ module _ (t : List ℕ) (k : ℕ) where
     pub rank-end : b ≤ a → a ≡ rank_of t n k
     rank-end h = sym (rank-done (b - a) a b h) ∙ i
 
-module _ (t : List ℕ) (n k : ℕ) where
+module _ (t : Table) (n k : ℕ) where
   rank-in : (f a b : ℕ) → Between t n k a b → b ≤ a + f → Between t n k (rank_in t k f a b) (rank_in t k f a b)
   unfolding rank_in
   rank-in zero a b h j = between-end t n k a b h (omega arith)

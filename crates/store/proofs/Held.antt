@@ -18,14 +18,14 @@ use Rattle.store.specs.declared.InsertError.{InsertError}
 use Rattle.language.specs.Scope.{same_element}
 use Rattle.language.specs.Numbering.{Variable, same_variable, later, number_of}
 use Rattle.store.specs.Key.{key_number, key_of}
-use Rattle.store.specs.Table.{key_at, word_at, has_room, Sorted, row_of, word_in, lookup, found_row, appended, Grown, Says, entered, Inserted}
+use Rattle.store.specs.Table.{Table, key_at, word_at, has_room, Sorted, row_of, word_in, lookup, found_row, appended, Grown, Says, entered, Inserted}
 use Rattle.store.specs.Entries.{Keyed, Entry, word_of, Holds, variable_key, Numbered}
 use Rattle.store.proofs.Keys.{key-same}
 use Rattle.store.proofs.Halving.{row-none, lookup-none, finds-row}
 use Rattle.store.proofs.Inserting.{inserted-says, inserted-sorted, inserted-lookup}
 use Rattle.store.proofs.Rows.{grown-append, key-before, last-sorted, last_row, above-last}
 
-sorted_none : (t : List ℕ) → Sorted t 0
+sorted_none : (t : Table) → Sorted t 0
 sorted_none t = record { rising = λ p q h g. absurd (omega arith) }
 
 -- ---- data
@@ -41,12 +41,12 @@ entry_first x es i l a b = go (eqb x.name i && same_element x.element l) (key-sa
     go true e = rw (← e)
     go false e = rw (← e)
 
-pub holds-none : (t : List ℕ) → Holds t 0 []
+pub holds-none : (t : Table) → Holds t 0 []
 unfolding word_of
 holds-none t = record { count = refl; sorted = sorted_none t; agrees = λ i l a. lookup-none t 0 (key_of i l) (λ p h e. omega arith) }
 
 -- by the contracts of `key_of`, whose key has the number k, and of `find`, `word_at` and `insert`
-module _ (t : List ℕ) (n : ℕ) (es : List Entry) (i : ℕ) (l : List ℤ) (k : ℕ) (h : Holds t n es) (a : Keyed i l) (e : k ≡ key_of i l) where
+module _ (t : Table) (n : ℕ) (es : List Entry) (i : ℕ) (l : List ℤ) (k : ℕ) (h : Holds t n es) (a : Keyed i l) (e : k ≡ key_of i l) where
   held : lookup t n k ≡ word_of es i l
   held = rw e (h.agrees i l a)
 
@@ -59,10 +59,10 @@ module _ (t : List ℕ) (n : ℕ) (es : List Entry) (i : ℕ) (l : List ℤ) (k 
   holds-nothing f g p = sym held ∙ rw (← ((finds-row t n k f g).is_row h.sorted), p)
 
   -- present exactly where the list has it
-  pub holds-answer : (w : ℕ) (r : Result (Unit {0}) InsertError) (t' : List ℕ) → Inserted t n k w r t' → Says r (word_of es i l) (has_room t n)
+  pub holds-answer : (w : ℕ) (r : Result (Unit {0}) InsertError) (t' : Table) → Inserted t n k w r t' → Says r (word_of es i l) (has_room t n)
   holds-answer w r t' f = rw (← held) (inserted-says t n k w r t' f h.sorted)
 
-  pub holds-insert : (w : ℕ) (r : Result (Unit {0}) InsertError) (t' : List ℕ) → Inserted t n k w r t' → r ≡ Ok tt
+  pub holds-insert : (w : ℕ) (r : Result (Unit {0}) InsertError) (t' : Table) → Inserted t n k w r t' → r ≡ Ok tt
       → Holds t' (n + 1) (record { name = i; element = l; word = w } ∷ es)
   unfolding entered
   holds-insert w r t' f d = record {
@@ -108,7 +108,7 @@ number-last v (u ∷ vs) i l a b = go (eqb u.name i && same_element u.element l)
     go true e = refl
     go false e = ap later e ∙ later-or (eqb (key_of i l) (variable_key v)) (number_of i l vs) (length vs)
 
-pub numbered-none : (t : List ℕ) → Numbered t 0 []
+pub numbered-none : (t : Table) → Numbered t 0 []
 unfolding number_of same_variable
 numbered-none t = record {
   count = refl;
@@ -126,7 +126,7 @@ no_number_lem None e = refl
 no_number_lem (Some x) e = absurd (let z : ◌≡◌ {A = ℕ} 0 1 = cc in omega arith)
 
 -- by the contracts of `key_of` and of `find`
-module _ (t : List ℕ) (n : ℕ) (vs : List Variable) (i : ℕ) (l : List ℤ) (k : ℕ) (h : Numbered t n vs) (a : Keyed i l) (e : k ≡ key_of i l) where
+module _ (t : Table) (n : ℕ) (vs : List Variable) (i : ℕ) (l : List ℤ) (k : ℕ) (h : Numbered t n vs) (a : Keyed i l) (e : k ≡ key_of i l) where
   numbered : row_of t n k ≡ (number_of i l vs)
   numbered = rw e (h.agrees i l a)
 
@@ -137,7 +137,7 @@ module _ (t : List ℕ) (n : ℕ) (vs : List Variable) (i : ℕ) (l : List ℤ) 
   numbered-nothing f g p = no_number_lem (number_of i l vs) (sym p ∙ (finds-row t n k f g).is_row h.sorted ∙ numbered)
 
 -- the last variable's key
-pub numbered-last : (t : List ℕ) (vs : List Variable) (v : Variable) → Numbered t (length vs + 1) (vs ++ (v ∷ [])) → key_at t (length vs) ≡ variable_key v
+pub numbered-last : (t : Table) (vs : List Variable) (v : Variable) → Numbered t (length vs + 1) (vs ++ (v ∷ [])) → key_at t (length vs) ≡ variable_key v
 numbered-last t vs v h = h.keys (length vs) v (omega arith) ∙ ap variable_key (get_or_at vs v [] v (length vs) refl)
 
 or-none : (o : Option ℕ) → or_else o None ≡ o
@@ -146,7 +146,7 @@ or-none None = refl
 or-none (Some j) = refl
 
 -- a row appended whose key is above the last
-module _ (t : List ℕ) (n : ℕ) (vs : List Variable) (v : Variable) (k : Key) (w : ℕ) (h : Numbered t n vs) (a : Keyed v.name v.element)
+module _ (t : Table) (n : ℕ) (vs : List Variable) (v : Variable) (k : Key) (w : ℕ) (h : Numbered t n vs) (a : Keyed v.name v.element)
     (e : key_number k ≡ variable_key v) (r : has_room t n ≡ true) (b : 0 < n → key_at t (n - 1) < variable_key v) where
   grown : Grown t n n (variable_key v) w (appended t n k w)
   grown = rw e at (grown-append t n k w r)

@@ -1,8 +1,7 @@
 -- Laws of an insertion: what the code answers, and what it means in a sorted table.
 use mathlib.Core.Path.{◌≡◌, refl, sym, ◌∙◌, subst}
 use mathlib.Core.Bool.{Bool, true, false}
-use mathlib.Core.List.{List}
-use Prim.Native.Nat.{ℕ, ◌+◌, ◌*◌, ◌/◌, ◌<◌, ◌≤◌}
+use Prim.Native.Nat.{ℕ, ◌+◌, ◌<◌, ◌≤◌}
 use native.Mathlib.Omega.{arith}
 use borrow.Author.Tests.{lt-ltb, le-ltb, lt-leb, eq-eqb}
 use lib.ListN.{length}
@@ -11,13 +10,13 @@ use Rattle.std.specs.Prelude.{Result, Ok, Err}
 use Rattle.store.specs.declared.InsertError.{InsertError}
 use Rattle.store.specs.declared.InsertError.TheVariants.{Present, NoRoom}
 use Rattle.store.specs.Key.{key_number}
-use Rattle.store.specs.Table.{key_at, word_at, has_room, Sorted, lookup, rank_of, place_at, place_of, PlaceIs, row_set, Moved, Grown, insertion_at, insertion_of, Says, entered, Inserted}
+use Rattle.store.specs.Table.{Table, key_at, word_at, has_room, Sorted, lookup, rank_of, place_at, place_of, PlaceIs, row_set, Moved, Grown, insertion_at, insertion_of, Says, entered, Inserted}
 use Rattle.store.proofs.Halving.{lookup-at, lookup-none, free-above, free-none, rank_between, place_is, free-rank}
-use Rattle.store.proofs.Rows.{row-size, room_within, grown-insert, grown-sorted, grown-lookup}
+use Rattle.store.proofs.Rows.{row-size, grown-insert, grown-sorted, grown-lookup}
 
 -- ---- the answers of `insert`
 
-module _ (t : List ℕ) (n k w : ℕ) (r : Result ℕ ℕ) (h : r ≡ place_of t n k) where
+module _ (t : Table) (n k w : ℕ) (r : Result ℕ ℕ) (h : r ≡ place_of t n k) where
   pub insert-present : (i : ℕ) → r ≡ Ok i → Inserted t n k w (Err Present) t
   unfolding insertion_of
   insert-present i e = record {
@@ -28,11 +27,11 @@ module _ (t : List ℕ) (n k w : ℕ) (r : Result ℕ ℕ) (h : r ≡ place_of t
     done = λ f. absurd (let z : ◌≡◌ {A = ℕ} 0 1 = cc in omega arith);
   }
 
-  pub insert-no-room : (at : ℕ) → r ≡ Err at → length t / 4 ≤ n → Inserted t n k w (Err NoRoom) t
+  pub insert-no-room : (at : ℕ) → r ≡ Err at → length t ≤ n → Inserted t n k w (Err NoRoom) t
   unfolding insertion_of has_room
   insert-no-room at e f = record {
     size = refl;
-    answer = rw (← h, e, le-ltb n (length t / 4) f) refl;
+    answer = rw (← h, e, le-ltb n (length t) f) refl;
     present = λ _. refl;
     no_room = λ _. refl;
     done = λ g. absurd (let z : ◌≡◌ {A = ℕ} 0 1 = cc in omega arith);
@@ -42,22 +41,22 @@ module _ (t : List ℕ) (n k w : ℕ) (r : Result ℕ ℕ) (h : r ≡ place_of t
   pub free-within : (at : ℕ) → r ≡ Err at → at ≤ n
   free-within at e = rw (← (free-rank t n k at (sym e ∙ h))) at (rank_between t n k).within
 
-pub insert-done : (t u : List ℕ) (n : ℕ) (k : Key) (w : ℕ) (r : Result ℕ ℕ) (at : ℕ) → r ≡ place_of t n (key_number k) → r ≡ Err at → n < length t / 4
-    → Moved t (at * 4) (n * 4) u → Inserted t n (key_number k) w (Ok tt) (row_set u at k w)
+pub insert-done : (t u : Table) (n : ℕ) (k : Key) (w : ℕ) (r : Result ℕ ℕ) (at : ℕ) → r ≡ place_of t n (key_number k) → r ≡ Err at → n < length t
+    → Moved t at n u → Inserted t n (key_number k) w (Ok tt) (row_set u at k w)
 unfolding insertion_of has_room
 insert-done t u n k w r at h e f m = record {
   size = row-size u at k w ∙ m.size;
-  answer = rw (← h, e, lt-ltb n (length t / 4) f) refl;
+  answer = rw (← h, e, lt-ltb n (length t) f) refl;
   present = λ d. absurd (let z : ◌≡◌ {A = ℕ} 0 1 = cc in omega arith);
   no_room = λ d. absurd (let z : ◌≡◌ {A = ℕ} 0 1 = cc in omega arith);
   done = λ d.
       subst (λ p. Grown t n p (key_number k) w (row_set u at k w)) (free-rank t n (key_number k) at (sym e ∙ h))
-      (grown-insert t u n at k w m (free-within t n (key_number k) w r h at e) (room_within t n f));
+      (grown-insert t u n at k w m (free-within t n (key_number k) w r h at e) f);
 }
 
 -- ---- in a sorted table
 
-module _ (t : List ℕ) (n k w : ℕ) (r : Result (Unit {0}) InsertError) (t' : List ℕ) (f : Inserted t n k w r t') (s : Sorted t n) where
+module _ (t : Table) (n k w : ℕ) (r : Result (Unit {0}) InsertError) (t' : Table) (f : Inserted t n k w r t') (s : Sorted t n) where
   -- a word is present exactly where the search from the front finds one
   pub inserted-says : Says r (lookup t n k) (has_room t n)
   unfolding insertion_of

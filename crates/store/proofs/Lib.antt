@@ -1,3 +1,4 @@
+pub mod Fews
 pub mod Elements
 pub mod Keys
 pub mod Words

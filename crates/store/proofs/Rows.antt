@@ -1,96 +1,54 @@
--- Laws of writing: a row written, words moved up, and a table that has grown by a row at its place, which stays sorted and in
+-- Laws of writing: a row written, rows moved up, and a table that has grown by a row at its place, which stays sorted and in
 -- which every other key is found as before.
 use Rattle.std.specs.Prelude.{Some}
 use mathlib.Core.Path.{◌≡◌, refl, sym, ◌∙◌, ap}
 use mathlib.Core.Bool.{Bool, true, false, cond}
-use mathlib.Core.List.{List}
 use mathlib.Core.Logic.{⊎_elim}
-use Prim.Native.Nat.{ℕ, ◌+◌, ◌-◌, ◌*◌, ◌/◌, ◌<◌, ◌≤◌}
+use Prim.Native.Nat.{ℕ, ◌+◌, ◌-◌, ◌<◌, ◌≤◌}
 use native.Mathlib.Omega.{arith}
 use native.Mathlib.Nat.{eq-or-lt_of_le}
 use borrow.Author.Tests.{lt-ltb, le-ltb, ltb-true, eqb-true, eqb-false}
 use lib.Dec.{eqb, ltb}
-use lib.ListN.{length, get_or, set, length-set}
+use lib.ListN.{length, length-set}
 use lib.Seq.{get_or-set_same, get_or-set_other}
 use Rattle.store.specs.declared.Key.{Key}
 use Rattle.store.specs.Key.{key_number}
-use Rattle.store.specs.Table.{part_at, key_at, word_at, has_room, Sorted, row_of, lookup, row_set, appended, Moved, Grown, entered}
+use Rattle.store.specs.Table.{Table, no_row, nth_row, key_at, word_at, has_room, Sorted, row_of, lookup, row_set, appended, Moved, Grown, entered}
 use Rattle.store.proofs.Keys.{as-less, three}
 use Rattle.store.proofs.Halving.{row-or-none, row_at, row-none, lookup-at, lookup-none}
 
 -- ---- a row written
 
-module _ (t : List ℕ) (i : ℕ) (k : Key) (w : ℕ) where
-  -- after the first word, the second, the third
-  abbrev one : List ℕ
-  one = set t (i * 4) k.high
-
-  abbrev two : List ℕ
-  two = set one (i * 4 + 1) k.middle
-
-  abbrev third : List ℕ
-  third = set two (i * 4 + 2) k.low
-
+module _ (t : Table) (i : ℕ) (k : Key) (w : ℕ) where
   pub row-size : length (row_set t i k w) ≡ length t
   unfolding row_set
-  row-size = simp length-set
+  row-size = length-set t i _
 
-  row_other : (p f : ℕ) → (p ≡ i → ⊥) → f < 4 → part_at (row_set t i k w) p f ≡ part_at t p f
-  unfolding row_set part_at
-  row_other p f d h =
-      get_or-set_other third (i * 4 + 3) (p * 4 + f) w 0 (λ e. d (omega arith))
-      ∙ get_or-set_other two (i * 4 + 2) (p * 4 + f) k.low 0 (λ e. d (omega arith))
-      ∙ get_or-set_other one (i * 4 + 1) (p * 4 + f) k.middle 0 (λ e. d (omega arith))
-      ∙ get_or-set_other t (i * 4) (p * 4 + f) k.high 0 (λ e. d (omega arith))
+  pub row_other : (p : ℕ) → (p ≡ i → ⊥) → nth_row (row_set t i k w) p ≡ nth_row t p
+  unfolding row_set nth_row
+  row_other p d = get_or-set_other t i p _ no_row (λ e. d (omega arith))
 
-  row-behind : (j : ℕ) → i * 4 + 4 ≤ j → get_or (row_set t i k w) j 0 ≡ get_or t j 0
-  unfolding row_set
-  row-behind j h =
-      get_or-set_other third (i * 4 + 3) j w 0 (λ e. omega arith)
-      ∙ get_or-set_other two (i * 4 + 2) j k.low 0 (λ e. omega arith)
-      ∙ get_or-set_other one (i * 4 + 1) j k.middle 0 (λ e. omega arith)
-      ∙ get_or-set_other t (i * 4) j k.high 0 (λ e. omega arith)
+  row_here : i < length t → nth_row (row_set t i k w) i ≡ record { key = k; word = w }
+  unfolding row_set nth_row
+  row_here g = get_or-set_same t i _ no_row g
 
-  module _ (g : i * 4 + 3 < length t) where
-    row-high : part_at (row_set t i k w) i 0 ≡ k.high
-    unfolding row_set part_at
-    row-high =
-        let z : i * 4 + 0 ≡ i * 4 = omega arith in
-        rw z
-        (get_or-set_other third (i * 4 + 3) (i * 4) w 0 (λ e. omega arith)
-        ∙ get_or-set_other two (i * 4 + 2) (i * 4) k.low 0 (λ e. omega arith)
-        ∙ get_or-set_other one (i * 4 + 1) (i * 4) k.middle 0 (λ e. omega arith)
-        ∙ get_or-set_same t (i * 4) k.high 0 (omega arith))
-
-    row-middle : part_at (row_set t i k w) i 1 ≡ k.middle
-    unfolding row_set part_at
-    row-middle =
-        get_or-set_other third (i * 4 + 3) (i * 4 + 1) w 0 (λ e. omega arith)
-        ∙ get_or-set_other two (i * 4 + 2) (i * 4 + 1) k.low 0 (λ e. omega arith)
-        ∙ get_or-set_same one (i * 4 + 1) k.middle 0 (simp length-set (omega arith))
-
-    row_low : part_at (row_set t i k w) i 2 ≡ k.low
-    unfolding row_set part_at
-    row_low =
-        get_or-set_other third (i * 4 + 3) (i * 4 + 2) w 0 (λ e. omega arith)
-        ∙ get_or-set_same two (i * 4 + 2) k.low 0 (simp length-set (omega arith))
-
+  module _ (g : i < length t) where
     row-key : key_at (row_set t i k w) i ≡ key_number k
-    unfolding key_at key_number
-    row-key = rw (row-high, row-middle, row_low)
+    unfolding key_at
+    row-key = rw (row_here g) refl
 
     row_word_lem : word_at (row_set t i k w) i ≡ w
-    unfolding word_at row_set part_at
-    row_word_lem = get_or-set_same third (i * 4 + 3) w 0 (simp length-set (omega arith))
+    unfolding word_at
+    row_word_lem = rw (word_at, row_here g) refl
 
   -- where row i lies in the table, and where not
-  pub append-room : i < length t / 4 → row_set t i k w ≡ appended t i k w
+  pub append-room : i < length t → row_set t i k w ≡ appended t i k w
   unfolding appended has_room
-  append-room h = rw (lt-ltb i (length t / 4) h)
+  append-room h = rw (lt-ltb i (length t) h)
 
-  pub append-none : length t / 4 ≤ i → t ≡ appended t i k w
+  pub append-none : length t ≤ i → t ≡ appended t i k w
   unfolding appended has_room
-  append-none h = rw (le-ltb i (length t / 4) h)
+  append-none h = rw (le-ltb i (length t) h)
 
   pub append-size : length (appended t i k w) ≡ length t
   unfolding appended
@@ -102,50 +60,46 @@ module _ (t : List ℕ) (i : ℕ) (k : Key) (w : ℕ) where
 
 -- ---- a table that has grown
 
-pub room_within : (t : List ℕ) (n : ℕ) → n < length t / 4 → n * 4 + 4 ≤ length t
-room_within t n h = omega arith
-
-pub grown-append : (t : List ℕ) (n : ℕ) (k : Key) (w : ℕ) → has_room t n ≡ true → Grown t n n (key_number k) w (appended t n k w)
+pub grown-append : (t : Table) (n : ℕ) (k : Key) (w : ℕ) → has_room t n ≡ true → Grown t n n (key_number k) w (appended t n k w)
 unfolding appended has_room
 grown-append t n k w e =
-    let h = room_within t n (ltb-true n (length t / 4) e) in
+    let h = ltb-true n (length t) e in
     rw e record {
       within = omega arith;
-      before = λ p f a b. row_other t n k w p f (λ r. omega arith) b;
-      key = row-key t n k w (omega arith);
-      word = row_word_lem t n k w (omega arith);
-      after = λ p f a b c. absurd (omega arith);
-      behind = λ j f. row-behind t n k w j f;
+      before = λ p a. row_other t n k w p (λ r. omega arith);
+      key = row-key t n k w h;
+      word = row_word_lem t n k w h;
+      after = λ p a b. absurd (omega arith);
+      behind = λ j f. row_other t n k w j (λ r. omega arith);
     }
 
-pub grown-insert : (t u : List ℕ) (n at : ℕ) (k : Key) (w : ℕ) → Moved t (at * 4) (n * 4) u → at ≤ n → n * 4 + 4 ≤ length t
+pub grown-insert : (t u : Table) (n at : ℕ) (k : Key) (w : ℕ) → Moved t at n u → at ≤ n → n < length t
     → Grown t n at (key_number k) w (row_set u at k w)
-unfolding part_at
 grown-insert t u n at k w m a g = record {
   within = a;
-  before = λ p f b c. row_other u at k w p f (λ r. omega arith) c ∙ m.before (p * 4 + f) (omega arith);
+  before = λ p b. row_other u at k w p (λ r. omega arith) ∙ m.before p (omega arith);
   key = row-key u at k w (omega (arith, m.size));
   word = row_word_lem u at k w (omega (arith, m.size));
-  behind = λ j f. row-behind u at k w j (omega arith) ∙ m.behind j f;
-  after = λ p f b c d. row_other u at k w (p + 1) f (λ r. omega arith) d ∙ ap (λ (j : ℕ). get_or u j 0) (omega arith) ∙ m.moved (p * 4 + f) (omega arith) (omega arith);
+  after = λ p b c. row_other u at k w (p + 1) (λ r. omega arith) ∙ m.moved p b c;
+  behind = λ j f. row_other u at k w j (λ r. omega arith) ∙ m.behind j f;
 }
 
-module _ (t : List ℕ) (n at k w : ℕ) (t' : List ℕ) (g : Grown t n at k w t') where
+module _ (t : Table) (n at k w : ℕ) (t' : Table) (g : Grown t n at k w t') where
   pub key-before : (p : ℕ) → p < at → key_at t' p ≡ key_at t p
   unfolding key_at
-  key-before p h = rw (g.before p 0 h (omega arith), g.before p 1 h (omega arith), g.before p 2 h (omega arith))
+  key-before p h = rw (g.before p h)
 
   word-before : (p : ℕ) → p < at → word_at t' p ≡ word_at t p
   unfolding word_at
-  word-before p h = g.before p 3 h (omega arith)
+  word-before p h = rw (word_at, g.before p h)
 
   key-after : (p : ℕ) → at ≤ p → p < n → key_at t' (p + 1) ≡ key_at t p
   unfolding key_at
-  key-after p h f = rw (g.after p 0 h f (omega arith), g.after p 1 h f (omega arith), g.after p 2 h f (omega arith))
+  key-after p h f = rw (g.after p h f)
 
   word_after : (p : ℕ) → at ≤ p → p < n → word_at t' (p + 1) ≡ word_at t p
   unfolding word_at
-  word_after p h f = g.after p 3 h f (omega arith)
+  word_after p h f = rw (word_at, g.after p h f)
 
   -- row p behind `at`, from the row that moved there
   key-later : (p : ℕ) → at < p → p ≤ n → key_at t' p ≡ key_at t (p - 1)
@@ -193,7 +147,7 @@ module _ (t : List ℕ) (n at k w : ℕ) (t' : List ℕ) (g : Grown t n at k w t
 
 -- ---- a row behind the others
 
-module _ (t : List ℕ) (n k w : ℕ) (t' : List ℕ) (g : Grown t n n k w t') (s : Sorted t n) (b : (p : ℕ) → p < n → key_at t p < k) where
+module _ (t : Table) (n k w : ℕ) (t' : Table) (g : Grown t n n k w t') (s : Sorted t n) (b : (p : ℕ) → p < n → key_at t p < k) where
   pub last-sorted : Sorted t' (n + 1)
   last-sorted = grown-sorted t n n k w t' g s b (λ p h f. absurd (omega arith))
 
@@ -208,14 +162,14 @@ module _ (t : List ℕ) (n k w : ℕ) (t' : List ℕ) (g : Grown t n n k w t') (
           (row-or-none t q n)
 
 -- a key above the last row's is above all
-pub above-last : (t : List ℕ) (n k : ℕ) → Sorted t n → (0 < n → key_at t (n - 1) < k) → (p : ℕ) → p < n → key_at t p < k
+pub above-last : (t : Table) (n k : ℕ) → Sorted t n → (0 < n → key_at t (n - 1) < k) → (p : ℕ) → p < n → key_at t p < k
 above-last t n k s h p f = ⊎_elim
     (λ e. rw e (h (omega arith)))
     (λ y. omega (arith, s.rising p (n - 1) y (omega arith), h (omega arith)))
     (eq-or-lt_of_le {n = p} {m = n - 1} (omega arith))
 
 -- a row appended whose key is above the last
-module _ (t : List ℕ) (n : ℕ) (k : Key) (w : ℕ) (s : Sorted t n) (r : has_room t n ≡ true) (b : 0 < n → key_at t (n - 1) < key_number k) where
+module _ (t : Table) (n : ℕ) (k : Key) (w : ℕ) (s : Sorted t n) (r : has_room t n ≡ true) (b : 0 < n → key_at t (n - 1) < key_number k) where
   pub append-sorted : Sorted (appended t n k w) (n + 1)
   append-sorted = last-sorted t n (key_number k) w (appended t n k w) (grown-append t n k w r) s (above-last t n (key_number k) s b)
 
@@ -224,6 +178,6 @@ module _ (t : List ℕ) (n : ℕ) (k : Key) (w : ℕ) (s : Sorted t n) (r : has_
       grown-lookup t n n (key_number k) w (appended t n k w) (grown-append t n k w r) s (above-last t n (key_number k) s b) (λ p h f. absurd (omega arith))
 
 -- row n of a table of r rows
-pub room-rows : (t : List ℕ) (n r : ℕ) → length t ≡ r * 4 → has_room t n ≡ ltb n r
+pub room-rows : (t : Table) (n r : ℕ) → length t ≡ r → has_room t n ≡ ltb n r
 unfolding has_room
-room-rows t n r e = let f : length t / 4 ≡ r = omega arith in rw f
+room-rows t n r e = rw e

@@ -1,3 +1,4 @@
+pub mod Few
 pub mod Element
 pub mod Key
 pub mod Table

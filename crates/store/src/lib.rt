@@ -1,30 +1,36 @@
-// Tables that are searched by name and element: rows of four words in rising order of their keys, in a slice that the caller
-// lends. Every public function is total: it answers for any slice, any number of rows and any numbers in a struct.
+// Tables that are searched by name and element: rows in rising order of their keys, in a slice that the caller lends. Every public function is total: it answers for any slice, any number of rows and any numbers in a struct.
 // What a table holds is said in specs/Entries.antt, and kept by the laws of proofs/Held.antt.
 #![tactic(auto)]
 
-ghost use Rattle.std.specs.Prelude.{◌≡◌, [], ◌+◌, ◌*◌, ◌<◌, ◌≤◌, ◌^◌, length, get_or, ltb, eqb, pos};
+ghost use Rattle.std.specs.Prelude.{◌≡◌, [], ◌+◌, ◌<◌, ◌≤◌, ◌^◌, length, get_or, ltb, eqb, pos};
 ghost use Rattle.store.specs.Element.{list_of, extended};
 ghost use Rattle.store.specs.Key.{digit_of, digit_at, name_digit, paired, key_number, key_of, with_digit, name_of, element_of};
-ghost use Rattle.store.specs.Table.{key_at, word_at, part_at, rank_of, place_of, found_row, row_set, appended, Moved, Inserted, Finds};
+ghost use Rattle.store.specs.Table.{no_row, nth_row, key_at, word_at, rank_of, place_of, found_row, appended, Moved, Inserted, Finds};
 ghost use Rattle.store.specs.Packed.{packed, unpacked};
 
-// At most four whole numbers: the first `count` of a, b, c, d.
+use few::Few;
+
+pub mod few;
+
+// At most four whole numbers.
 #[derive(Clone, Copy)]
 pub struct Element {
-    pub count: usize,
-    pub a: i64,
-    pub b: i64,
-    pub c: i64,
-    pub d: i64,
+    pub numbers: Few<i64>,
 }
 
-// The key of a name and an element.
-#[derive(Clone, Copy)]
+// The key of a name and an element; keys are ordered word by word.
+#[derive(Clone, Copy, PartialEq, Eq, PartialOrd, Ord)]
 pub struct Key {
     pub high: u64,
     pub middle: u64,
     pub low: u64,
+}
+
+// A row of a table: a key, and the word that belongs to it.
+#[derive(Clone, Copy)]
+pub struct Row {
+    pub key: Key,
+    pub word: u64,
 }
 
 // Why a row is not inserted.
@@ -41,55 +47,22 @@ impl Element {
         ensures { list_of result ≡ [] }
     {
         Element {
-            count: 0,
-            a: 0,
-            b: 0,
-            c: 0,
-            d: 0,
+            numbers: Few::none(0),
         }
     }
 
     pub fn length(self) -> usize
         ensures { result ≡ length (list_of self) }
     {
-        self.count.min(rules::INDEX_LIMIT)
+        self.numbers.length()
     }
 
     // One number more; the same where there are four.
     pub fn with(self, k: i64) -> Self
         ensures { list_of result ≡ extended (list_of self) k }
     {
-        let n = self.count;
-        match n {
-            0 => Element {
-                count: 1,
-                a: k,
-                b: 0,
-                c: 0,
-                d: 0,
-            },
-            1 => Element {
-                count: 2,
-                a: self.a,
-                b: k,
-                c: 0,
-                d: 0,
-            },
-            2 => Element {
-                count: 3,
-                a: self.a,
-                b: self.b,
-                c: k,
-                d: 0,
-            },
-            3 => Element {
-                count: 4,
-                a: self.a,
-                b: self.b,
-                c: self.c,
-                d: k,
-            },
-            _ => self,
+        Element {
+            numbers: self.numbers.with(k),
         }
     }
 
@@ -97,17 +70,7 @@ impl Element {
     pub fn at(self, i: usize) -> i64
         ensures { result ≡ get_or (list_of self) i (pos 0) }
     {
-        let n = self.count;
-        if n <= i {
-            return 0;
-        }
-        match i {
-            0 => self.a,
-            1 => self.b,
-            2 => self.c,
-            3 => self.d,
-            _ => 0,
-        }
+        self.numbers.at(i, 0)
     }
 }
 
@@ -164,61 +127,53 @@ pub fn key_of(name: usize, e: Element) -> Key
 
 // ---- tables
 
-// Word f of row i, 0 where there is none.
-fn part(table: &[u64], i: usize, f: usize) -> u64
-    requires { f < 4 }
-    ensures { result ≡ part_at table.now i f }
+impl Row {
+    pub fn none() -> Self
+        ensures { result ≡ no_row }
+    {
+        let key = Key {
+            high: 0,
+            middle: 0,
+            low: 0,
+        };
+        Row { key, word: 0 }
+    }
+}
+
+// Row i, an empty one where there is none.
+fn row_at(table: &[Row], i: usize) -> Row
+    ensures { result ≡ nth_row table.now i }
 {
     if i < table.len() {
-        let k = i * 4 + f;
-        if k < table.len() {
-            return table[k];
-        }
+        return table[i];
     }
-    0
+    Row::none()
 }
 
 // The word that belongs to the key of row i, 0 where there is no such row.
-pub fn word_at(table: &[u64], i: usize) -> u64
+pub fn word_at(table: &[Row], i: usize) -> u64
     ensures { result ≡ word_at table.now i }
 {
-    part(table, i, 3)
+    row_at(table, i).word
 }
 
-// Is the key of row i below this one? Word by word: the first word that differs decides, and the others are not read.
-fn is_below(table: &[u64], i: usize, key: Key) -> bool
+// Is the key of row i below this one?
+fn is_below(table: &[Row], i: usize, key: Key) -> bool
     ensures { result ≡ ltb (key_at table.now i) (key_number key) }
 {
-    let high = part(table, i, 0);
-    if high != key.high {
-        return high < key.high;
-    }
-    let middle = part(table, i, 1);
-    if middle != key.middle {
-        return middle < key.middle;
-    }
-    let low = part(table, i, 2);
-    low < key.low
+    row_at(table, i).key < key
 }
 
 // Is the key of row i this one?
-fn is_at(table: &[u64], i: usize, key: Key) -> bool
+fn is_at(table: &[Row], i: usize, key: Key) -> bool
     ensures { result ≡ eqb (key_at table.now i) (key_number key) }
 {
-    let high = part(table, i, 0);
-    if high != key.high {
-        return false;
-    }
-    let middle = part(table, i, 1);
-    if middle != key.middle {
-        return false;
-    }
-    let low = part(table, i, 2);
-    low == key.low
+    row_at(table, i).key == key
 }
 
-// How many of the first n rows are below the key, by halving; in a table that isn't sorted, where halving ends.
-fn rank(table: &[u64], n: usize, key: Key) -> usize
+// How many of the first n rows are below the key, by halving; in a table that isn't sorted, where halving ends, of which the
+// library's `binary_search` says nothing: so halving is written here.
+fn rank(table: &[Row], n: usize, key: Key) -> usize
     ensures { result ≡ rank_of table.now n (key_number key) }
 {
     let mut from = 0;
@@ -235,7 +190,7 @@ fn rank(table: &[u64], n: usize, key: Key) -> usize
 }
 
 // The row that has the key, or the row that it would have.
-fn locate(table: &[u64], n: usize, key: Key) -> Result<usize, usize>
+fn locate(table: &[Row], n: usize, key: Key) -> Result<usize, usize>
     ensures { result ≡ place_of table.now n (key_number key) }
 {
     let at = rank(table, n, key);
@@ -249,7 +204,7 @@ fn locate(table: &[u64], n: usize, key: Key) -> Result<usize, usize>
 }
 
 // The row among the first n that has the key.
-pub fn find(table: &[u64], n: usize, key: Key) -> Option<usize>
+pub fn find(table: &[Row], n: usize, key: Key) -> Option<usize>
     ensures { result ≡ found_row table.now n (key_number key) }
 {
     locate(table, n, key).ok()
@@ -259,7 +214,7 @@ pub fn find(table: &[u64], n: usize, key: Key) -> Option<usize>
 const EARLY: usize = 8;
 
 // The same in a sorted table, for a key that is likely to have one of the first rows: these are tried one by one.
-pub fn find_early(table: &[u64], n: usize, key: Key) -> Option<usize>
+pub fn find_early(table: &[Row], n: usize, key: Key) -> Option<usize>
     ensures { Finds table.now n (key_number key) result }
 {
     for i in 0..n.min(EARLY) {
@@ -270,65 +225,46 @@ pub fn find_early(table: &[u64], n: usize, key: Key) -> Option<usize>
     find(table, n, key)
 }
 
-fn set_row(table: &mut [u64], i: usize, key: Key, word: u64)
-    requires { i * 4 + 3 < length table.old }
-    ensures { table.new ≡ row_set table.old i key word }
-{
-    table[i * 4] = key.high;
-    table[i * 4 + 1] = key.middle;
-    table[i * 4 + 2] = key.low;
-    table[i * 4 + 3] = word;
-}
-
 // Writes row n, or nothing where it doesn't lie in the table.
-pub fn append(table: &mut [u64], n: usize, key: Key, word: u64)
+pub fn append(table: &mut [Row], n: usize, key: Key, word: u64)
     ensures { table.new ≡ appended table.old n key word }
 {
-    if n < table.len() / 4 {
-        set_row(table, n, key, word);
+    if n < table.len() {
+        table[n] = Row { key, word };
     }
 }
 
-// Moves the words from `from` on and below `to` up by four.
-fn move_up(table: &mut [u64], from: usize, to: usize)
-    requires { (from ≤ to) × (to + 4 ≤ length table.old) }
+// Moves the rows from `from` on and below `to` up by one.
+fn move_up(table: &mut [Row], from: usize, to: usize)
+    requires { (from ≤ to) × (to + 1 ≤ length table.old) }
     ensures { Moved table.old from to table.new }
 {
-    table.copy_within(from..to, from + 4);
+    table.copy_within(from..to, from + 1);
 }
 
 // A row more where its key belongs, the rows above it moved up. Nothing changes where the key has a row already, or where row n
 // doesn't lie in the table.
-pub fn insert(table: &mut [u64], n: usize, key: Key, word: u64) -> Result<(), InsertError>
+pub fn insert(table: &mut [Row], n: usize, key: Key, word: u64) -> Result<(), InsertError>
     ensures { Inserted table.old n (key_number key) word result table.new }
 {
     let Err(at) = locate(table, n, key) else {
         return Err(InsertError::Present);
     };
-    if table.len() / 4 <= n {
+    if table.len() <= n {
         return Err(InsertError::NoRoom);
     }
-    move_up(table, at * 4, n * 4);
-    set_row(table, at, key, word);
+    move_up(table, at, n);
+    table[at] = Row { key, word };
     Ok(())
 }
 
 // ---- keys read back
 
-fn key_at(table: &[u64], i: usize) -> Key
-    ensures { key_number result ≡ key_at table.now i }
-{
-    let high = part(table, i, 0);
-    let middle = part(table, i, 1);
-    let low = part(table, i, 2);
-    Key { high, middle, low }
-}
-
 // The number of the name whose key row i has.
-pub fn name_at(table: &[u64], i: usize) -> usize
+pub fn name_at(table: &[Row], i: usize) -> usize
     ensures { result ≡ name_of (key_at table.now i) }
 {
-    let key = key_at(table, i);
+    let key = row_at(table, i).key;
     (key.high / 2147483648) as usize
 }
 
@@ -344,10 +280,10 @@ fn with_digit(e: Element, d: u64) -> Element
 }
 
 // The element whose key row i has.
-pub fn element_at(table: &[u64], i: usize) -> Element
+pub fn element_at(table: &[Row], i: usize) -> Element
     ensures { list_of result ≡ element_of (key_at table.now i) }
 {
-    let key = key_at(table, i);
+    let key = row_at(table, i).key;
     let first = with_digit(Element::none(), key.high % 2147483648);
     let second = with_digit(first, key.middle / 2147483648 % 2147483648);
     let third = with_digit(second, key.middle % 2147483648);

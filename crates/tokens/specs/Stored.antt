@@ -10,6 +10,8 @@ use Rattle.language.specs.Outcome.{Outcome, done, refused}
 use Rattle.language.specs.Syntax.{Name, Sort, Spans, point, span}
 use Rattle.language.specs.Syntax
 use Rattle.language.specs.Reader.{Reader, Read, Used, look, next, read_known}
+use Rattle.tokens.specs.declared.Sort.{Sort as CodeSort}
+use Rattle.tokens.specs.declared.Sort.TheVariants.{Index, Integer, Real, Formula, Discrete, Continuous}
 use Rattle.tokens.specs.declared.Seen.{Seen}
 use Rattle.tokens.specs.declared.Found.{Found}
 use Rattle.tokens.specs.declared.Known.{Known}
@@ -114,6 +116,15 @@ look_up s l (p ∷ n ∷ k ∷ c ∷ q ∷ ns) i = elim (same_bytes l (spelling 
 unfoldable pub size : Spans → ℕ
 size point = 0
 size (span i f g p d) = suc (size d)
+
+-- the numbers of the code's sorts
+abbrev pub sort_number : CodeSort → ℕ
+sort_number Index = 0
+sort_number Integer = 1
+sort_number Real = 2
+sort_number Formula = 3
+sort_number Discrete = 4
+sort_number Continuous = 5
 
 -- 0 an index, 1 an integer, 2 a real, 3 a formula, 4 a discrete, 5 a continuous variable
 abbrev pub Shaped : Sort → ℕ → ℕ → Type 0

@@ -3,20 +3,50 @@
 // and the position at which its declared formula or its domain's first entry stands.
 #![tactic(auto)]
 
-pub mod kinds;
 pub mod scanner;
-pub mod sorts;
 
 ghost use Rattle.std.specs.Prelude.{◌≡◌, [], ◌∷◌, ◌+◌, get_or};
 ghost use Rattle.lexer.specs.Text.{same_bytes};
-ghost use Rattle.tokens.specs.Stored.{spelling, refusal_of, mark_number, Looks, look_up, KnownAt, Put, Moves};
+ghost use Rattle.lexer.specs.Numbers.{number};
+ghost use Rattle.tokens.specs.Stored.{spelling, refusal_of, sort_number, Looks, look_up, KnownAt, Put, Moves};
 ghost use Rattle.tokens.specs.Pieces.{expect_in, bracket_in, index_in, head_in, sign_in};
 ghost use Rattle.tokens.specs.Text.{In};
 
-use lexer::marks;
+use lexer::Mark;
 use rules::{Refused, refused};
 
-// A token's kind, place, payload and the position after it; or its refusal.
+// The kinds of stored tokens by their numbers; a sign or word has its own number, which is above these.
+#[derive(Clone, Copy, PartialEq, Eq, Debug)]
+pub enum Kind {
+    End = 0,
+    Name = 1, // payload: the number of its bytes, in the lowest four bits
+    Whole = 2, // a literal without a point; payload: 8 m + s
+    Pointed = 3, // a literal with a point; payload: 8 m + s
+    String = 4, // payload: the number of bytes between the braces
+    Wrong = 5, // payload: the refusal's number
+}
+
+// The sorts of declared names by their numbers.
+#[derive(Clone, Copy, PartialEq, Eq, Debug)]
+pub enum Sort {
+    Index = 0,
+    Integer = 1,
+    Real = 2,
+    Formula = 3,
+    Discrete = 4,
+    Continuous = 5,
+}
+
+impl Sort {
+    // The cast, with a clause that gives it for every sort at once.
+    pub fn number(self) -> u64
+        ensures { result ≡ sort_number self }
+    {
+        self as u64
+    }
+}
+
+// A token's kind, place, payload and the position after it. The kind is the number of a `Kind` or a `Mark`.
 #[derive(Clone, Copy)]
 pub struct Seen {
     pub kind: u64,
@@ -61,7 +91,7 @@ pub const PLACES: u64 = 32768;
 // A name's payload modulo NAME_UNIT is the number of its bytes.
 pub const NAME_UNIT: u64 = 16;
 
-// A token's own refusal, by its number.
+// A token's own refusal, by its number; any other number is 3. A token is never refused with 7 to 11, so it is no `TryFrom`.
 fn refusal(x: u64) -> rules::Refusal
     ensures { result ≡ refusal_of x }
 {
@@ -75,13 +105,6 @@ fn refusal(x: u64) -> rules::Refusal
     }
 }
 
-// The number of a sign or word, 0 for other kinds.
-fn mark(k: u64) -> u64
-    ensures { result ≡ mark_number k }
-{
-    if k <= kinds::WRONG { 0 } else { k }
-}
-
 // The token at `at`, after its own tests.
 pub fn token_at(tokens: &[u64], at: usize) -> Result<Seen, Refused>
     ensures { Looks tokens.now at result }
@@ -93,7 +116,7 @@ pub fn token_at(tokens: &[u64], at: usize) -> Result<Seen, Refused>
     let kind = w / KIND_UNIT;
     let place = w / PLACE_UNIT % PLACES;
     let payload = w % PLACE_UNIT;
-    if kind == kinds::WRONG {
+    if kind == Kind::Wrong as u64 {
         return Err(Refused {
             refusal: refusal(payload),
             place,
@@ -122,21 +145,19 @@ fn byte_at(text: &[u8], p: u64, i: u64) -> u8
     text[at]
 }
 
-// Whether two names have the same bytes.
+// Whether two names have the same bytes. Past the text's end a name has zeros, so it is no slice of the text.
 fn same_name(text: &[u8], p: u64, n: u64, q: u64, m: u64) -> bool
     ensures { result ≡ same_bytes (spelling text.now p n) (spelling text.now q m) }
 {
     if n != m {
         return false;
     }
-    let mut i: u64 = 0;
-    while i < n {
+    for i in 0..n {
         let a = byte_at(text, p, i);
         let b = byte_at(text, q, i);
         if a != b {
             return false;
         }
-        i += 1;
     }
     true
 }
@@ -145,9 +166,8 @@ fn same_name(text: &[u8], p: u64, n: u64, q: u64, m: u64) -> bool
 pub fn find(text: &[u8], names: &[u64], p: u64, n: u64) -> Option<Found>
     ensures { result ≡ look_up text.now (spelling text.now p n) names.now 0 }
 {
-    let mut i = 0;
-    let mut number = 0;
-    while 5 <= names.len() - i {
+    for number in 0..names.len() / 5 {
+        let i = number * 5;
         let same = same_name(text, p, n, names[i], names[i + 1]);
         if same {
             return Some(Found {
@@ -156,8 +176,6 @@ pub fn find(text: &[u8], names: &[u64], p: u64, n: u64) -> Option<Found>
                 count: names[i + 3],
             });
         }
-        i += 5;
-        number += 1;
     }
     None
 }
@@ -177,23 +195,23 @@ pub fn put_row(rows: &mut [u64], number: usize, a: u64, b: u64, c: u64, d: u64, 
     rows[at + 4] = e;
 }
 
-// The sign or word with the number `c`.
-pub fn expect(text: Text<'_>, at: usize, c: u8) -> Result<usize, Refused>
-    ensures { In (Moves (expect_in c)) text.entry at result }
+// The sign or word `mark`.
+pub fn expect(text: Text<'_>, at: usize, mark: Mark) -> Result<usize, Refused>
+    ensures { In (Moves (expect_in (number mark))) text.entry at result }
 {
     let token = token_at(text.tokens, at)?;
-    if mark(token.kind) != c as u64 {
+    if token.kind != mark.number() {
         return refused!(Misplaced, token.place);
     }
     Ok(token.next)
 }
 
-// The opening bracket `c`; with `nest` 0 it is one too many.
-pub fn bracket(text: Text<'_>, at: usize, nest: usize, c: u8) -> Result<usize, Refused>
-    ensures { In (Moves (bracket_in c nest)) text.entry at result }
+// The opening bracket `mark`; with `nest` 0 it is one too many.
+pub fn bracket(text: Text<'_>, at: usize, nest: usize, mark: Mark) -> Result<usize, Refused>
+    ensures { In (Moves (bracket_in (number mark) nest)) text.entry at result }
 {
     let token = token_at(text.tokens, at)?;
-    if mark(token.kind) != c as u64 {
+    if token.kind != mark.number() {
         return refused!(Misplaced, token.place);
     }
     if nest == 0 {
@@ -207,7 +225,7 @@ pub fn known_name(text: Text<'_>, at: usize) -> Result<Known, Refused>
     ensures { In KnownAt text.entry at result }
 {
     let token = token_at(text.tokens, at)?;
-    if token.kind != kinds::NAME {
+    if token.kind != Kind::Name as u64 {
         return refused!(Misplaced, token.place);
     }
     let Some(name) = find(
@@ -232,7 +250,7 @@ pub fn index(text: Text<'_>, at: usize) -> Result<usize, Refused>
     ensures { In (Moves index_in) text.entry at result }
 {
     let name = known_name(text, at)?;
-    if name.sort != sorts::INDEX {
+    if name.sort != Sort::Index as u64 {
         return refused!(Misplaced, name.place);
     }
     Ok(name.next)
@@ -242,9 +260,9 @@ pub fn index(text: Text<'_>, at: usize) -> Result<usize, Refused>
 pub fn head(text: Text<'_>, at: usize, nest: usize) -> Result<usize, Refused>
     ensures { In (Moves (head_in nest)) text.entry at result }
 {
-    let a = bracket(text, at, nest, marks::LEFT_PAREN)?;
+    let a = bracket(text, at, nest, Mark::LeftParen)?;
     let b = index(text, a)?;
-    expect(text, b, marks::COMMA)
+    expect(text, b, Mark::Comma)
 }
 
 // An optional `+` or `-`.
@@ -252,7 +270,7 @@ pub fn sign(text: Text<'_>, at: usize) -> Result<usize, Refused>
     ensures { In (Moves sign_in) text.entry at result }
 {
     let token = token_at(text.tokens, at)?;
-    if (token.kind == marks::PLUS as u64) | (token.kind == marks::MINUS as u64) {
+    if (token.kind == Mark::Plus as u64) | (token.kind == Mark::Minus as u64) {
         return Ok(token.next);
     }
     Ok(at)

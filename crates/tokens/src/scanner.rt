@@ -5,6 +5,7 @@ ghost use Rattle.lexer.specs.View.{kind_of, is_last};
 ghost use Rattle.tokens.specs.Stored.{word_of};
 ghost use Rattle.tokens.specs.Scanner.Table.{kind_number, value_payload, payload_of, Plain, Packs, Scanned};
 
+use super::Kind;
 use lexer::{Source, Token};
 
 // A table of this length has room for the tokens of every text.
@@ -16,13 +17,13 @@ fn kind_of(token: Token) -> u64
     ensures { (result ≡ kind_number token) × (result < 256) }
 {
     match token {
-        Token::Mark(c) => c as u64,
-        Token::Name(_, _) => super::kinds::NAME,
-        Token::Literal(true, _) => super::kinds::WHOLE,
-        Token::Literal(false, _) => super::kinds::POINTED,
-        Token::String(_, _) => super::kinds::STRING,
-        Token::End => super::kinds::END,
-        Token::Wrong(_) => super::kinds::WRONG,
+        Token::Mark(m) => m.number(),
+        Token::Name(_, _) => Kind::Name as u64,
+        Token::Literal(true, _) => Kind::Whole as u64,
+        Token::Literal(false, _) => Kind::Pointed as u64,
+        Token::String(_, _) => Kind::String as u64,
+        Token::End => Kind::End as u64,
+        Token::Wrong(_) => Kind::Wrong as u64,
     }
 }
 
@@ -42,7 +43,7 @@ fn payload_of(token: Token) -> u64
         Token::Mark(_) | Token::End => 0,
         Token::Name(_, n) | Token::String(_, n) => n as u64,
         Token::Literal(_, v) => value_payload(v),
-        Token::Wrong(r) => rules::number(r) as u64,
+        Token::Wrong(r) => u32::from(r) as u64,
     }
 }
 

@@ -1,13 +1,12 @@
 -- Sum, difference, product, sign, order and whole numbers: what the code computes is what the definitions say; the operations
 -- are exact, give values, and refuse only what no value is.
-use Rattle.std.specs.Prelude.{None, Some}
-use Rattle.std.specs.Bool.{then_some}
+use Rattle.std.specs.Prelude.{Option, None, Some, Ok, Err, ok_or}
 use mathlib.Core.Path.{◌≡◌, refl, sym, subst}
 use mathlib.Core.Bool.{Bool, true, false, cond, ◌&&◌}
 use Prim.Native.Nat.{ℕ, zero, suc, ◌+◌, ◌-◌, ◌*◌, ◌%◌, ◌^◌, ◌<◌, ◌≤◌}
 use native.Mathlib.Omega.{arith}
 use native.Mathlib.Nat.{pow-le-pow_right, mul-le-mul}
-use borrow.Author.Tests.{eqb-true}
+use borrow.Author.Tests.{eqb-true, ne_eqb}
 use lib.Dec.{T, eqb, lit<}
 use lib.IntN.{ℤ, pos, negsuc, neg_ℤ, nat_abs, ◌+ℤ◌, ◌-ℤ◌, ◌*ℤ◌, +ℤ_idl}
 use Rattle.rules.specs.Limits.{mantissa_limit, scale_limit}
@@ -130,13 +129,23 @@ zero_is v h e = go v.m v.s h.least (eqb-true _ _ e)
     go (pos (suc n)) s f z = absurd (omega arith)
     go (negsuc n) s f z = absurd (omega arith)
 
-pub whole-tested : (v : Value) → then_some (eqb v.s 0) v.m ≡ whole_of v
+pub whole-yes : (v : Value) → v.s ≡ 0 → Ok v.m ≡ ok_or (whole_of v) v
 unfolding whole_of
-whole-tested v = go (eqb v.s 0)
-  where
-    go : (b : Bool) → then_some b v.m ≡ cond b (Some v.m) None
-    go true = refl
-    go false = refl
+whole-yes v e = rw e refl
+
+pub whole-no : (v : Value) → (v.s ≡ 0 → ⊥) → Err v ≡ ok_or (whole_of v) v
+unfolding whole_of
+whole-no v f = rw (ne_eqb v.s 0 f) refl
+
+-- what `i64::try_from` says of a value
+
+pub try-yes : (o : Option ℤ) (v : Value) (k : ℤ) → ok_or o v ≡ Ok k → o ≡ Some k
+try-yes (Some x) v k e = let d : x ≡ k = cc in rw d refl
+try-yes None v k e = absurd (let w : ◌≡◌ {A = ℕ} 0 1 = cc in omega arith)
+
+pub try-no : (o : Option ℤ) (v w : Value) → ok_or o v ≡ Err w → o ≡ None
+try-no None v w e = refl
+try-no (Some x) v w e = absurd (let w : ◌≡◌ {A = ℕ} 0 1 = cc in omega arith)
 
 pub of_whole-valid : (k : ℤ) → nat_abs k ≤ mantissa_limit → Valid (of_whole k)
 unfolding of_whole scale_limit

@@ -99,6 +99,9 @@ module _ (x s y i : ℕ) (w : Fewer x s y i) (h : 18 < i) where
   pub fewer-none : (y % 10 ≡ 0 → ⊥) → None ≡ fit_of (tenths (pos x) s)
   fewer-none f = fit_of-deep y i (omega arith) f ∙ w.same
 
+pub fewer-all : (x s y i j : ℕ) (r : Option Value) → Fewer x s y i → j ≡ i → r ≡ fit_of (tenths (pos y) j) → r ≡ fit_of (tenths (pos x) s)
+fewer-all x s y i j r w e f = rw e at f ∙ w.same
+
 -- ---- the outcomes of `lifted`
 
 module _ (x k : ℕ) where

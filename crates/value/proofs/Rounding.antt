@@ -1,7 +1,7 @@
 -- Rounding: what the code computes is what the definitions say; they are the floor and the ceiling of the exact number, and no
 -- larger than its numerator.
 use mathlib.Core.Path.{◌≡◌, refl, sym, ◌∙◌, ap}
-use mathlib.Core.Bool.{Bool, true, false, cond}
+use mathlib.Core.Bool.{true, false, cond}
 use Prim.Native.Nat.{ℕ, zero, suc, ◌+◌, ◌-◌, ◌/◌, ◌^◌, ◌<◌, ◌≤◌}
 use native.Mathlib.Omega.{arith}
 use native.Mathlib.Nat.{div-le_self, div-le_of_le-mul, div-eq_of_lt, div-one, zero-div, pow-le-pow_right}
@@ -56,11 +56,13 @@ nat_abs_le (pos n) = omega arith
 nat_abs_le (negsuc n) = omega arith
 
 -- without decimal places there is nothing to round
-pub rounded-whole : (z : ℤ) (s : ℕ) (away : Bool) → s ≡ 0 → (away ≡ true → 0 < nat_abs z) → z ≡ with_sign z (cond away ((nat_abs z - 1) / 10 ^ s + 1) (nat_abs z / 10 ^ s))
-rounded-whole z s true e h =
-    let p : nat_abs z - 1 + 1 ≡ nat_abs z = omega (arith, h refl) in
+pub toward-whole : (z : ℤ) (s : ℕ) → s ≡ 0 → z ≡ with_sign z (nat_abs z / 10 ^ s)
+toward-whole z s e = rw (e, div-one (nat_abs z)) (sym (with_sign-own z))
+
+pub away-whole : (z : ℤ) (s : ℕ) → s ≡ 0 → 0 < nat_abs z → z ≡ with_sign z ((nat_abs z - 1) / 10 ^ s + 1)
+away-whole z s e h =
+    let p : nat_abs z - 1 + 1 ≡ nat_abs z = omega arith in
     rw (e, div-one (nat_abs z - 1), p) (sym (with_sign-own z))
-rounded-whole z s false e h = rw (e, div-one (nat_abs z)) (sym (with_sign-own z))
 
 less_one : (n d : ℕ) → (suc n - 1) / d + 1 ≡ suc (n / d)
 less_one n d = let p : suc n - 1 ≡ n = omega arith in rw p (omega arith)
@@ -77,10 +79,23 @@ ceiling-sign (pos zero) d = rw (zero-div d)
 ceiling-sign (pos (suc n)) d = rw (lt-ltb 0 (suc n) (omega arith), less_one n d)
 ceiling-sign (negsuc n) d = refl
 
-pub floor-is : (v : Value) → with_sign v.m (cond (lt_z v.m (pos 0)) ((nat_abs v.m - 1) / 10 ^ v.s + 1) (nat_abs v.m / 10 ^ v.s)) ≡ floor_of v
-unfolding floor_of
-floor-is v = floor-sign v.m (10 ^ v.s)
+module _ (v : Value) where
+  floor-is : with_sign v.m (cond (lt_z v.m (pos 0)) ((nat_abs v.m - 1) / 10 ^ v.s + 1) (nat_abs v.m / 10 ^ v.s)) ≡ floor_of v
+  unfolding floor_of
+  floor-is = floor-sign v.m (10 ^ v.s)
 
-pub ceiling-is : (v : Value) → with_sign v.m (cond (lt_z (pos 0) v.m) ((nat_abs v.m - 1) / 10 ^ v.s + 1) (nat_abs v.m / 10 ^ v.s)) ≡ ceiling_of v
-unfolding ceiling_of floor_of negate
-ceiling-is v = ceiling-sign v.m (10 ^ v.s)
+  pub floor-away : lt_z v.m (pos 0) ≡ true → with_sign v.m ((nat_abs v.m - 1) / 10 ^ v.s + 1) ≡ floor_of v
+  floor-away e = rw e at floor-is
+
+  pub floor-toward : lt_z v.m (pos 0) ≡ false → with_sign v.m (nat_abs v.m / 10 ^ v.s) ≡ floor_of v
+  floor-toward e = rw e at floor-is
+
+  ceiling-is : with_sign v.m (cond (lt_z (pos 0) v.m) ((nat_abs v.m - 1) / 10 ^ v.s + 1) (nat_abs v.m / 10 ^ v.s)) ≡ ceiling_of v
+  unfolding ceiling_of floor_of negate
+  ceiling-is = ceiling-sign v.m (10 ^ v.s)
+
+  pub ceiling-away : lt_z (pos 0) v.m ≡ true → with_sign v.m ((nat_abs v.m - 1) / 10 ^ v.s + 1) ≡ ceiling_of v
+  ceiling-away e = rw e at ceiling-is
+
+  pub ceiling-toward : lt_z (pos 0) v.m ≡ false → with_sign v.m (nat_abs v.m / 10 ^ v.s) ≡ ceiling_of v
+  ceiling-toward e = rw e at ceiling-is

@@ -2,7 +2,7 @@
 // Every public function is total: it answers for any numbers m and s, also those that are no value.
 #![tactic(auto)]
 
-ghost use Rattle.std.specs.Prelude.{◌≡◌, true, false, cond, ◌&&◌, [], ◌∷◌, ◌+◌, ◌-◌, ◌*◌, ◌/◌, ◌%◌, ◌^◌, ◌<◌, ◌≤◌, length, pos, nat_abs, ◌+ℤ◌, ◌-ℤ◌, ◌*ℤ◌, Some, eqb};
+ghost use Rattle.std.specs.Prelude.{◌≡◌, true, false, cond, ◌&&◌, [], ◌∷◌, ◌+◌, ◌-◌, ◌*◌, ◌/◌, ◌%◌, ◌^◌, ◌<◌, ◌≤◌, length, pos, nat_abs, ◌+ℤ◌, ◌-ℤ◌, ◌*ℤ◌, Some, eqb, ok_or};
 ghost use Rattle.std.specs.List.{position};
 ghost use Rattle.rules.specs.Characters.{code};
 ghost use Rattle.rules.specs.Limits.{mantissa_limit, scale_limit};
@@ -11,6 +11,8 @@ ghost use Rattle.value.specs.Gathering.{count_limit, millionths, of_millionths, 
 ghost use Rattle.value.specs.Literal.{all_digits, digit_of, number_from, power_by, power_of, scaled_by, raised_by, literal_of};
 ghost use Rattle.value.specs.Printed.{width_from, digits, minus_sign, places, printed, shown, Written};
 ghost use Rattle.value.specs.Parts.{parts_value, signed_power, IsPower};
+
+use std::ops::Neg;
 
 #[derive(Clone, Copy)]
 pub struct Value {
@@ -171,41 +173,56 @@ pub fn mul(a: Value, b: Value) -> Option<Value>
 }
 
 // The opposite; what is out of range stays as it is.
-pub fn negated(v: Value) -> Value
-    ensures { result ≡ cond (in_range v) (negate v) v }
-{
-    if in_range(v) {
-        return Value {
-            m: minus(0, v.m),
-            s: v.s,
-        };
+impl Neg for Value {
+    type Output = Value;
+
+    ghost neg_gives = { λ v r. r ≡ cond (in_range v) (negate v) v };
+
+    fn neg(self) -> Value {
+        if in_range(self) {
+            return Value {
+                m: minus(0, self.m),
+                s: self.s,
+            };
+        }
+        self
     }
-    v
 }
 
-// Is a at most b? Not so where one is out of range.
-pub fn at_most(a: Value, b: Value) -> bool
-    ensures { result ≡ cond (in_range a && in_range b) (is_at_most a b) false }
-{
-    both_in_range(a, b) && scaled(a.m, b.s) <= scaled(b.m, a.s)
+impl Value {
+    // Is it at most the other? Not so where one is out of range. No `PartialOrd`: what is out of range is not even at most itself,
+    // and m / 10^s may be the same where m and s are not.
+    pub fn at_most(self, other: Value) -> bool
+        ensures { result ≡ cond (in_range self && in_range other) (is_at_most self other) false }
+    {
+        both_in_range(self, other) && scaled(self.m, other.s) <= scaled(other.m, self.s)
+    }
+
+    pub fn is_zero(self) -> bool
+        ensures { result ≡ is_zero self }
+    {
+        self.m == 0
+    }
 }
 
-pub fn is_zero(v: Value) -> bool
-    ensures { result ≡ is_zero v }
-{
-    v.m == 0
+// The whole number that a value is; where it is none, the value.
+impl TryFrom<Value> for i64 {
+    type Error = Value;
+
+    ghost try_from_gives = { λ v r. r ≡ ok_or (whole_of v) v };
+
+    fn try_from(v: Value) -> Result<i64, Value> {
+        if v.s == 0 { Ok(v.m) } else { Err(v) }
+    }
 }
 
-pub fn whole_of(v: Value) -> Option<i64>
-    ensures { result ≡ whole_of v }
-{
-    (v.s == 0).then_some(v.m)
-}
+// A whole number as a value.
+impl From<i64> for Value {
+    ghost from_gives = { λ k v. v ≡ of_whole k };
 
-pub fn of_whole(k: i64) -> Value
-    ensures { result ≡ of_whole k }
-{
-    Value { m: k, s: 0 }
+    fn from(k: i64) -> Value {
+        Value { m: k, s: 0 }
+    }
 }
 
 // x / 10^s, rounded down.
@@ -219,33 +236,47 @@ fn quotient(x: u64, s: usize) -> u64
     0
 }
 
-// The whole number at v or next to it: toward zero, or away from it.
-fn shortened(v: Value, away: bool) -> i64
-    requires { away ≡ true → 0 < nat_abs v.m }
-    ensures { result ≡ with_sign v.m (cond away ((nat_abs v.m - 1) / 10 ^ v.s + 1) (nat_abs v.m / 10 ^ v.s)) }
+// The whole number at v or next to it, toward zero.
+fn toward_zero(v: Value) -> i64
+    ensures { result ≡ with_sign v.m (nat_abs v.m / 10 ^ v.s) }
 {
     if v.s == 0 {
         return v.m;
     }
-    let x = v.m.unsigned_abs();
-    if away {
-        return with_sign(v.m, quotient(x - 1, v.s) + 1);
+    with_sign(v.m, quotient(v.m.unsigned_abs(), v.s))
+}
+
+// The whole number at v, which is not 0, or next to it, away from zero.
+fn away_from_zero(v: Value) -> i64
+    requires { 0 < nat_abs v.m }
+    ensures { result ≡ with_sign v.m ((nat_abs v.m - 1) / 10 ^ v.s + 1) }
+{
+    if v.s == 0 {
+        return v.m;
     }
-    with_sign(v.m, quotient(x, v.s))
+    with_sign(v.m, quotient(v.m.unsigned_abs() - 1, v.s) + 1)
 }
 
 // The largest whole number that is not above v, whatever m and s are.
 pub fn floor_of(v: Value) -> i64
     ensures { result ≡ floor_of v }
 {
-    shortened(v, v.m < 0)
+    let negative = v.m < 0;
+    if negative {
+        return away_from_zero(v);
+    }
+    toward_zero(v)
 }
 
 // The smallest whole number that is not below v, whatever m and s are.
 pub fn ceiling_of(v: Value) -> i64
     ensures { result ≡ ceiling_of v }
 {
-    shortened(v, 0 < v.m)
+    let positive = 0 < v.m;
+    if positive {
+        return away_from_zero(v);
+    }
+    toward_zero(v)
 }
 
 // ---- gathering coefficients
@@ -306,7 +337,7 @@ fn digit(b: u8) -> u64
     0
 }
 
-// The number m followed by the digits of t.
+// The number m followed by the digits of t. std reads a `&str` from its start, and t is bytes that go on after m.
 fn number(t: &[u8], m: u64) -> u64
     requires { (m + 1) * 10 ^ length t.now ≤ 10 ^ 18 }
     ensures { result ≡ number_from m t.now }
@@ -331,15 +362,13 @@ fn lowered(x: u64, s: usize) -> Option<Value>
     ensures { result ≡ fit_of (tenths (pos x) s) }
 {
     let mut y = x;
-    let mut i = s;
-    while rules::DIGIT_LIMIT < i {
+    for _ in rules::DIGIT_LIMIT..s {
         if y % 10 != 0 {
             return None;
         }
         y = y / 10;
-        i = i - 1;
     }
-    normalise(y as i64, i)
+    normalise(y as i64, s.min(rules::DIGIT_LIMIT))
 }
 
 // x * 10^k
@@ -358,7 +387,7 @@ fn lifted(x: u64, k: usize) -> Option<Value>
     normalise((x * power(k)) as i64, 0)
 }
 
-// x / 10^f times a power of ten.
+// x / 10^f times a power of ten. `minus` is the sign of the power, as it was read: data, not a step.
 fn raised(x: u64, f: usize, minus: bool, k: usize) -> Option<Value>
     requires { (x < 2 ^ 63) × (f < 19) × (k < 100) }
     ensures { result ≡ fit_of (scaled_by (signed_power minus k) (tenths (pos x) f)) }
@@ -372,7 +401,7 @@ fn raised(x: u64, f: usize, minus: bool, k: usize) -> Option<Value>
     lifted(x, k - f)
 }
 
-// The value of the digits a before the point and b after it, times a power of ten.
+// The value of the digits a before the point and b after it, times a power of ten. `minus` is its sign: data, not a step.
 fn read_parts(a: &[u8], b: &[u8], minus: bool, k: usize) -> Option<Value>
     requires { k < 100 }
     ensures { result ≡ parts_value (signed_power minus k) a.now b.now }
@@ -396,7 +425,7 @@ fn read_parts(a: &[u8], b: &[u8], minus: bool, k: usize) -> Option<Value>
     raised(x, f, minus, k)
 }
 
-// The value of digits, digits.digits or .digits, at most 18 digits, times a power of ten.
+// The value of digits, digits.digits or .digits, at most 18 digits, times a power of ten. `minus` is its sign: data, not a step.
 fn decimal(t: &[u8], minus: bool, k: usize) -> Option<Value>
     requires { k < 100 }
     ensures { result ≡ raised_by (Some (signed_power minus k)) t.now }
@@ -413,7 +442,7 @@ fn decimal(t: &[u8], minus: bool, k: usize) -> Option<Value>
     read_parts(&t[..p], &t[p + 1..], minus, k)
 }
 
-// The power that one or two digits write.
+// The power that one or two digits write. `minus` is the sign before them, as it was read: data, not a step.
 fn power_by(minus: bool, t: &[u8]) -> Option<(bool, usize)>
     ensures { IsPower (power_by minus t.now) result }
 {
@@ -453,7 +482,7 @@ pub fn literal(t: &[u8]) -> Option<Value>
     decimal(&t[..e], minus, k)
 }
 
-// ---- printing
+// ---- printing: the output and a place in it travel side by side, as in crate `listing`
 
 // Writes b at a place of the output, or past its end nothing; the next place.
 fn put(out: &mut [u8], at: usize, b: u8) -> usize
@@ -531,7 +560,8 @@ fn put_value(out: &mut [u8], v: Value) -> usize
     put_places(out, mid, s, x)
 }
 
-// Writes a value, as far as the output reaches; the text's length. Nothing for what is out of range.
+// Writes a value, as far as the output reaches; the text's length. Nothing for what is out of range. No `Display`: its `fmt` is
+// written to a `Formatter`, which counts no bytes past the output's end.
 pub fn print(v: Value, out: &mut [u8]) -> usize
     ensures { Written out.old 0 (shown v) result out.new }
 {

@@ -1,6 +1,6 @@
 -- `cases::put` meets its contract.
-use Rattle.value.proofs.Writing.{written-past}
+use Rattle.listing.proofs.Writing.{written_from}
 use Rattle.cases.proofs.put.Goals as goal
 
-pub returns-then-out-at : goal.returns-then-out-at
-returns-then-out-at c = search written-past depth 5
+pub returns : goal.returns
+returns c = search written_from depth 8

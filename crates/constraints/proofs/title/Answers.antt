@@ -6,8 +6,8 @@ use Rattle.constraints.proofs.title.Goals as goal
 pub returns-in_err-token : goal.returns-in_err-token
 returns-in_err-token c = let p = err_from_is_err_and c.from_residual.result c.from_residual.ensures.1 in rw (p.1, p.2) (search (title-wrong, c.in_err-token.was) depth 6)
 
-pub returns-then-token-ne-STRING : goal.returns-then-token-ne-STRING
-returns-then-token-ne-STRING c = search (title-no, c.in_ok-token.was) depth 8
+pub returns-then-token : goal.returns-then-token
+returns-then-token c = search (title-no, c.in_ok-token.was) depth 8
 
 pub returns : goal.returns
 returns c = search (title-yes, c.in_ok-token.was) depth 8

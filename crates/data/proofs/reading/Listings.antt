@@ -23,15 +23,17 @@ use Rattle.tokens.specs.Pieces.{expect_in, bracket_in}
 use Rattle.tokens.proofs.Tables.{false-true, mark-of, mark-same}
 use Rattle.tokens.proofs.Moved.{next-is, look_is, expect-is, expect-not, stood, stuck, prefixed, prefixed-none, prefixed-more}
 use Rattle.data.specs.declared.reading.few.Few.{Few}
+use Rattle.store.specs.Few.{one_more}
+use Rattle.store.proofs.Fews.{more-room}
 use Rattle.data.specs.declared.reading.entries.Entry.{Entry as Held}
 use Rattle.data.specs.declared.reading.entries.Entries.{Entries}
 use Rattle.data.specs.declared.reading.heads.Plan.{Plan}
 use Rattle.data.specs.Reading.Few.{numbers_of, Holds, Keeps, Adds, rearranges_kept}
-use Rattle.data.specs.Reading.Entries.{entry_of, entries_of, one_more}
+use Rattle.data.specs.Reading.Entries.{entry_of, entries_of}
 use Rattle.data.specs.Reading.Readers.{Answers, leaves, indexed, index_in, entered}
 use Rattle.data.specs.Reading.Lists.{item_in, separator_of, list_in, Lists, OrderIs, Ordered, ordered, bracketed_in, optional_in, Orders, order_in, rest_in, head_in, planned, Heads}
 use Rattle.data.proofs.reading.Lists.{holds-keeps, adds-keeps, rearranges-is}
-use Rattle.data.proofs.reading.Marks.{entries-few, one_more_lem, marks-length}
+use Rattle.data.proofs.reading.Marks.{entries-few, marks-length}
 
 -- ---- an entry and the sign behind it
 
@@ -97,7 +99,7 @@ module _ (s ns ts : List ℕ) (at n : ℕ) where
         record {
           is = λ names d f.
               let (count, same) = l.is names d f in
-              let grown : entries_of e' ≡ entries_of e ++ (entry_of x ∷ []) = w ∙ one_more_lem (entries_of e) (entry_of x) (omega arith) in
+              let grown : entries_of e' ≡ entries_of e ++ (entry_of x ∷ []) = w ∙ more-room (entries_of e) (entry_of x) (omega arith) in
               let longer : length (entries_of e ++ (entry_of x ∷ [])) ≡ length (entries_of e) + 1 = length-append (entries_of e) (entry_of x ∷ []) in
               (rw grown (omega arith), same ∙ go left h (λ names d. item-is names d) names d ∙ ap (λ m. prefixed m (list_in (left - 1) names (from s ts b))) (sym grown));
         }

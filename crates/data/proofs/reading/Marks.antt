@@ -3,30 +3,28 @@ use Rattle.std.specs.Prelude.{None, Some}
 use mathlib.Core.Path.{◌≡◌, refl, sym, ◌∙◌, ap}
 use mathlib.Core.Bool.{Bool, true, false}
 use mathlib.Core.List.{List, [], ◌∷◌, ◌++◌, map, append_assoc, append-nil}
-use Rattle.std.proofs.lemmas.List.{length-set, length-map, map-set, get_or-map, take_more_set}
-use Prim.Native.Nat.{ℕ, zero, suc, ◌+◌, min, ◌<◌, ◌≤◌}
+use Rattle.std.proofs.lemmas.List.{length-map, map-set}
+use Prim.Native.Nat.{ℕ, zero, suc, ◌+◌, ◌<◌, ◌≤◌}
 use native.Mathlib.Omega.{arith}
-use borrow.Author.Tests.{lt-ltb, le-ltb}
 use lib.Dec.{eqb}
-use lib.ListN.{length, get_or, drop, take, set, length-take, get_or-eq_default, drop_of_length-le}
-use lib.Seq.{get_or-take, drop-cons, take_all, set_out}
+use lib.ListN.{length, get_or, drop, set, get_or-map, drop_of_length-le}
+use lib.Seq.{drop-cons}
 use lib.IntN.{ℤ}
-use mir.Syntax.{w64}
-use mir.Val.{SFits, to_z, of_z}
-use mir.Facts.{to_z-of_z}
 use Rattle.language.specs.Data.{Entry, fixed, marked, marks_of, position_of, positions_of, bound_of}
 use Rattle.language.specs.Store.{set_at}
+use Rattle.store.specs.Few.{items_of, one_more}
+use Rattle.store.proofs.Fews.{length-few, map-more}
 use Rattle.data.specs.declared.reading.few.Few.{Few}
 use Rattle.data.specs.declared.reading.entries.Entry.{Entry as Held}
 use Rattle.data.specs.declared.reading.entries.Entry.TheVariants.{Fixed, Marked}
 use Rattle.data.specs.declared.reading.entries.Entries.{Entries}
 use Rattle.data.specs.Reading.Few.{Holds, Keeps, Adds}
-use Rattle.data.specs.Reading.Entries.{entry_of, entries_of, marks_index, one_more}
+use Rattle.data.specs.Reading.Entries.{entry_of, entries_of, marks_index}
 use Rattle.data.proofs.reading.Lists.{holds-keeps, keeps-holds, adds-keeps}
 
-pub none-held : (l : List Held) → entries_of (record { count = 0; entries = l }) ≡ []
+pub none-held : (e : Entries) → items_of e.entries ≡ [] → entries_of e ≡ []
 unfolding entries_of
-none-held l = refl
+none-held e h = rw h refl
 
 pub marks-other : (x : Held) (i : ℕ) (k : ℤ) → x ≡ Fixed k → false ≡ marks_index i (entry_of x)
 marks-other x i k e = rw e refl
@@ -34,62 +32,31 @@ marks-other x i k e = rw e refl
 pub marks-same : (x : Held) (i j : ℕ) → x ≡ Marked j → eqb i j ≡ marks_index i (entry_of x)
 marks-same x i j e = rw e refl
 
--- another element within the first n
-take-set : (n : ℕ) (l : List Entry) (i : ℕ) (x : Entry) → take n (set l i x) ≡ set (take n l) i x
-take-set zero l i x = refl
-take-set (suc n) [] i x = refl
-take-set (suc n) (y ∷ l) zero x = refl
-take-set (suc n) (y ∷ l) (suc i) x = ap (λ m. y ∷ m) (take-set n l i x)
-
 module _ (e : Entries) where
-  abbrev all : List Entry
-  all = map entry_of e.entries
-
-  entries-within : length (entries_of e) ≤ e.count
+  length-is : length (entries_of e) ≡ length (items_of e.entries)
   unfolding entries_of
-  entries-within = simp length-take (omega arith)
+  length-is = length-map (items_of e.entries) entry_of
 
   pub entries-few : length (entries_of e) ≤ 4
+  entries-few = omega (arith, length-is, length-few e.entries)
+
+  pub entries-count : (n : ℕ) → n ≡ length (items_of e.entries) → n ≡ length (entries_of e)
+  entries-count n d = d ∙ sym length-is
+
+  -- the entry at a position
+  pub entry-is : (i : ℕ) (x : Held) → x ≡ get_or (items_of e.entries) i (Marked 0) → entry_of x ≡ get_or (entries_of e) i (marked 0)
   unfolding entries_of
-  entries-few = simp length-take (omega arith)
+  entry-is i x d = ap entry_of d ∙ sym (get_or-map entry_of (items_of e.entries) i (Marked 0))
 
-  pub entries-count : (n : ℕ) → length e.entries ≡ 4 → n ≡ min e.count 4 → n ≡ length (entries_of e)
+  -- one entry more
+  pub entry-more : (x : Held) (r : Entries) → items_of r.entries ≡ one_more (items_of e.entries) x → entries_of r ≡ one_more (entries_of e) (entry_of x)
   unfolding entries_of
-  entries-count n full d = d ∙ simp length-take (omega (arith, length-map e.entries entry_of))
+  entry-more x r d = ap (map entry_of) d ∙ map-more entry_of (items_of e.entries) x
 
-  -- ---- the entry at a position
-
-  pub entry_past : (n i : ℕ) → n ≡ length (entries_of e) → n ≤ i → marked 0 ≡ get_or (entries_of e) i (marked 0)
-  entry_past n i d h = sym (get_or-eq_default (entries_of e) (marked 0) {n = i} (omega arith))
-
-  pub entry_kept : (n i : ℕ) (d : Held) → length e.entries ≡ 4 → n ≡ length (entries_of e) → i < n → entry_of (get_or e.entries i d) ≡ get_or (entries_of e) i (marked 0)
+  -- another entry at a position
+  put-entry : (i : ℕ) (x : Held) (r : Entries) → items_of r.entries ≡ set (items_of e.entries) i x → entries_of r ≡ set (entries_of e) i (entry_of x)
   unfolding entries_of
-  entry_kept n i d full c h =
-      sym (get_or-take e.count (take 4 all) i (marked 0) (omega (arith, entries-within)) ∙ get_or-take 4 all i (marked 0) (omega (arith, entries-few)) ∙ get_or-map entry_of e.entries i d (marked 0) (omega (arith, entries-few)))
-
-  -- ---- another entry at a position
-
-  put-entry : (i : ℕ) (x : Held) → entries_of (record { count = e.count; entries = set e.entries i x }) ≡ set (entries_of e) i (entry_of x)
-  unfolding entries_of
-  put-entry i x = ap (λ l. take e.count (take 4 l)) (map-set entry_of e.entries i x) ∙ ap (take e.count) (take-set 4 all i (entry_of x)) ∙ take-set e.count (take 4 all) i (entry_of x)
-
-  module _ (x : Held) (full : length e.entries ≡ 4) where
-    pub grows_none : 4 ≤ e.count → entries_of e ≡ one_more (entries_of e) (entry_of x)
-    unfolding one_more
-    grows_none h = rw (le-ltb (length (entries_of e)) 4 (omega (arith, entries-count 4 full (omega arith)))) refl
-
-    pub grows-put : e.count < 4 → entries_of (record { count = e.count + 1; entries = set e.entries e.count x }) ≡ one_more (entries_of e) (entry_of x)
-    unfolding entries_of one_more
-    grows-put h =
-        let f : length all ≡ 4 = length-map e.entries entry_of ∙ full in
-        let g = entries-count e.count full (omega arith) in
-        rw (map-set entry_of e.entries e.count x, take_all 4 (set all e.count (entry_of x)) (omega (arith, length-set all e.count (entry_of x))), take_all 4 all (omega arith), lt-ltb (length (take e.count all)) 4 (simp length-take (omega arith)))
-        (take_more_set all e.count (entry_of x) (omega arith))
-
--- where there is room
-pub one_more_lem : (l : List Entry) (x : Entry) → length l < 4 → one_more l x ≡ l ++ (x ∷ [])
-unfolding one_more
-one_more_lem l x h = rw (lt-ltb (length l) 4 h) refl
+  put-entry i x r d = ap (map entry_of) d ∙ map-set entry_of (items_of e.entries) i x
 
 -- ---- what positions are bound to
 
@@ -101,13 +68,8 @@ bound-set (marked i ∷ l) zero k = refl
 bound-set (fixed x ∷ l) (suc j) k = ap (λ m. Some x ∷ m) (bound-set l j k)
 bound-set (marked i ∷ l) (suc j) k = ap (λ m. None ∷ m) (bound-set l j k)
 
-module _ (e : Entries) (j : ℕ) (k : ℤ) where
-  -- k is read back from its bits
-  pub fix-within : SFits w64 k → bound_of (entries_of (record { count = e.count; entries = set e.entries j (Fixed (to_z w64 (of_z w64 k))) })) ≡ set_at j k (bound_of (entries_of e))
-  fix-within f = ap bound_of (put-entry e j (Fixed (to_z w64 (of_z w64 k))) ∙ ap (λ z. set (entries_of e) j (fixed z)) (to_z-of_z f)) ∙ bound-set (entries_of e) j k
-
-  pub fix-past : 4 ≤ j → bound_of (entries_of e) ≡ set_at j k (bound_of (entries_of e))
-  fix-past h = ap bound_of (sym (set_out (entries_of e) j (fixed k) (omega (arith, entries-few e)))) ∙ bound-set (entries_of e) j k
+pub fix-is : (e : Entries) (j : ℕ) (k : ℤ) (r : Entries) → items_of r.entries ≡ set (items_of e.entries) j (Fixed k) → bound_of (entries_of r) ≡ set_at j k (bound_of (entries_of e))
+fix-is e j k r d = ap bound_of (put-entry e j (Fixed k) r d) ∙ bound-set (entries_of e) j k
 
 -- ---- marks
 

@@ -3,9 +3,9 @@ ghost use Rattle.language.specs.Reader.{read_string};
 ghost use Rattle.language.specs.Data.{read_close, read_end};
 ghost use Rattle.data.specs.Reading.Readers.{Says, titled, passed};
 
-use lexer::marks;
+use lexer::Mark;
 use rules::{Refused, refused};
-use tokens::kinds;
+use tokens::Kind;
 
 // A string's place and the number of its bytes, and the position behind it.
 #[derive(Clone, Copy)]
@@ -19,7 +19,7 @@ pub fn title(tokens: &[u64], at: usize) -> Result<Titled, Refused>
     ensures { Says titled read_string tokens.now at result }
 {
     let token = tokens::token_at(tokens, at)?;
-    if token.kind != kinds::STRING {
+    if token.kind != Kind::String as u64 {
         return refused!(Misplaced, token.place);
     }
     Ok(Titled {
@@ -34,10 +34,10 @@ pub fn close(tokens: &[u64], at: usize) -> Result<usize, Refused>
     ensures { Says passed read_close tokens.now at result }
 {
     let token = tokens::token_at(tokens, at)?;
-    if (token.kind == marks::PLUS as u64) | (token.kind == marks::MINUS as u64) {
+    if (token.kind == Mark::Plus as u64) | (token.kind == Mark::Minus as u64) {
         return refused!(Missing, token.place);
     }
-    if token.kind != marks::CLOSE as u64 {
+    if token.kind != Mark::Close as u64 {
         return refused!(Misplaced, token.place);
     }
     Ok(token.next)
@@ -48,7 +48,7 @@ pub fn end(tokens: &[u64], at: usize) -> Result<usize, Refused>
     ensures { Says passed read_end tokens.now at result }
 {
     let token = tokens::token_at(tokens, at)?;
-    if token.kind != kinds::END {
+    if token.kind != Kind::End as u64 {
         return refused!(Misplaced, token.place);
     }
     Ok(token.next)

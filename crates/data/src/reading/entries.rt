@@ -3,9 +3,11 @@ ghost use Rattle.std.specs.Prelude.{◌≡◌, [], length, get_or};
 ghost use Rattle.language.specs.Data.{marked, marks_of, position_of, positions_of, bound_of};
 ghost use Rattle.language.specs.Store.{set_at};
 ghost use Rattle.data.specs.Reading.Few.{numbers_of, Holds};
-ghost use Rattle.data.specs.Reading.Entries.{entry_of, entries_of, marks_index, one_more};
+ghost use Rattle.store.specs.Few.{one_more};
+ghost use Rattle.data.specs.Reading.Entries.{entry_of, entries_of, marks_index};
 
 use super::few::Few;
+use store::few;
 
 // A fixed whole number, or the number of the index name that marks the position.
 #[derive(Clone, Copy)]
@@ -14,11 +16,9 @@ pub enum Entry {
     Marked(usize),
 }
 
-// The first `count` of the entries.
 #[derive(Clone, Copy)]
 pub struct Entries {
-    pub count: usize,
-    pub entries: [Entry; 4],
+    pub entries: few::Few<Entry>,
 }
 
 // Does the entry mark its position by the index i?
@@ -36,48 +36,39 @@ impl Entries {
         ensures { entries_of result ≡ [] }
     {
         Entries {
-            count: 0,
-            entries: [Entry::Marked(0); 4],
+            entries: few::Few::none(Entry::Marked(0)),
         }
     }
 
     pub fn length(self) -> usize
         ensures { result ≡ length (entries_of self) }
     {
-        self.count.min(4)
+        self.entries.length()
     }
 
     // The entry at a position.
     pub fn at(self, i: usize) -> Entry
         ensures { entry_of result ≡ get_or (entries_of self) i (marked 0) }
     {
-        if self.length() <= i {
-            return Entry::Marked(0);
-        }
-        self.entries[i]
+        self.entries.at(i, Entry::Marked(0))
     }
 
     // One entry more; the same where there are four.
-    pub fn with(mut self, e: Entry) -> Self
+    pub fn with(self, e: Entry) -> Self
         ensures { entries_of result ≡ one_more (entries_of self) (entry_of e) }
     {
-        let n = self.count;
-        if 4 <= n {
-            return self;
+        Entries {
+            entries: self.entries.with(e),
         }
-        self.entries[n] = e;
-        self.count = n + 1;
-        self
     }
 
     // A position bound to a number.
-    pub fn fix(mut self, j: usize, k: i64) -> Self
+    pub fn fix(self, j: usize, k: i64) -> Self
         ensures { bound_of (entries_of result) ≡ set_at j k (bound_of (entries_of self)) }
     {
-        if j < 4 {
-            self.entries[j] = Entry::Fixed(k);
+        Entries {
+            entries: self.entries.set(j, Entry::Fixed(k)),
         }
-        self
     }
 
     // The index names of the marked positions, left to right.

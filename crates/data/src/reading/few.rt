@@ -4,7 +4,7 @@ ghost use Rattle.language.specs.Declarations.{is_in};
 ghost use Rattle.language.specs.Data.{no_repeats, all_in};
 ghost use Rattle.data.specs.Reading.Few.{numbers_of, Holds, Adds, rearranges_kept};
 
-// The first `count` of the numbers. A count above four says that there are more, which are not kept.
+// The first `count` of the numbers. A count above four says that there are more, which are not kept: `store::few::Few` doesn't say that.
 #[derive(Clone, Copy)]
 pub struct Few {
     pub count: usize,

@@ -4,14 +4,15 @@ ghost use Rattle.language.specs.Data.{signed_entry, read_entry};
 ghost use Rattle.data.specs.Reading.Entries.{entries_of};
 ghost use Rattle.data.specs.Reading.Readers.{Answers, Says, indexed, entered, index_in};
 ghost use Rattle.data.specs.Reading.Lists.{item_in, separator_of, planned, bracketed_in, optional_in, order_in, rest_in, head_in, Lists, Ordered, Orders, Heads};
+ghost use Rattle.lexer.specs.Numbers.{number};
 ghost use Rattle.tokens.specs.Text.{In};
 
 use super::entries::{Entries, Entry};
 use super::few::Few;
 use super::numbers::signed;
-use lexer::marks;
+use lexer::Mark;
 use rules::{Refused, refused};
-use tokens::{Text, kinds, sorts};
+use tokens::{Kind, Sort, Text};
 
 // The positions that run, outermost first; the entries; the position behind the head.
 #[derive(Clone, Copy)]
@@ -26,18 +27,18 @@ fn index(text: Text<'_>, at: usize) -> Result<(usize, usize), Refused>
     ensures { In (Answers indexed index_in) text.entry at result }
 {
     let name = tokens::known_name(text, at)?;
-    if name.sort != sorts::INDEX {
+    if name.sort != Sort::Index as u64 {
         return refused!(Misplaced, name.place);
     }
     Ok((name.number, name.next))
 }
 
-// The digits behind an entry's sign.
+// The digits behind an entry's sign. `minus` is the sign that was read: data, not a step.
 fn signed_entry(tokens: &[u64], at: usize, minus: bool) -> Result<(Entry, usize), Refused>
     ensures { Says entered (signed_entry minus) tokens.now at result }
 {
     let token = tokens::token_at(tokens, at)?;
-    if token.kind != kinds::WHOLE {
+    if token.kind != Kind::Whole as u64 {
         return refused!(Misplaced, token.place);
     }
     Ok((Entry::Fixed(signed(token.payload, minus)), token.next))
@@ -48,39 +49,39 @@ fn entry(text: Text<'_>, at: usize) -> Result<(Entry, usize), Refused>
     ensures { In (Answers entered read_entry) text.entry at result }
 {
     let token = tokens::token_at(text.tokens, at)?;
-    if token.kind == kinds::NAME {
+    if token.kind == Kind::Name as u64 {
         let (i, next) = index(text, at)?;
         return Ok((Entry::Marked(i), next));
     }
-    if token.kind == kinds::WHOLE {
+    if token.kind == Kind::Whole as u64 {
         return Ok((Entry::Fixed(signed(token.payload, false)), token.next));
     }
-    if token.kind == marks::PLUS as u64 {
+    if token.kind == Mark::Plus as u64 {
         return signed_entry(text.tokens, token.next, false);
     }
-    if token.kind == marks::MINUS as u64 {
+    if token.kind == Mark::Minus as u64 {
         return signed_entry(text.tokens, token.next, true);
     }
     refused!(Misplaced, token.place)
 }
 
-// An entry and the sign c behind it.
-fn item(text: Text<'_>, at: usize, c: u8) -> Result<(Entry, usize), Refused>
-    ensures { In (Answers entered (item_in c)) text.entry at result }
+// An entry and the sign `mark` behind it.
+fn item(text: Text<'_>, at: usize, mark: Mark) -> Result<(Entry, usize), Refused>
+    ensures { In (Answers entered (item_in (number mark))) text.entry at result }
 {
     let (first, sign) = entry(text, at)?;
-    let next = tokens::expect(text, sign, c)?;
+    let next = tokens::expect(text, sign, mark)?;
     Ok((first, next))
 }
 
 // The sign behind an entry with which `left` are due.
-fn separator(left: usize) -> u8
-    ensures { result ≡ separator_of left }
+fn separator(left: usize) -> Mark
+    ensures { number result ≡ separator_of left }
 {
     if left == 1 {
-        marks::RIGHT_BRACKET
+        Mark::RightBracket
     } else {
-        marks::COMMA
+        Mark::Comma
     }
 }
 
@@ -108,10 +109,10 @@ fn order_list(text: Text<'_>, at: usize) -> Result<(Few, usize), Refused>
         let (i, behind) = index(text, a)?;
         list = list.with(i);
         let token = tokens::token_at(text.tokens, behind)?;
-        if token.kind == marks::RIGHT_PAREN as u64 {
+        if token.kind == Mark::RightParen as u64 {
             return Ok((list, token.next));
         }
-        if token.kind != marks::COMMA as u64 {
+        if token.kind != Mark::Comma as u64 {
             return refused!(Misplaced, token.place);
         }
         a = token.next;
@@ -145,7 +146,7 @@ fn optional_order(
     ensures { In (Orders (optional_in place)) text.entry at marks result }
 {
     let token = tokens::token_at(text.tokens, at)?;
-    if token.kind == marks::LEFT_PAREN as u64 {
+    if token.kind == Mark::LeftParen as u64 {
         return bracketed_order(text, token.next, place, marks);
     }
     Ok((marks, at))
@@ -179,6 +180,6 @@ fn entries_head(text: Text<'_>, at: usize, place: u64, count: usize) -> Result<P
 pub fn head(text: Text<'_>, at: usize, place: u64, count: usize) -> Result<Plan, Refused>
     ensures { In (Heads (head_in place count)) text.entry at count result }
 {
-    let open = tokens::bracket(text, at, rules::NESTING_LIMIT, marks::LEFT_BRACKET)?;
+    let open = tokens::bracket(text, at, rules::NESTING_LIMIT, Mark::LeftBracket)?;
     entries_head(text, open, place, count)
 }

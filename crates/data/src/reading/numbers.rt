@@ -3,9 +3,9 @@ ghost use Rattle.std.specs.Prelude.{◌≡◌, ◌/◌, pos};
 ghost use Rattle.language.specs.Data.{with_minus};
 ghost use Rattle.data.specs.Reading.Readers.{Says, numbered, literal_in, number_in};
 
-use lexer::marks;
+use lexer::Mark;
 use rules::{Refused, refused};
-use tokens::kinds;
+use tokens::Kind;
 
 // A value, the place of its sign, and the position behind it.
 #[derive(Clone, Copy)]
@@ -15,7 +15,7 @@ pub struct Numbered {
     pub next: usize,
 }
 
-// The mantissa of a literal's payload, with its sign.
+// The mantissa of a literal's payload, with its sign. `minus` is the sign that was read: data, not a step.
 pub fn signed(x: u64, minus: bool) -> i64
     ensures { result ≡ with_minus minus (pos (x / 8)) }
 {
@@ -26,12 +26,12 @@ pub fn signed(x: u64, minus: bool) -> i64
     m
 }
 
-// The literal behind a number's sign.
+// The literal behind a number's sign. `minus` is the sign that was read: data, not a step.
 fn literal(tokens: &[u64], at: usize, sign: u64, minus: bool) -> Result<Numbered, Refused>
     ensures { Says numbered (literal_in sign minus) tokens.now at result }
 {
     let token = tokens::token_at(tokens, at)?;
-    if (token.kind == kinds::WHOLE) | (token.kind == kinds::POINTED) {
+    if (token.kind == Kind::Whole as u64) | (token.kind == Kind::Pointed as u64) {
         let m = signed(token.payload, minus);
         let s = (token.payload % 8) as usize;
         return Ok(Numbered {
@@ -48,8 +48,8 @@ pub fn number(tokens: &[u64], at: usize) -> Result<Numbered, Refused>
     ensures { Says numbered number_in tokens.now at result }
 {
     let token = tokens::token_at(tokens, at)?;
-    let minus = token.kind == marks::MINUS as u64;
-    if (token.kind == marks::PLUS as u64) | minus {
+    let minus = token.kind == Mark::Minus as u64;
+    if (token.kind == Mark::Plus as u64) | minus {
         return literal(tokens, token.next, token.place, minus);
     }
     refused!(Missing, token.place)

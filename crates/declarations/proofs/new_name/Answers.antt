@@ -6,8 +6,8 @@ use Rattle.declarations.proofs.new_name.Goals as goal
 pub returns-in_err-token : goal.returns-in_err-token
 returns-in_err-token c = let p = err_from_is_err_and c.from_residual.result c.from_residual.ensures.1 in rw (p.1, p.2) (search (title-wrong, c.in_err-token.was) depth 6)
 
-pub returns-then-token-ne-NAME : goal.returns-then-token-ne-NAME
-returns-then-token-ne-NAME c = search (title-no-name, c.in_ok-token.was) depth 8
+pub returns-then-token : goal.returns-then-token
+returns-then-token c = search (title-no-name, c.in_ok-token.was) depth 8
 
 pub returns-in-Some : goal.returns-in-Some
 returns-in-Some c = search (title-again, c.in_ok-token.was) depth 9

@@ -101,17 +101,17 @@ named-returns-in_default t c = search named-unknown depth 6
 pub named-returns-then-cx-listed : goal.named-returns-then-cx-listed
 named-returns-then-cx-listed t c = search named-late depth 7
 
-pub named-returns-then-listed-eq-INDEX : goal.named-returns-then-listed-eq-INDEX
-named-returns-then-listed-eq-INDEX t c = search named-index depth 9
+pub named-returns-then-listed : goal.named-returns-then-listed
+named-returns-then-listed t c = search named-index depth 9
 
 pub named-returns-in_err-v : goal.named-returns-in_err-v
 named-returns-in_err-v t c = let p = err_from_is_err_and c.from_residual.result c.from_residual.ensures.1 in rw (p.1, p.2, ← c.in_err-v.was) (search (named-refused, c.in_err-v.was) depth 10)
 
-pub named-returns-then-listed-eq-FORMULA : goal.named-returns-then-listed-eq-FORMULA
-named-returns-then-listed-eq-FORMULA t c = search (named-formula, c.in_ok-v.was) depth 10
+pub named-returns-then-listed-2 : goal.named-returns-then-listed-2
+named-returns-then-listed-2 t c = search (named-formula, c.in_ok-v.was) depth 10
 
-pub named-returns-then-listed : goal.named-returns-then-listed
-named-returns-then-listed t c = search named-datum depth 10
+pub named-returns-then-listed-3 : goal.named-returns-then-listed-3
+named-returns-then-listed-3 t c = search named-datum depth 10
 
 pub named-returns : goal.named-returns
 named-returns t c = search named_other depth 10
@@ -134,11 +134,11 @@ primary-returns-then-token t c = search (primary-sum, c.in_ok-token.was) depth 9
 pub primary-returns-then-token-2 : goal.primary-returns-then-token-2
 primary-returns-then-token-2 t c = search (primary-part, c.in_ok-token.was) depth 9
 
-pub primary-returns-then-token-eq-NAME : goal.primary-returns-then-token-eq-NAME
-primary-returns-then-token-eq-NAME t c = search (primary-name, c.in_ok-token.was) depth 10
-
 pub primary-returns-then-token-3 : goal.primary-returns-then-token-3
-primary-returns-then-token-3 t c = search (primary-literal, c.in_ok-token.was) depth 9
+primary-returns-then-token-3 t c = search (primary-name, c.in_ok-token.was) depth 10
+
+pub primary-returns-then-token-4 : goal.primary-returns-then-token-4
+primary-returns-then-token-4 t c = search (primary-literal, c.in_ok-token.was) depth 9
 
 pub primary-returns : goal.primary-returns
 primary-returns t c = search (primary-other, c.in_ok-token.was) depth 11

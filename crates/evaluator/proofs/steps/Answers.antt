@@ -1,7 +1,7 @@
 -- Laws of the steps on values: what each answers, and that it is what the definition says of values.
-use Rattle.std.specs.Prelude.{Err, Ok, Result, Option, Some, None}
+use Rattle.std.specs.Prelude.{Err, Ok, Result, Option, Some, None, ok_or}
 use Rattle.rules.specs.declared.Refused.{Refused}
-use mathlib.Core.Path.{◌≡◌, refl, ◌∙◌, ap}
+use mathlib.Core.Path.{◌≡◌, refl, sym, ◌∙◌, ap}
 use mathlib.Core.Bool.{Bool, true, false, cond}
 use mathlib.Core.List.{List}
 use Prim.Native.Nat.{ℕ, ◌/◌, ◌%◌, ◌^◌, ◌<◌}
@@ -15,11 +15,12 @@ use Rattle.rules.specs.declared.Refusal.TheVariants.{Unfit, BadIndex, NotWhole, 
 use Rattle.value.specs.declared.Value.{Value}
 use Rattle.value.specs.Decimal.{in_range, if_in_range, sum_of, negate, whole_of, of_whole, floor_of, ceiling_of}
 use Rattle.value.proofs.Integers.{back}
+use Rattle.value.proofs.Operations.{try-yes, try-no}
 use Rattle.store.specs.declared.Element.{Element}
 use Rattle.store.specs.declared.Key.{Key}
 use Rattle.store.specs.Element.{list_of, extended}
 use Rattle.store.specs.Key.{key_number, key_of}
-use Rattle.store.specs.Table.{Sorted, word_at, word_in, lookup, found_row, Finds}
+use Rattle.store.specs.Table.{Table, Sorted, word_at, word_in, lookup, found_row, Finds}
 use Rattle.store.specs.Packed.{unpacked}
 use Rattle.store.proofs.Halving.{found_word, finds-sorted}
 use Rattle.language.specs.Scope.{bound_to}
@@ -27,7 +28,7 @@ use Rattle.evaluator.specs.declared.steps.scope.Scope.{Scope as Held}
 use Rattle.evaluator.specs.declared.steps.values.Limits.{Limits}
 use Rattle.evaluator.specs.declared.steps.values.Bounds.{Bounds}
 use Rattle.evaluator.specs.Steps.Scopes.{bindings_of}
-use Rattle.evaluator.specs.Steps.Values.{fitted_at, signed_value, whole_by, whole_answer, bound_by, bound_answer, word_answer, known_answer, KnownEarly}
+use Rattle.evaluator.specs.Steps.Values.{fitted_at, signed_value, whole_by, whole_answer, bound_by, bound_answer, word_answer, known_answer}
 
 -- ---- values
 
@@ -60,14 +61,14 @@ sum_same p a b v w u g r e f h = h ∙ ap (fitted_at p a) (f ∙ ap (λ u. if_in
 
 -- ---- whole numbers
 
-module _ (p a : ℕ) (v : Value) (w : Option ℤ) (h : w ≡ whole_of v) where
-  pub whole-yes : (k : ℤ) → w ≡ Some k → Ok (v, a) ≡ whole_answer p a v
+module _ (p a : ℕ) (v : Value) (w : Result ℤ Value) (h : w ≡ ok_or (whole_of v) v) where
+  pub whole-yes : (k : ℤ) → w ≡ Ok k → Ok (v, a) ≡ whole_answer p a v
   unfolding whole_answer whole_by
-  whole-yes k e = rw (← h, e) refl
+  whole-yes k e = rw (try-yes (whole_of v) v k (sym h ∙ e)) refl
 
-  pub whole-no : w ≡ None → Err (record { refusal = NotWhole; place = p }) ≡ whole_answer p a v
+  pub whole-no : (u : Value) → w ≡ Err u → Err (record { refusal = NotWhole; place = p }) ≡ whole_answer p a v
   unfolding whole_answer whole_by
-  whole-no e = rw (← h, e) refl
+  whole-no u e = rw (try-no (whole_of v) v u (sym h ∙ e)) refl
 
 module _ (p a i : ℕ) (s : Held) (b : Option ℤ) (h : b ≡ bound_to i (bindings_of s)) where
   pub bound-no : b ≡ None → Err (record { refusal = BadIndex; place = p }) ≡ bound_answer p a s i
@@ -91,7 +92,7 @@ bounds-are i q v w l e = rw e refl
 
 -- ---- data
 
-module _ (ds : List ℕ) (p a : ℕ) (f : Option ℕ) where
+module _ (ds : Table) (p a : ℕ) (f : Option ℕ) where
   pub datum-no : f ≡ None → Err (record { refusal = Missing; place = p }) ≡ word_answer p a (word_in ds f)
   unfolding word_answer word_in
   datum-no e = rw e
@@ -100,16 +101,16 @@ module _ (ds : List ℕ) (p a : ℕ) (f : Option ℕ) where
   unfolding word_answer word_in
   datum-yes j w v e x y = rw (e, y, x)
 
-module _ (ds : List ℕ) (rows i p a : ℕ) (ks : List ℤ) (k : Key) (f : Option ℕ) (h : key_number k ≡ key_of i ks) (r : Result (Value × ℕ) Refused) (d : r ≡ word_answer p a (word_in ds f)) where
+module _ (ds : Table) (rows i p a : ℕ) (ks : List ℤ) (k : Key) (f : Option ℕ) (h : key_number k ≡ key_of i ks) (r : Result (Value × ℕ) Refused) (d : r ≡ word_answer p a (word_in ds f)) where
   pub known_is : f ≡ found_row ds rows (key_number k) → r ≡ known_answer ds rows i ks p a
   unfolding known_answer
   known_is g = d ∙ ap (λ f. word_answer p a (word_in ds f)) g ∙ ap (λ n. word_answer p a (word_in ds (found_row ds rows n))) h
 
   -- found early: in a sorted table the same row
-  pub early-is : Finds ds rows (key_number k) f → KnownEarly ds rows i ks p a r
-  early-is g = record { is = λ s. known_is (finds-sorted ds rows (key_number k) f g s) }
+  pub early-is : Finds ds rows (key_number k) f → Sorted ds rows → r ≡ known_answer ds rows i ks p a
+  early-is g s = known_is (finds-sorted ds rows (key_number k) f g s)
 
 -- in a sorted table, the word that the search from the front finds
-pub known-word : (ds : List ℕ) (rows i p a : ℕ) (ks : List ℤ) → Sorted ds rows → known_answer ds rows i ks p a ≡ word_answer p a (lookup ds rows (key_of i ks))
+pub known-word : (ds : Table) (rows i p a : ℕ) (ks : List ℤ) → Sorted ds rows → known_answer ds rows i ks p a ≡ word_answer p a (lookup ds rows (key_of i ks))
 unfolding known_answer
 known-word ds rows i p a ks s = ap (word_answer p a) (found_word ds rows (key_of i ks) s)

@@ -1,137 +1,141 @@
 -- Laws of scopes: what is bound, one index more, none, and bounds.
-use Rattle.std.specs.Prelude.{Option, Some, None}
+use Rattle.std.specs.Prelude.{Option, Some, None, map, reverse}
 use mathlib.Core.Path.{◌≡◌, refl, sym, ◌∙◌, ap, subst}
 use mathlib.Core.Bool.{Bool, true, false, cond, ◌&&◌}
-use mathlib.Core.List.{List, [], ◌∷◌}
-use Prim.Native.Nat.{ℕ, zero, suc, ◌^◌, ◌<◌, ◌≤◌}
+use mathlib.Core.List.{List, [], ◌∷◌, ◌++◌}
+use Prim.Native.Nat.{ℕ, min, ◌+◌, ◌^◌, ◌<◌, ◌≤◌}
 use native.Mathlib.Omega.{arith}
-use borrow.Author.Tests.{lt-ltb, le-ltb}
+use borrow.Author.Tests.{ltb-true, ltb-false}
 use lib.Dec.{eqb, ltb}
-use lib.ListN.{length}
-use lib.IntN.{ℤ, nat_abs}
+use lib.ListN.{length, get_or, take}
+use lib.Seq.{take_all}
+use lib.IntN.{ℤ, pos, nat_abs}
 use lib.Signed.{mag}
 use mir.Syntax.{w64}
-use mir.Val.{SFits, to_z, of_z}
+use mir.Val.{to_z, of_z}
+use Rattle.std.proofs.lemmas.List.{take_more, map-append, reverse-append, length-reverse, length-map}
 use Rattle.rules.specs.Limits.{mantissa_limit, index_limit}
 use Rattle.value.specs.declared.Value.{Value}
 use Rattle.value.proofs.Integers.{back}
 use Rattle.language.specs.Scope.{Binding, bind, unbound, bound_to}
 use Rattle.language.specs.Evaluation.{is_none}
+use Rattle.store.specs.Few.{items_of, one_more}
+use Rattle.store.proofs.Fews.{length-within, length-few, length-count, at-kept}
+use Rattle.evaluator.specs.declared.steps.scope.Binding.{Binding as HeldBinding}
 use Rattle.evaluator.specs.declared.steps.scope.Scope.{Scope as Held}
-use Rattle.evaluator.specs.Steps.Scopes.{binding, bound_if, bindings_of, bound_more, scope_of, AllSmall, Small}
+use Rattle.evaluator.specs.Steps.Scopes.{binding, binding_of, bindings_of, bound_more, scope_of, AllSmall, Small}
 
--- ---- nothing bound
+-- ---- nothing bound, one index more
 
-pub none-bound : (i j k l : ℕ) (a b c d : ℤ) → bindings_of (record { count = 0; first = i; second = j; third = k; fourth = l; a = a; b = b; c = c; d = d }) ≡ []
+-- how many are bound
+count-is : (s : Held) → length (bindings_of s) ≡ length (items_of s.bound)
 unfolding bindings_of
-none-bound i j k l a b c d = refl
+count-is s = simp (length-reverse, length-map) refl
 
--- ---- one index more, by the count before
-
-module _ (s : Held) (i : ℕ) (k : ℤ) (h : SFits w64 k) where
-  pub bind-first : s.count ≡ 0
-      → bindings_of (record { count = 1; first = i; second = s.second; third = s.third; fourth = s.fourth; a = to_z w64 (of_z w64 k); b = s.b; c = s.c; d = s.d }) ≡ bound_more i k (bindings_of s)
-  unfolding bindings_of bound_more index_limit
-  bind-first e = rw (e, back {z = k} h.sfits)
-
-  pub bind-second : s.count ≡ 1
-      → bindings_of (record { count = 2; first = s.first; second = i; third = s.third; fourth = s.fourth; a = s.a; b = to_z w64 (of_z w64 k); c = s.c; d = s.d }) ≡ bound_more i k (bindings_of s)
-  unfolding bindings_of bound_more index_limit
-  bind-second e = rw (e, back {z = k} h.sfits)
-
-  pub bind-third : s.count ≡ 2
-      → bindings_of (record { count = 3; first = s.first; second = s.second; third = i; fourth = s.fourth; a = s.a; b = s.b; c = to_z w64 (of_z w64 k); d = s.d }) ≡ bound_more i k (bindings_of s)
-  unfolding bindings_of bound_more index_limit
-  bind-third e = rw (e, back {z = k} h.sfits)
-
-  pub bind-fourth : s.count ≡ 3
-      → bindings_of (record { count = 4; first = s.first; second = s.second; third = s.third; fourth = i; a = s.a; b = s.b; c = s.c; d = to_z w64 (of_z w64 k) }) ≡ bound_more i k (bindings_of s)
-  unfolding bindings_of bound_more index_limit
-  bind-fourth e = rw (e, back {z = k} h.sfits)
-
--- all four
-four : (s : Held) → 3 < s.count → bindings_of s ≡ binding s.fourth s.d ∷ binding s.third s.c ∷ binding s.second s.b ∷ binding s.first s.a ∷ []
+pub none-bound : (s : Held) → items_of s.bound ≡ [] → bindings_of s ≡ []
 unfolding bindings_of
-four s h = rw (lt-ltb 3 s.count h, lt-ltb 2 s.count (omega arith), lt-ltb 1 s.count (omega arith), lt-ltb 0 s.count (omega arith))
+none-bound s e = rw e refl
 
-pub bind-none : (s : Held) (i : ℕ) (k : ℤ) → (s.count ≡ 0 → ⊥) → (s.count ≡ 1 → ⊥) → (s.count ≡ 2 → ⊥) → (s.count ≡ 3 → ⊥) → bindings_of s ≡ bound_more i k (bindings_of s)
-unfolding bound_more index_limit
-bind-none s i k e f g h = rw (four s (omega arith))
+pub bind-more : (s t : Held) (i : ℕ) (k : ℤ) → items_of t.bound ≡ one_more (items_of s.bound) (record { name = i; at = k }) → bindings_of t ≡ bound_more i k (bindings_of s)
+unfolding bindings_of one_more bound_more
+bind-more s t i k e = rw (e, length-reverse (map binding_of l), length-map l binding_of) (go (ltb (length l) index_limit))
+  where
+    l : List HeldBinding
+    l = items_of s.bound
+
+    go : (b : Bool) → reverse (map binding_of (cond b (l ++ (record { name = i; at = k } ∷ [])) l)) ≡ cond b (binding i k ∷ reverse (map binding_of l)) (reverse (map binding_of l))
+    go true = ap reverse (map-append binding_of l (record { name = i; at = k } ∷ [])) ∙ reverse-append (map binding_of l) (binding i k ∷ [])
+    go false = refl
 
 -- ---- what an index is bound to
 
--- one index among them
-bound-if : (i j : ℕ) (k : ℤ) (l : List Binding) (t : Bool) → (t && eqb i j) ≡ true → bound_to i (bound_if t j k l) ≡ Some k
-unfolding bound_to
-bound-if i j k l true e = rw (e, bound_to)
-bound-if i j k l false e = absurd (let z : ◌≡◌ {A = ℕ} 0 1 = cc in omega arith)
+-- the first n of them
+first : Held → ℕ → List Binding
+first s n = reverse (map binding_of (take n (items_of s.bound)))
 
-bound-not : (i j : ℕ) (k : ℤ) (l : List Binding) (t : Bool) → (t && eqb i j) ≡ false → bound_to i (bound_if t j k l) ≡ bound_to i l
-unfolding bound_to
-bound-not i j k l true e = rw (e, bound_to)
-bound-not i j k l false e = refl
+abbrev item : Held → ℕ → HeldBinding
+item s n = get_or s.bound.items n (record { name = 0; at = pos 0 })
 
--- the first one, two and three of the four
-abbrev one : Held → List Binding
-one s = bound_if (ltb 0 s.count) s.first s.a []
+module _ (s : Held) (full : length s.bound.items ≡ 4) (i n : ℕ) (room : n < 4) where
+  -- the last of them, where there are so many
+  first-more : n < s.bound.count → first s (n + 1) ≡ binding_of (item s n) ∷ first s n
+  unfolding first
+  first-more h =
+      let x = item s n in
+      let l = items_of s.bound in
+      let m = length-count s.bound full (min s.bound.count 4) refl in
+      let g : get_or l n x ≡ x = sym (at-kept s.bound (length l) n x (record { name = 0; at = pos 0 }) full refl (omega arith)) in
+      ap (λ l. reverse (map binding_of l)) (take_more l n x (omega arith))
+      ∙ ap reverse (map-append binding_of (take n l) (get_or l n x ∷ []))
+      ∙ reverse-append (map binding_of (take n l)) (binding_of (get_or l n x) ∷ [])
+      ∙ ap (λ x. binding_of x ∷ first s n) g
 
-abbrev two : Held → List Binding
-two s = bound_if (ltb 1 s.count) s.second s.b (one s)
+  first-same : s.bound.count ≤ n → first s (n + 1) ≡ first s n
+  unfolding first
+  first-same h =
+      let k = length-within s.bound in
+      ap (λ l. reverse (map binding_of l)) (take_all (n + 1) (items_of s.bound) (omega arith) ∙ sym (take_all n (items_of s.bound) (omega arith)))
 
-abbrev three : Held → List Binding
-three s = bound_if (ltb 2 s.count) s.third s.c (two s)
+  -- an index that is the last of them
+  first-here : (ltb n s.bound.count && eqb i (item s n).name) ≡ true → bound_to i (first s (n + 1)) ≡ Some (item s n).at
+  unfolding bound_to
+  first-here e = go (ltb n s.bound.count) refl e
+    where
+      go : (b : Bool) → ltb n s.bound.count ≡ b → (b && eqb i (item s n).name) ≡ true → bound_to i (first s (n + 1)) ≡ Some (item s n).at
+      go true f e = rw (first-more (ltb-true n s.bound.count f), e, bound_to)
+      go false f e = absurd (let z : ◌≡◌ {A = ℕ} 0 1 = cc in omega arith)
 
-module _ (s : Held) (i : ℕ) where
-  pub bound-fourth : (ltb 3 s.count && eqb i s.fourth) ≡ true → mag s.d < 2 ^ 63 → Some (to_z w64 (of_z w64 s.d)) ≡ bound_to i (bindings_of s)
-  unfolding bindings_of
-  bound-fourth e h = ap Some (back h) ∙ sym (bound-if i s.fourth s.d (three s) (ltb 3 s.count) e)
+  -- and one that is not
+  first-other : (ltb n s.bound.count && eqb i (item s n).name) ≡ false → bound_to i (first s (n + 1)) ≡ bound_to i (first s n)
+  unfolding bound_to
+  first-other e = go (ltb n s.bound.count) refl e
+    where
+      go : (b : Bool) → ltb n s.bound.count ≡ b → (b && eqb i (item s n).name) ≡ false → bound_to i (first s (n + 1)) ≡ bound_to i (first s n)
+      go true f e = rw (first-more (ltb-true n s.bound.count f), e, bound_to)
+      go false f e = ap (bound_to i) (first-same (ltb-false n s.bound.count f))
 
-  module _ (f : (ltb 3 s.count && eqb i s.fourth) ≡ false) where
-    to-three : bound_to i (bindings_of s) ≡ bound_to i (three s)
-    unfolding bindings_of
-    to-three = bound-not i s.fourth s.d (three s) (ltb 3 s.count) f
+module _ (s : Held) (full : length s.bound.items ≡ 4) (i : ℕ) where
+  to-four : bindings_of s ≡ first s 4
+  unfolding bindings_of first
+  to-four = ap (λ l. reverse (map binding_of l)) (sym (take_all 4 (items_of s.bound) (length-few s.bound)))
 
-    pub bound-third : (ltb 2 s.count && eqb i s.third) ≡ true → mag s.c < 2 ^ 63 → Some (to_z w64 (of_z w64 s.c)) ≡ bound_to i (bindings_of s)
-    bound-third e h = ap Some (back h) ∙ sym (to-three ∙ bound-if i s.third s.c (two s) (ltb 2 s.count) e)
+  pub bound-fourth : (ltb 3 s.bound.count && eqb i (item s 3).name) ≡ true → mag (item s 3).at < 2 ^ 63 → Some (to_z w64 (of_z w64 (item s 3).at)) ≡ bound_to i (bindings_of s)
+  bound-fourth e h = ap Some (back h) ∙ sym (ap (bound_to i) to-four ∙ first-here s full i 3 (omega arith) e)
 
-    module _ (g : (ltb 2 s.count && eqb i s.third) ≡ false) where
-      to-two : bound_to i (bindings_of s) ≡ bound_to i (two s)
-      to-two = to-three ∙ bound-not i s.third s.c (two s) (ltb 2 s.count) g
+  module _ (f : (ltb 3 s.bound.count && eqb i (item s 3).name) ≡ false) where
+    to-three : bound_to i (bindings_of s) ≡ bound_to i (first s 3)
+    to-three = ap (bound_to i) to-four ∙ first-other s full i 3 (omega arith) f
 
-      pub bound-second : (ltb 1 s.count && eqb i s.second) ≡ true → mag s.b < 2 ^ 63 → Some (to_z w64 (of_z w64 s.b)) ≡ bound_to i (bindings_of s)
-      bound-second e h = ap Some (back h) ∙ sym (to-two ∙ bound-if i s.second s.b (one s) (ltb 1 s.count) e)
+    pub bound-third : (ltb 2 s.bound.count && eqb i (item s 2).name) ≡ true → mag (item s 2).at < 2 ^ 63 → Some (to_z w64 (of_z w64 (item s 2).at)) ≡ bound_to i (bindings_of s)
+    bound-third e h = ap Some (back h) ∙ sym (to-three ∙ first-here s full i 2 (omega arith) e)
 
-      module _ (k : (ltb 1 s.count && eqb i s.second) ≡ false) where
-        to_one : bound_to i (bindings_of s) ≡ bound_to i (one s)
-        to_one = to-two ∙ bound-not i s.second s.b (one s) (ltb 1 s.count) k
+    module _ (g : (ltb 2 s.bound.count && eqb i (item s 2).name) ≡ false) where
+      to-two : bound_to i (bindings_of s) ≡ bound_to i (first s 2)
+      to-two = to-three ∙ first-other s full i 2 (omega arith) g
 
-        pub bound-first : (ltb 0 s.count && eqb i s.first) ≡ true → mag s.a < 2 ^ 63 → Some (to_z w64 (of_z w64 s.a)) ≡ bound_to i (bindings_of s)
-        bound-first e h = ap Some (back h) ∙ sym (to_one ∙ bound-if i s.first s.a [] (ltb 0 s.count) e)
+      pub bound-second : (ltb 1 s.bound.count && eqb i (item s 1).name) ≡ true → mag (item s 1).at < 2 ^ 63 → Some (to_z w64 (of_z w64 (item s 1).at)) ≡ bound_to i (bindings_of s)
+      bound-second e h = ap Some (back h) ∙ sym (to-two ∙ first-here s full i 1 (omega arith) e)
 
-        pub bound-nothing : (ltb 0 s.count && eqb i s.first) ≡ false → None ≡ bound_to i (bindings_of s)
-        unfolding bound_to
-        bound-nothing e = sym (to_one ∙ bound-not i s.first s.a [] (ltb 0 s.count) e)
+      module _ (k : (ltb 1 s.bound.count && eqb i (item s 1).name) ≡ false) where
+        to-one : bound_to i (bindings_of s) ≡ bound_to i (first s 1)
+        to-one = to-two ∙ first-other s full i 1 (omega arith) k
+
+        pub bound-first : (ltb 0 s.bound.count && eqb i (item s 0).name) ≡ true → mag (item s 0).at < 2 ^ 63 → Some (to_z w64 (of_z w64 (item s 0).at)) ≡ bound_to i (bindings_of s)
+        bound-first e h = ap Some (back h) ∙ sym (to-one ∙ first-here s full i 0 (omega arith) e)
+
+        pub bound-nothing : (ltb 0 s.bound.count && eqb i (item s 0).name) ≡ false → None ≡ bound_to i (bindings_of s)
+        unfolding bound_to first
+        bound-nothing e = sym (to-one ∙ first-other s full i 0 (omega arith) e)
 
 -- ---- room for one more
-
-room-left : (s : Held) → ltb (length (bindings_of s)) 4 ≡ ltb s.count 4
-unfolding bindings_of
-room-left s = go s.count refl
-  where
-    go : (n : ℕ) → s.count ≡ n → ltb (length (bindings_of s)) 4 ≡ ltb s.count 4
-    go zero e = rw e
-    go (suc zero) e = rw e
-    go (suc (suc zero)) e = rw e
-    go (suc (suc (suc zero))) e = rw e
-    go (suc (suc (suc (suc n)))) e = rw (four s (omega arith), le-ltb s.count 4 (omega arith))
 
 module _ (s : Held) (i : ℕ) (b : Option ℤ) (h : b ≡ bound_to i (bindings_of s)) where
   pub takes-not : (k : ℤ) → b ≡ Some k → false ≡ (is_none (bound_to i (bindings_of s)) && ltb (length (bindings_of s)) index_limit)
   takes-not k e = rw (← h, e)
 
-  pub takes-room : b ≡ None → ltb s.count 4 ≡ (is_none (bound_to i (bindings_of s)) && ltb (length (bindings_of s)) index_limit)
+  pub takes-room : b ≡ None → (n : ℕ) → n ≡ length (items_of s.bound) → ltb n 4 ≡ (is_none (bound_to i (bindings_of s)) && ltb (length (bindings_of s)) index_limit)
   unfolding index_limit
-  takes-room e = rw (← h, e) (sym (room-left s))
+  takes-room e n f = rw (← h, e) (ap (λ m. ltb m 4) (f ∙ sym (count-is s)))
 
 -- ---- the definition's scope
 

@@ -1,25 +1,21 @@
 -- A scope as the code holds it, and the bindings of the definition.
-use Rattle.std.specs.Prelude.{Bool, true, false, cond, List, [], ◌∷◌, ℕ, ◌≤◌, ltb, length, ℤ, nat_abs, Option}
+use Rattle.std.specs.Prelude.{cond, List, [], ◌∷◌, map, reverse, ℕ, ◌≤◌, ltb, length, ℤ, nat_abs, Option}
 use Rattle.rules.specs.Limits.{mantissa_limit, index_limit}
 use Rattle.value.specs.declared.Value.{Value}
 use Rattle.language.specs.Scope.{Binding, Scope}
+use Rattle.store.specs.Few.{items_of}
+use Rattle.evaluator.specs.declared.steps.scope.Binding.{Binding as HeldBinding}
 use Rattle.evaluator.specs.declared.steps.scope.Scope.{Scope as Held}
 
 abbrev pub binding : ℕ → ℤ → Binding
 binding i k = record { name = i; at = k }
 
--- an index that is bound where t holds
-abbrev pub bound_if : Bool → ℕ → ℤ → List Binding → List Binding
-bound_if true i k l = binding i k ∷ l
-bound_if false i k l = l
+abbrev pub binding_of : HeldBinding → Binding
+binding_of b = binding b.name b.at
 
 -- the bound indices, the last one first
 unfoldable pub bindings_of : Held → List Binding
-bindings_of s =
-    bound_if (ltb 3 s.count) s.fourth s.d
-    (bound_if (ltb 2 s.count) s.third s.c
-    (bound_if (ltb 1 s.count) s.second s.b
-    (bound_if (ltb 0 s.count) s.first s.a [])))
+bindings_of s = reverse (map binding_of (items_of s.bound))
 
 -- one index more, where there is room for it
 unfoldable pub bound_more : ℕ → ℤ → List Binding → List Binding

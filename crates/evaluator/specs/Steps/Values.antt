@@ -7,7 +7,7 @@ use Rattle.rules.specs.Limits.{mantissa_limit, run_limit, index_limit}
 use Rattle.value.specs.declared.Value.{Value}
 use Rattle.value.specs.Decimal.{in_range, negate, whole_of, of_whole}
 use Rattle.store.specs.Key.{key_of}
-use Rattle.store.specs.Table.{Sorted, word_in, found_row}
+use Rattle.store.specs.Table.{Table, word_in, found_row}
 use Rattle.store.specs.Packed.{unpacked}
 use Rattle.language.specs.Outcome.{Outcome, done, refused}
 use Rattle.language.specs.Ranges.{up_from}
@@ -112,9 +112,5 @@ word_answer p a (Some w) = Ok ((unpacked w), a)
 word_answer p a None = Err (record { refusal = Missing; place = p })
 
 -- the datum of a name and an element, found by halving
-unfoldable pub known_answer : List ℕ → ℕ → ℕ → List ℤ → ℕ → ℕ → Result (Value × ℕ) Refused
+unfoldable pub known_answer : Table → ℕ → ℕ → List ℤ → ℕ → ℕ → Result (Value × ℕ) Refused
 known_answer ds rows i ks p a = word_answer p a (word_in ds (found_row ds rows (key_of i ks)))
-
--- the same in a sorted table
-pub record KnownEarly (ds : List ℕ) (rows i : ℕ) (ks : List ℤ) (p a : ℕ) (r : Result (Value × ℕ) Refused) : Type 0 where
-  pub is : Sorted ds rows → r ≡ known_answer ds rows i ks p a

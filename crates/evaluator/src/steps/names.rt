@@ -4,7 +4,7 @@ ghost use Rattle.std.specs.Prelude.{◌≡◌, map, ◌≤◌, get_or};
 ghost use Rattle.evaluator.specs.Steps.Names.{number_kept, resolved_word, number_part, row_word, listed_of, index_number, Opens};
 
 use rules::Refused;
-use tokens::{Found, kinds};
+use tokens::{Found, Kind};
 
 // A name that the table tells of: its number, sort, number of indices, and the position of what was declared.
 #[derive(Clone, Copy)]
@@ -32,7 +32,7 @@ fn held_number(name: Option<Found>) -> u64
 fn resolved(text: &[u8], names: &[u64], w: u64) -> u64
     ensures { result ≡ resolved_word text.now names.now w }
 {
-    if w / tokens::KIND_UNIT != kinds::NAME {
+    if w / tokens::KIND_UNIT != Kind::Name as u64 {
         return w;
     }
     let p = w / tokens::PLACE_UNIT % tokens::PLACES;
@@ -106,7 +106,7 @@ pub fn index_number(tokens: &[u64], level: usize, at: usize) -> usize
     if tokens.len() <= at {
         return 0;
     }
-    if tokens[at] / tokens::KIND_UNIT != kinds::NAME {
+    if tokens[at] / tokens::KIND_UNIT != Kind::Name as u64 {
         return 0;
     }
     let n = number_at(tokens, at);

@@ -1,7 +1,7 @@
 // Tokens that are passed over: they were read before, and what stands there is not tested again.
 ghost use Rattle.evaluator.specs.Steps.Passing.{Skips, Ends, Leads};
 
-use lexer::marks;
+use lexer::Mark;
 use rules::Refused;
 
 // The position behind one token; behind the last one it stays.
@@ -21,11 +21,11 @@ pub fn behind_bracket(tokens: &[u64], at: usize) -> usize
     let mut depth: usize = 0;
     for i in at..tokens.len() {
         let k = tokens[i] / tokens::KIND_UNIT;
-        if (k == marks::LEFT_PAREN as u64) | (k == marks::LEFT_BRACKET as u64) {
+        if (k == Mark::LeftParen as u64) | (k == Mark::LeftBracket as u64) {
             depth += 1;
             continue;
         }
-        let closes = (k == marks::RIGHT_PAREN as u64) | (k == marks::RIGHT_BRACKET as u64);
+        let closes = (k == Mark::RightParen as u64) | (k == Mark::RightBracket as u64);
         if !closes {
             continue;
         }
@@ -42,8 +42,8 @@ pub fn sign(tokens: &[u64], at: usize) -> Result<(bool, usize), Refused>
     ensures { Leads tokens.now at result }
 {
     let token = tokens::token_at(tokens, at)?;
-    let minus = token.kind == marks::MINUS as u64;
-    if (token.kind == marks::PLUS as u64) | minus {
+    let minus = token.kind == Mark::Minus as u64;
+    if (token.kind == Mark::Plus as u64) | minus {
         return Ok((minus, token.next));
     }
     Ok((false, at))

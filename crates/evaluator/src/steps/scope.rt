@@ -5,18 +5,19 @@ ghost use Rattle.language.specs.Scope.{bound_to};
 ghost use Rattle.language.specs.Evaluation.{is_none};
 ghost use Rattle.evaluator.specs.Steps.Scopes.{bindings_of, bound_more};
 
-// The first `count` of four indices by their numbers, each with its whole number; the last one was bound last.
+use store::few::Few;
+
+// An index by its number, bound to a whole number.
+#[derive(Clone, Copy)]
+pub struct Binding {
+    pub name: usize,
+    pub at: i64,
+}
+
+// The bound indices; the last one was bound last.
 #[derive(Clone, Copy)]
 pub struct Scope {
-    pub count: usize,
-    pub first: usize,
-    pub second: usize,
-    pub third: usize,
-    pub fourth: usize,
-    pub a: i64,
-    pub b: i64,
-    pub c: i64,
-    pub d: i64,
+    pub bound: Few<Binding>,
 }
 
 impl Scope {
@@ -24,67 +25,35 @@ impl Scope {
         ensures { bindings_of result ≡ [] }
     {
         Scope {
-            count: 0,
-            first: 0,
-            second: 0,
-            third: 0,
-            fourth: 0,
-            a: 0,
-            b: 0,
-            c: 0,
-            d: 0,
+            bound: Few::none(Binding { name: 0, at: 0 }),
         }
     }
 
     // One index more; the same where four are bound.
-    pub fn bind(mut self, i: usize, k: i64) -> Self
+    pub fn bind(self, i: usize, k: i64) -> Self
         ensures { bindings_of result ≡ bound_more i k (bindings_of self) }
     {
-        let n = self.count;
-        match n {
-            0 => {
-                self.count = 1;
-                self.first = i;
-                self.a = k;
-                self
-            }
-            1 => {
-                self.count = 2;
-                self.second = i;
-                self.b = k;
-                self
-            }
-            2 => {
-                self.count = 3;
-                self.third = i;
-                self.c = k;
-                self
-            }
-            3 => {
-                self.count = 4;
-                self.fourth = i;
-                self.d = k;
-                self
-            }
-            _ => self,
+        Scope {
+            bound: self.bound.with(Binding { name: i, at: k }),
         }
     }
 
+    // What the index is bound to. Each place is named, as in `Few::with`.
     pub fn bound_to(self, i: usize) -> Option<i64>
         ensures { result ≡ bound_to i (bindings_of self) }
     {
-        let n = self.count;
-        if (3 < n) & (i == self.fourth) {
-            return Some(self.d);
+        let n = self.bound.count;
+        if (3 < n) & (i == self.bound.items[3].name) {
+            return Some(self.bound.items[3].at);
         }
-        if (2 < n) & (i == self.third) {
-            return Some(self.c);
+        if (2 < n) & (i == self.bound.items[2].name) {
+            return Some(self.bound.items[2].at);
         }
-        if (1 < n) & (i == self.second) {
-            return Some(self.b);
+        if (1 < n) & (i == self.bound.items[1].name) {
+            return Some(self.bound.items[1].at);
         }
-        if (0 < n) & (i == self.first) {
-            return Some(self.a);
+        if (0 < n) & (i == self.bound.items[0].name) {
+            return Some(self.bound.items[0].at);
         }
         None
     }
@@ -95,7 +64,7 @@ impl Scope {
     {
         match self.bound_to(i) {
             Some(_) => false,
-            None => self.count < rules::INDEX_LIMIT,
+            None => self.bound.length() < rules::INDEX_LIMIT,
         }
     }
 }

@@ -5,12 +5,12 @@ ghost use Rattle.rational.specs.Integer.{up};
 ghost use Rattle.value.specs.Decimal.{zero_value, product_of, sum_of, if_in_range, floor_of, ceiling_of};
 ghost use Rattle.store.specs.Element.{list_of, extended};
 ghost use Rattle.evaluator.specs.Steps.Scopes.{bindings_of, bound_more};
-ghost use Rattle.evaluator.specs.Steps.Values.{fitted_at, signed_value, whole_answer, bound_answer, SmallSpan, count_of, run_answer, number_in, inside_limits, Tests, word_answer, known_answer, KnownEarly};
+ghost use Rattle.evaluator.specs.Steps.Values.{fitted_at, signed_value, whole_answer, bound_answer, SmallSpan, count_of, run_answer, number_in, inside_limits, Tests, word_answer, known_answer};
 ghost use Rattle.store.specs.Table.{word_in};
 
 use super::scope::Scope;
 use rules::{Refused, refused};
-use store::Element;
+use store::{Element, Row};
 use value::Value;
 
 // The two limits of a run.
@@ -55,11 +55,12 @@ fn fitted(f: Option<Value>, p: u64, at: usize) -> Result<(Value, usize), Refused
     }
 }
 
+// A value under a sign. `minus` is the sign that was read: data, not a step.
 pub fn signed(minus: bool, v: Value) -> Value
     ensures { result ≡ signed_value minus v }
 {
     if minus {
-        return value::negated(v);
+        return -v;
     }
     v
 }
@@ -71,7 +72,7 @@ pub fn product(v: Value, w: Value, p: u64, at: usize) -> Result<(Value, usize), 
     fitted(value::mul(v, w), p, at)
 }
 
-// A sum or a difference, refused at p.
+// A sum or a difference, refused at p. `minus` is the sign that was read: data, not a step.
 pub fn sum(minus: bool, v: Value, w: Value, p: u64, at: usize) -> Result<(Value, usize), Refused>
     ensures { result ≡ fitted_at p at (if_in_range v (signed_value minus w) (sum_of v (signed_value minus w))) }
 {
@@ -85,9 +86,9 @@ pub fn sum(minus: bool, v: Value, w: Value, p: u64, at: usize) -> Result<(Value,
 pub fn whole(v: Value, p: u64, at: usize) -> Result<(Value, usize), Refused>
     ensures { result ≡ whole_answer p at v }
 {
-    match value::whole_of(v) {
-        Some(_) => Ok((v, at)),
-        None => refused!(NotWhole, p),
+    match i64::try_from(v) {
+        Ok(_) => Ok((v, at)),
+        Err(_) => refused!(NotWhole, p),
     }
 }
 
@@ -96,7 +97,7 @@ pub fn index_value(sc: Scope, i: usize, p: u64, at: usize) -> Result<(Value, usi
     ensures { result ≡ bound_answer p at sc i }
 {
     match sc.bound_to(i) {
-        Some(k) => Ok((value::of_whole(k), at)),
+        Some(k) => Ok((Value::from(k), at)),
         None => refused!(BadIndex, p),
     }
 }
@@ -239,7 +240,12 @@ pub fn test(sc: Scope, e: Element, j: usize, b: Bounds, p: u64) -> Result<Scope,
 // ---- data
 
 // The datum in the row that was found, or the refusal at p.
-fn datum(table: &[u64], found: Option<usize>, p: u64, at: usize) -> Result<(Value, usize), Refused>
+pub fn datum(
+    table: &[Row],
+    found: Option<usize>,
+    p: u64,
+    at: usize,
+) -> Result<(Value, usize), Refused>
     ensures { result ≡ word_answer p at (word_in table.now found) }
 {
     match found {
@@ -250,7 +256,7 @@ fn datum(table: &[u64], found: Option<usize>, p: u64, at: usize) -> Result<(Valu
 
 // The datum of a name and an element, read at p. The table is searched by halving, sorted or not.
 pub fn known(
-    table: &[u64],
+    table: &[Row],
     rows: usize,
     i: usize,
     e: Element,
@@ -261,19 +267,4 @@ pub fn known(
 {
     let key = store::key_of(i, e);
     datum(table, store::find(table, rows, key), p, at)
-}
-
-// The same in a sorted table, for a datum that is likely to have one of the first rows, as one without subscripts is.
-pub fn known_early(
-    table: &[u64],
-    rows: usize,
-    i: usize,
-    e: Element,
-    p: u64,
-    at: usize,
-) -> Result<(Value, usize), Refused>
-    ensures { KnownEarly table.now rows i (list_of e) p at result }
-{
-    let key = store::key_of(i, e);
-    datum(table, store::find_early(table, rows, key), p, at)
 }

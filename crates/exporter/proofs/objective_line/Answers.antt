@@ -7,4 +7,4 @@ use Rattle.exporter.proofs.objective_line.Goals as goal
 pub returns : goal.returns
 returns c =
     let e = rw (back c.count_at.type_inv) at c.value_of-v.ensures in
-    (objective-line _ _ _ _ _ c.count_at.ensures e c.negated-opposite.ensures c.value_line.ensures.0, omega arith)
+    (objective-line _ _ _ _ _ c.count_at.ensures e c.neg-opposite.ensures c.value_line.ensures.0, omega arith)

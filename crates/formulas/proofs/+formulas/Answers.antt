@@ -70,11 +70,11 @@ primary-returns-then-token t c = search (primary-sum, c.in_ok-token.was) depth 8
 pub primary-returns-then-token-2 : goal.primary-returns-then-token-2
 primary-returns-then-token-2 t c = search (primary-nested, c.in_ok-token.was) depth 8
 
-pub primary-returns-then-token-eq-NAME : goal.primary-returns-then-token-eq-NAME
-primary-returns-then-token-eq-NAME t c = search (primary-name, c.in_ok-token.was) depth 9
-
 pub primary-returns-then-token-3 : goal.primary-returns-then-token-3
-primary-returns-then-token-3 t c = search (primary-literal, c.in_ok-token.was) depth 8
+primary-returns-then-token-3 t c = search (primary-name, c.in_ok-token.was) depth 9
+
+pub primary-returns-then-token-4 : goal.primary-returns-then-token-4
+primary-returns-then-token-4 t c = search (primary-literal, c.in_ok-token.was) depth 8
 
 pub primary-returns : goal.primary-returns
 primary-returns t c = search (primary-other, c.in_ok-token.was) depth 11

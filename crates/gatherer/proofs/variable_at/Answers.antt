@@ -2,8 +2,8 @@
 use Rattle.gatherer.proofs.Numbers.{at_mark_lem, at-unknown, at-late, at-variable, at_other}
 use Rattle.gatherer.proofs.variable_at.Goals as goal
 
-pub returns-then-k-ne-NAME : goal.returns-then-k-ne-NAME
-returns-then-k-ne-NAME c = search at_mark_lem depth 5
+pub returns-then-k : goal.returns-then-k
+returns-then-k c = search at_mark_lem depth 5
 
 pub returns-in_err-name : goal.returns-in_err-name
 returns-in_err-name c = rw c.from_residual.ensures (search (at-unknown, c.in_err-name.was) depth 7)

@@ -3,4 +3,4 @@ use Rattle.generator.proofs.Answers.{report-gives}
 use Rattle.generator.proofs.answer_with.Goals as goal
 
 pub returns : goal.returns
-returns c = search report-gives depth 8
+returns g c = λ f d. let w = c.generate-generated.ensures f d in search report-gives depth 8

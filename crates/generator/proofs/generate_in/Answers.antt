@@ -4,7 +4,7 @@ use Rattle.generator.proofs.Listings.{text-unread, text-printed}
 use Rattle.generator.proofs.generate_in.Goals as goal
 
 pub returns-in_err-model : goal.returns-in_err-model
-returns-in_err-model c = let p = err_from_is_err_and c.from_residual.result c.from_residual.ensures.1 in rw (p.1, p.2) (search (text-unread, c.in_err-model.was) depth 8)
+returns-in_err-model g c = λ f d. let p = err_from_is_err_and c.from_residual.result c.from_residual.ensures.1 in rw (p.1, p.2) (search (text-unread, c.in_err-model.was) depth 8)
 
 pub returns : goal.returns
-returns c = search (text-printed, c.in_ok-model.was) depth 8
+returns g c = λ f d. let w = c.part.ensures f d in search (text-printed, c.in_ok-model.was) depth 8

@@ -3,4 +3,4 @@ use mathlib.Core.Path.{refl}
 use Rattle.generator.proofs.list.Goals as goal
 
 pub returns : goal.returns
-returns c = c.list_in.ensures.prints refl
+returns g c = λ f d. (c.list_in.ensures f d).prints refl

@@ -19,4 +19,4 @@ returns-in_err-v c =
 pub returns : goal.returns
 returns c =
     let p = strip_prefix_is Decides-eqb c.args.t.now (45 ∷ []) c.strip_prefix.result c.strip_prefix.ensures.cases in
-    minus-fits _ _ (MatchOption-at_some _ _ c.in-Some.digits c.in-Some.is p) _ c.literal-2.ensures _ _ c.in_ok-v.was c.negated.ensures
+    minus-fits _ _ (MatchOption-at_some _ _ c.in-Some.digits c.in-Some.is p) _ c.literal-2.ensures _ _ c.in_ok-v.was c.neg.ensures

@@ -2,8 +2,8 @@
 use Rattle.lexer.proofs.Tokens.{token-sign, token-number, token-name, token-word, token-other}
 use Rattle.lexer.proofs.token_at.Goals as goal
 
-pub returns-then-is_sign : goal.returns-then-is_sign
-returns-then-is_sign c = search token-sign depth 6
+pub returns-in-Some : goal.returns-in-Some
+returns-in-Some c = search token-sign depth 6
 
 pub returns-then-is_digit-pointed : goal.returns-then-is_digit-pointed
 returns-then-is_digit-pointed c = search token-number depth 11

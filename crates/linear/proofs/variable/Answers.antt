@@ -2,8 +2,8 @@
 use Rattle.linear.proofs.Laws.{variable-name, variable-other, variable-unknown, variable-mark}
 use Rattle.linear.proofs.variable.Goals as goal
 
-pub returns-then-k-ne-NAME : goal.returns-then-k-ne-NAME
-returns-then-k-ne-NAME c = search variable-mark depth 6
+pub returns-then-k : goal.returns-then-k
+returns-then-k c = search variable-mark depth 6
 
 pub returns-in_err-name : goal.returns-in_err-name
 returns-in_err-name c = rw c.from_residual.ensures (search (variable-unknown, c.in_err-name.was) depth 8)

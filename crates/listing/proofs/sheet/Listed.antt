@@ -24,7 +24,7 @@ use Rattle.language.specs.Proper.{Proper}
 use Rattle.language.proofs.ProperText.{kept-all}
 use Rattle.listing.specs.Shown.{shown_line, shown_lines}
 use Rattle.listing.proofs.Lines.{lines_join}
-use Rattle.store.specs.Table.{word_at}
+use Rattle.store.specs.Table.{Table, word_at}
 use Rattle.store.specs.Packed.{unpacked}
 use Rattle.store.specs.Entries.{variable_key}
 use Rattle.rows.specs.Slots.{objective_row, Slot}
@@ -56,7 +56,7 @@ line-join k ls w v = written_then _ _ _ _ _ _ _ _ w v
 
 -- ---- the lines of a problem, and what the tables tell of them
 
-module _ {s ns ts cs vs rs bs : List ℕ} {m : List ℤ} {z : Sizes} {at place bytes : ℕ} {x : Model} {p : Lp} (h : Shown s ns ts cs vs rs bs m z at place bytes x p) where
+module _ {s ns ts cs : List ℕ} {vs rs : Table} {bs : List ℕ} {m : List ℤ} {z : Sizes} {at place bytes : ℕ} {x : Model} {p : Lp} (h : Shown s ns ts cs vs rs bs m z at place bytes x p) where
   abbrev lesses : List Entry
   lesses = keep less_row p.entries
 
@@ -196,7 +196,7 @@ module _ {s ns ts cs vs rs bs : List ℕ} {m : List ℤ} {z : Sizes} {at place b
 
 -- ---- what `write` answers
 
-module _ (s ns ts cs vs rs bs : List ℕ) (m : List ℤ) (z : Sizes) (at place bytes : ℕ) where
+module _ (s ns ts cs : List ℕ) (vs rs : Table) (bs : List ℕ) (m : List ℤ) (z : Sizes) (at place bytes : ℕ) where
   pub lists-none : (b : Bool) (l : List ℕ) (r : ℕ) (l' : List ℕ) → b ≡ within (length s) z → not b ≡ true → Lists s ns ts cs vs rs bs m z at place bytes l r l'
   lists-none b l r l' e n = record { lines = λ x p h. never (sym (all-within h) ∙ sym e ∙ not-true b n) }
     where

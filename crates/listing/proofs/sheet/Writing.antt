@@ -1,5 +1,5 @@
 -- Laws of the lines that tables tell: one line written, and line after line.
-use Rattle.std.specs.Prelude.{Option, Some, None}
+use Rattle.std.specs.Prelude.{Option}
 use mathlib.Core.Path.{◌≡◌, refl, sym, ◌∙◌, ap, subst}
 use mathlib.Core.Bool.{Bool, cond}
 use mathlib.Core.List.{List, [], ◌∷◌, ◌++◌}
@@ -14,16 +14,16 @@ use Rattle.rules.specs.Limits.{byte_limit}
 use Rattle.value.specs.declared.Value.{Value}
 use Rattle.value.specs.Printed.{Written}
 use Rattle.language.specs.Listed.{At}
-use Rattle.language.specs.Listing.{Kind, Line, lp_line, row_line, low_line, var_line, kind_by, low_lines}
+use Rattle.language.specs.Listing.{Kind, Line, lp_line, row_line, var_line, kind_by, low_lines}
 use Rattle.language.specs.Listing as Listing
 use Rattle.listing.specs.Shown.{shown_line, shown_lines}
 use Rattle.listing.proofs.Writing.{Left, left-all, left-more, written_from}
-use Rattle.listing.proofs.Lines.{lines-append, lines_join, lines_none, lines_end}
+use Rattle.listing.proofs.Lines.{lines-append, lines_join, lines_end}
 use Rattle.listing.proofs.Lengths.{line-most}
 use Rattle.store.specs.declared.Element.{Element}
 use Rattle.store.specs.Element.{list_of}
 use Rattle.store.specs.Key.{name_of, element_of}
-use Rattle.store.specs.Table.{key_at, word_at}
+use Rattle.store.specs.Table.{Table, key_at, word_at}
 use Rattle.store.specs.Packed.{unpacked}
 use Rattle.store.proofs.Elements.{length-few}
 use Rattle.store.proofs.Back.{name_back, element-back}
@@ -53,7 +53,7 @@ module _ (l : List ℕ) (at from : ℕ) (f : from ≡ min at (length l)) {n : �
       → Written l at (shown_lines ks) (at + n) (put_mid from (length l - from) l p)
   lent-line k ks e w = rw e (one_line k (written_from l at from (shown_line k) n p f w))
 
-  pub row_written : (s ts cs rows : List ℕ) (k number w name : ℕ) (q : Kind) (v : Value) (title : List ℕ) (e : Element) → length s ≤ 16384 → w ≡ word_at rows k
+  pub row_written : (s ts cs : List ℕ) (rows : Table) (k number w name : ℕ) (q : Kind) (v : Value) (title : List ℕ) (e : Element) → length s ≤ 16384 → w ≡ word_at rows k
       → v ≡ unpacked w → name ≡ name_of (key_at rows k) → title ≡ title_of s ts cs name → list_of e ≡ element_of (key_at rows k)
       → Written (take (length l - from) (drop from l)) 0 (shown_line (row_line number q v title (list_of e))) n p
       → Writes 32000 (RowAlone s ts cs rows k number q) l at (at + n) (put_mid from (length l - from) l p)
@@ -67,12 +67,7 @@ module _ (l : List ℕ) (at from : ℕ) (f : from ≡ min at (length l)) {n : �
             lent-line _ z same written;
       }
 
-  pub low-written : (row : ℕ) (o : Option Value) (v : Value) → o ≡ Some v → Written (take (length l - from) (drop from l)) 0 (shown_line (low_line row v)) n p
-      → (Written l at (shown_lines (low_lines row o)) (at + n) (put_mid from (length l - from) l p)) × (at + n ≤ at + 128)
-  unfolding low_lines
-  low-written row o v e w = (lent-line (low_line row v) (low_lines row o) (ap (λ x. low_lines row x) e) w, omega (arith, w.next, line-most (low_line row v)))
-
-  pub variable-written : (s ns vs bs : List ℕ) (discrete j name : ℕ) (lower : Value) (upper : Option Value) (spelled : List ℕ) (e : Element) → length s ≤ 16384
+  pub variable-written : (s ns : List ℕ) (vs : Table) (bs : List ℕ) (discrete j name : ℕ) (lower : Value) (upper : Option Value) (spelled : List ℕ) (e : Element) → length s ≤ 16384
       → lower ≡ lower_in (lower_word bs j) → upper ≡ end_in (upper_word bs j) → name ≡ name_of (key_at vs j) → spelled ≡ name_at s ns name → list_of e ≡ element_of (key_at vs j)
       → Written (take (length l - from) (drop from l)) 0 (shown_line (var_line (j + 1) (ltb j discrete) lower upper spelled (list_of e))) n p
       → Writes 32768 (VariableTold s ns vs bs discrete j) l at (at + n) (put_mid from (length l - from) l p)
@@ -85,14 +80,8 @@ module _ (l : List ℕ) (at from : ℕ) (f : from ≡ min at (length l)) {n : �
             lent-line _ z same written;
       }
 
--- ---- a floor
-
-pub low-none : (row : ℕ) (o : Option Value) (l : List ℕ) (at : ℕ) → o ≡ None → (Written l at (shown_lines (low_lines row o)) at l) × (at ≤ at + 128)
-unfolding low_lines
-low-none row o l at e = (rw e (lines_none l at), omega arith)
-
 -- a row's line, and its floor's
-pub row-both : (s ts cs rows : List ℕ) (less i k : ℕ) (o : Option Value) (q : Kind) {l : List ℕ} {at r : ℕ} {l' : List ℕ} {r' : ℕ} {l'' : List ℕ} → k ≡ slot_at less i
+pub row-both : (s ts cs : List ℕ) (rows : Table) (less i k : ℕ) (o : Option Value) (q : Kind) {l : List ℕ} {at r : ℕ} {l' : List ℕ} {r' : ℕ} {l'' : List ℕ} → k ≡ slot_at less i
     → o ≡ end_in (word_at rows (floor_slot k)) → q ≡ cond (leb less i) Listing.equal (kind_by o) → Writes 32000 (RowAlone s ts cs rows k (i + 1) q) l at r l'
     → (Written l' r (shown_lines (low_lines (i + 1) o)) r' l'') × (r' ≤ r + 128) → Writes 32768 (RowTold s ts cs rows less i) l at r' l''
 unfolding floor_in kind_at

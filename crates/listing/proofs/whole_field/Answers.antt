@@ -5,5 +5,5 @@ use Rattle.listing.proofs.whole_field.Goals as goal
 
 pub returns : goal.returns
 returns c =
-    let e = rw (to_z-of_z c.ranges.k) at c.of_whole.ensures in
+    let e = rw (to_z-of_z c.ranges.k) at c.from.ensures in
     (rw (whole_is _ _ e) at c.value_field.ensures.0, c.value_field.ensures.1)

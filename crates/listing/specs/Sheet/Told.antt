@@ -7,7 +7,7 @@ use Rattle.language.specs.Listing.{Kind, Line, row_line, var_line, kind_by, low_
 use Rattle.language.specs.Listing as Listing
 use Rattle.listing.specs.Shown.{shown_lines}
 use Rattle.store.specs.Key.{key_of}
-use Rattle.store.specs.Table.{key_at, word_at}
+use Rattle.store.specs.Table.{Table, key_at, word_at}
 use Rattle.store.specs.Packed.{unpacked}
 use Rattle.store.specs.Entries.{Keyed}
 use Rattle.rows.specs.Bounds.{lower_word, upper_word}
@@ -16,7 +16,7 @@ use Rattle.rows.specs.Slots.{floor_slot}
 use Rattle.listing.specs.Sheet.Strings.{name_at, title_of}
 
 -- the floor of a slot, and the kind of row i, from 0, of which the first `less` are those of `<=` and `>=`
-unfoldable pub floor_in : List ℕ → ℕ → Option Value
+unfoldable pub floor_in : Table → ℕ → Option Value
 floor_in rows k = end_in (word_at rows (floor_slot k))
 
 unfoldable pub kind_at : ℕ → ℕ → Option Value → Kind
@@ -27,7 +27,7 @@ concat [] = []
 concat (ks ∷ kss) = ks ++ concat kss
 
 -- the line of the row in slot k, of number n and kind q
-pub record RowAlone (s ts cs rows : List ℕ) (k n : ℕ) (q : Kind) (ks : List Line) : Type 0 where
+pub record RowAlone (s ts cs : List ℕ) (rows : Table) (k n : ℕ) (q : Kind) (ks : List Line) : Type 0 where
   pub constraint : ℕ
   pub element : List ℤ
   pub keyed : Keyed constraint element
@@ -35,13 +35,13 @@ pub record RowAlone (s ts cs rows : List ℕ) (k n : ℕ) (q : Kind) (ks : List 
   pub is : ks ≡ row_line n q (unpacked (word_at rows k)) (title_of s ts cs constraint) element ∷ []
 
 -- the lines of row i, from 0: its own, and its floor's
-pub record RowTold (s ts cs rows : List ℕ) (less i : ℕ) (ks : List Line) : Type 0 where
+pub record RowTold (s ts cs : List ℕ) (rows : Table) (less i : ℕ) (ks : List Line) : Type 0 where
   pub own : List Line
   pub alone : RowAlone s ts cs rows (slot_at less i) (i + 1) (kind_at less i (floor_in rows (slot_at less i))) own
   pub is : ks ≡ own ++ low_lines (i + 1) (floor_in rows (slot_at less i))
 
 -- the line of variable j, from 0
-pub record VariableTold (s ns vs bs : List ℕ) (discrete j : ℕ) (ks : List Line) : Type 0 where
+pub record VariableTold (s ns : List ℕ) (vs : Table) (bs : List ℕ) (discrete j : ℕ) (ks : List Line) : Type 0 where
   pub name : ℕ
   pub element : List ℤ
   pub keyed : Keyed name element

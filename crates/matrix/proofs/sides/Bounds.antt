@@ -37,8 +37,9 @@ use Rattle.matrix.specs.declared.sides.Bounded.{Bounded}
 use Rattle.matrix.specs.Sides.Answers.{LeftAt, EndsAt, ends_of, EndsFound, EndsAre, NumberOf, fact_with, BoundFound, BoundIs}
 use Rattle.constraints.proofs.SideLaws.{bare-side}
 use Rattle.matrix.proofs.sides.EndLaws.{with_floor, bare_ends}
+use Rattle.store.specs.Table.{Table}
 
-module _ (ns ts ds : List ℕ) (given : ℕ) (xs : List ℕ) (total level : ℕ) (sc : Scope) where
+module _ (ns ts : List ℕ) (ds : Table) (given : ℕ) (xs : Table) (total level : ℕ) (sc : Scope) where
   -- ---- the variable's number
 
   -- a variable, with sigmas and without

@@ -31,6 +31,7 @@ use Rattle.evaluator.specs.Cycle.{formula_in, value_outcome, ValidAnswer, seen_b
 use Rattle.constraints.specs.Rows.{has_floor}
 use Rattle.rows.specs.Slots.{floor_word}
 use Rattle.matrix.specs.Sides.Answers.{EndsAt, ends_of, EndsAre, fact_with}
+use Rattle.store.specs.Table.{Table}
 
 -- ---- what is made with both
 
@@ -67,7 +68,7 @@ no-floor at_least s h = refl
 no-floor equal s h = refl
 no-floor (between g) s h = absurd (false-true (sym h))
 
-module _ (ns ts ds : List ℕ) (given level : ℕ) (sc : Scope) where
+module _ (ns ts : List ℕ) (ds : Table) (given level : ℕ) (sc : Scope) where
   module _ (at : ℕ) (v : Result (Value × ℕ) Refused) (f : Values (formula_in nesting_limit) ns ts ds given level sc at v) (w : World ns ts ds given) (s : Small sc) where
     valid-at : (y : Result (Value × ℕ) Refused) → v ≡ y → ValidAnswer y
     valid-at y e = subst ValidAnswer e (f.valid w s)

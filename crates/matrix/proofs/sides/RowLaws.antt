@@ -32,6 +32,7 @@ use Rattle.gatherer.specs.Cycle.{gather_in, Model, Does, Gathers}
 use Rattle.matrix.specs.Sides.Answers.{LeftAt, FormAt, EndsAt, ends_of, EndsFound, EndsAre, fact_with, as_is, Holds, GathersTo, Turns, Rowed, RightIs}
 use Rattle.constraints.proofs.SideLaws.{form-side}
 use Rattle.matrix.proofs.sides.EndLaws.{with_floor, form-ends}
+use Rattle.store.specs.Table.{Table}
 
 -- ---- a sign before each coefficient
 
@@ -49,7 +50,7 @@ one-valid : Valid one_value
 unfolding mantissa_limit scale_limit
 one-valid = record { small = omega arith; places = omega arith; least = λ h. absurd (omega arith) }
 
-module _ (ns ts ds : List ℕ) (given : ℕ) (xs : List ℕ) (total level : ℕ) (sc : Scope) where
+module _ (ns ts : List ℕ) (ds : Table) (given : ℕ) (xs : Table) (total level : ℕ) (sc : Scope) where
   module _ (at : ℕ) (m m₀ : List ℤ) (e : m₀ ≡ replicate (length m) (pos 0)) (z : Result ℕ Refused) (m' : List ℤ) (h : Gathers (gather_in nesting_limit) ns ts ds given xs total level sc at one_value false m₀ z m') (s : length m' ≡ length m₀) where
     same_size : length m' ≡ length m
     same_size = s ∙ ap (λ (l : List ℤ). length l) e ∙ length-replicate (length m) (pos 0)

@@ -24,10 +24,11 @@ use Rattle.rows.specs.Slots.{floor_word}
 use Rattle.rows.specs.Counts.{RowOf}
 use Rattle.gatherer.specs.Cycle.{Model, number_outcome}
 use Rattle.matrix.specs.declared.sides.Bounded.{Bounded}
+use Rattle.store.specs.Table.{Table}
 
 -- ---- what stands at a position, read with the first `level` names
 
-module _ {ns ts ds : List ℕ} {given : ℕ} {xs : List ℕ} {total : ℕ} (w : Model ns ts ds given xs total) (level : ℕ) where
+module _ {ns ts : List ℕ} {ds : Table} {given : ℕ} {xs : Table} {total : ℕ} (w : Model ns ts ds given xs total) (level : ℕ) where
   abbrev pub LeftAt : ℕ → Side → Type 0
   LeftAt at l = SideAt w.world.text ts at (seen_by w.world level) l
 
@@ -35,7 +36,7 @@ module _ {ns ts ds : List ℕ} {given : ℕ} {xs : List ℕ} {total : ℕ} (w : 
   FormAt at x = Stands (linear_at (seen_by w.world level) nesting_limit) w.world.text ts at x
 
 -- a right side and the floor of a relation, if it has one
-pub record EndsAt {ns ts ds : List ℕ} {given : ℕ} (w : World ns ts ds given) (level at : ℕ) (g : Formula) (e : Relation) : Type 0 where
+pub record EndsAt {ns ts : List ℕ} {ds : Table} {given : ℕ} (w : World ns ts ds given) (level at : ℕ) (g : Formula) (e : Relation) : Type 0 where
   pub right : Stands (formula_at (seen_by w level) nesting_limit) w.text ts at g
   pub floor : FloorAt (seen_by w level) right.rest e
 
@@ -60,12 +61,12 @@ abbrev pub EndsFound : Outcome (Value × Option Value) → Result (Value × ℕ)
 EndsFound o (Ok (v, w)) = EndsHeld o v w
 EndsFound o (Err e) = o ≡ refused e.refusal e.place
 
-pub record EndsAre (b : Bool) (ns ts ds : List ℕ) (given level : ℕ) (sc : Scope) (at : ℕ) (r : Result (Value × ℕ) Refused) : Type 0 where
+pub record EndsAre (b : Bool) (ns ts : List ℕ) (ds : Table) (given level : ℕ) (sc : Scope) (at : ℕ) (r : Result (Value × ℕ) Refused) : Type 0 where
   pub is : (w : World ns ts ds given) → Small sc → (g : Formula) (e : Relation) → has_floor e ≡ b → EndsAt w level at g e → EndsFound (ends_of g e (under w sc)) r
 
 -- ---- bounds
 
-pub record NumberOf (ns ts ds : List ℕ) (given : ℕ) (xs : List ℕ) (total level : ℕ) (sc : Scope) (at : ℕ) (r : Result (ℕ × ℕ) Refused) : Type 0 where
+pub record NumberOf (ns ts : List ℕ) (ds : Table) (given : ℕ) (xs : Table) (total level : ℕ) (sc : Scope) (at : ℕ) (r : Result (ℕ × ℕ) Refused) : Type 0 where
   pub is : (w : Model ns ts ds given xs total) → Small sc → (i : ℕ) (d : Spans) (fs : Formulas) (p : ℕ) → LeftAt w level at (bare i d fs p)
       → variable_at w.variables i d fs p (under w.world sc) ≡ what_of (number_outcome w.world.text ts r)
   pub below : Model ns ts ds given xs total → (j a : ℕ) → r ≡ Ok (j, a) → j < total
@@ -91,7 +92,7 @@ BoundFound total o (Ok x) = BoundHeld total o x.variable x.right x.floor
 BoundFound total o (Err e) = o ≡ refused e.refusal e.place
 
 -- the bound of a side that states one, under a relation that has a floor or not
-pub record BoundIs (b : Bool) (ns ts ds : List ℕ) (given : ℕ) (xs : List ℕ) (total level : ℕ) (sc : Scope) (left right : ℕ) (r : Result Bounded Refused) : Type 0 where
+pub record BoundIs (b : Bool) (ns ts : List ℕ) (ds : Table) (given : ℕ) (xs : Table) (total level : ℕ) (sc : Scope) (left right : ℕ) (r : Result Bounded Refused) : Type 0 where
   pub is : (w : Model ns ts ds given xs total) → Small sc → (l : Side) → is_bare l ≡ true → LeftAt w level left l → (g : Formula) (e : Relation) → has_floor e ≡ b
       → EndsAt w.world level right g e → BoundFound total (fact_with w.variables l e g (under w.world sc)) r
 
@@ -111,7 +112,7 @@ Holds vs F o (Ok tt) m = Held vs F o m
 Holds vs F o (Err e) m = o ≡ refused e.refusal e.place
 
 -- the row of the linear form at a position, whatever the counts m were, one for each variable
-pub record GathersTo (F : Row → Row) (ns ts ds : List ℕ) (given : ℕ) (xs : List ℕ) (total level : ℕ) (sc : Scope) (at : ℕ) (m : List ℤ) (r : Result Unit Refused) (m' : List ℤ) : Type 0 where
+pub record GathersTo (F : Row → Row) (ns ts : List ℕ) (ds : Table) (given : ℕ) (xs : Table) (total level : ℕ) (sc : Scope) (at : ℕ) (m : List ℤ) (r : Result Unit Refused) (m' : List ℤ) : Type 0 where
   pub size : length m' ≡ length m
   pub is : (w : Model ns ts ds given xs total) → Small sc → length m ≡ total → (x : Linear) → FormAt w level at x
       → Holds w.variables F (gathered w.variables x.form (under w.world sc)) r m'
@@ -136,7 +137,7 @@ Rowed vs o (Ok (v, w)) m = RowOn vs o v w m
 Rowed vs o (Err e) m = o ≡ refused e.refusal e.place
 
 -- the row of a side that states none, under a relation that flips both sides or not, and has a floor or not
-pub record RightIs (b q : Bool) (ns ts ds : List ℕ) (given : ℕ) (xs : List ℕ) (total level : ℕ) (sc : Scope) (left right : ℕ) (m : List ℤ) (r : Result (Value × ℕ) Refused) (m' : List ℤ) : Type 0 where
+pub record RightIs (b q : Bool) (ns ts : List ℕ) (ds : Table) (given : ℕ) (xs : Table) (total level : ℕ) (sc : Scope) (left right : ℕ) (m : List ℤ) (r : Result (Value × ℕ) Refused) (m' : List ℤ) : Type 0 where
   pub size : length m' ≡ length m
   pub is : (w : Model ns ts ds given xs total) → Small sc → length m ≡ total → (l : Side) → is_bare l ≡ false → LeftAt w level left l → (g : Formula) (e : Relation) → flips e ≡ b → has_floor e ≡ q
       → EndsAt w.world level right g e → Rowed w.variables (fact_with w.variables l e g (under w.world sc)) r m'

@@ -19,7 +19,7 @@ use Rattle.store.specs.declared.Key.{Key}
 use Rattle.store.specs.declared.Element.{Element}
 use Rattle.store.specs.Element.{list_of, Subscripts}
 use Rattle.store.specs.Key.{name_bound, key_number, key_of}
-use Rattle.store.specs.Table.{row_of, word_in, lookup, found_row}
+use Rattle.store.specs.Table.{Table, row_of, word_in, lookup, found_row}
 use Rattle.store.specs.Entries.{Keyed}
 use Rattle.store.proofs.Halving.{finds-row}
 use Rattle.evaluator.specs.declared.steps.scope.Scope.{Scope as HeldScope}
@@ -37,7 +37,7 @@ use Rattle.problem.specs.Missing.Given.{IsGiven, Declares, DomainGiven, Asking}
 
 -- ---- a value at an element
 
-module _ (ds : List ℕ) (n i : ℕ) (l : List ℤ) (k : Key) (r : Option ℕ) (e : key_number k ≡ key_of i l) (f : r ≡ found_row ds n (key_number k)) where
+module _ (ds : Table) (n i : ℕ) (l : List ℤ) (k : Key) (r : Option ℕ) (e : key_number k ≡ key_of i l) (f : r ≡ found_row ds n (key_number k)) where
   given-found : (j : ℕ) → r ≡ Some j → IsGiven ds n i l true
   unfolding lookup word_in
   given-found j p = record { is = λ s. rw (ap (row_of ds n) (sym e) ∙ sym ((finds-row ds n (key_number k) r f).is_row s) ∙ p) }
@@ -57,7 +57,7 @@ none_in : (o : Option ℕ) → is_none (value_in o) ≡ is_none o
 none_in None = refl
 none_in (Some x) = refl
 
-module _ {ns ts ds : List ℕ} {given : ℕ} (w : World ns ts ds given) (i : ℕ) (h : i < length w.names) where
+module _ {ns ts : List ℕ} {ds : Table} {given : ℕ} (w : World ns ts ds given) (i : ℕ) (h : i < length w.names) where
   keyed : (l : List ℤ) → Subscripts l → Keyed i l
   unfolding name_bound name_limit
   keyed l s = record { named = omega (arith, w.tables.few); subscripts = s }
@@ -71,29 +71,22 @@ module _ {ns ts ds : List ℕ} {given : ℕ} (w : World ns ts ds given) (i : ℕ
 
 -- ---- the loop
 
-module _ (ns ts ds : List ℕ) (given i : ℕ) where
+module _ (ns ts : List ℕ) (ds : Table) (given i : ℕ) where
   -- from the first element on
-  asking-from : (count at : ℕ) (x : Result (Option Here) Refused) → count ≡ row_word ns i 3 → at ≡ row_word ns i 4 → FirstIs ns ts ds given i count at x → Asking ns ts ds given i x
+  pub asking-from : (count at : ℕ) (x : Result (Option Here) Refused) → count ≡ row_word ns i 3 → at ≡ row_word ns i 4 → FirstIs ns ts ds given i count at x → Asking ns ts ds given i x
   asking-from count at x p q f = record { left = λ w d D. loop-start w i _ _ _ d D.domain D.count x (rw (p, q) at f) tt }
 
-  stopped : (x : Result (Option Here) Refused) → Asking ns ts ds given i x → (e : Refused) → x ≡ Err e → DomainGiven ns ts ds given i (Err e)
-  stopped x a z y = let b = subst (Asking ns ts ds given i) y a in record { is = λ w d D. loop-stopped w i _ _ _ z tt _ (b.left w d D) }
+  module _ (x : Result (Option Here) Refused) (a : Asking ns ts ds given i x) where
+    pub asked-stopped : (e : Refused) → x ≡ Err e → DomainGiven ns ts ds given i (Err e)
+    asked-stopped z y = let b = subst (Asking ns ts ds given i) y a in record { is = λ w d D. loop-stopped w i _ _ _ z tt _ (b.left w d D) }
 
-  module _ (count at : ℕ) (x : Result (Option Here) Refused) (p : count ≡ row_word ns i 3) (q : at ≡ row_word ns i 4) (f : FirstIs ns ts ds given i count at x) where
-    pub asking-first : (s : Option Here) → x ≡ Ok s → Asking ns ts ds given i (Ok s)
-    asking-first s y = subst (Asking ns ts ds given i) y (asking-from count at x p q f)
-
-    pub asked-none : (e : Refused) → x ≡ Err e → DomainGiven ns ts ds given i (Err e)
-    asked-none = stopped x (asking-from count at x p q f)
-
-  module _ (s : Option Here) (a : Asking ns ts ds given i (Ok s)) where
-    pub asked-all : s ≡ None → DomainGiven ns ts ds given i (Ok tt)
-    asked-all y = let b = subst (λ s. Asking ns ts ds given i (Ok s)) y a in record { is = λ w d D. loop-done w i _ _ _ tt _ (b.left w d D) }
+    pub asked-all : x ≡ Ok None → DomainGiven ns ts ds given i (Ok tt)
+    asked-all y = let b = subst (Asking ns ts ds given i) y a in record { is = λ w d D. loop-done w i _ _ _ tt _ (b.left w d D) }
 
     -- at an element
-    module _ (h : Here) (y : s ≡ Some h) (e : Element) (q : list_of e ≡ map number_of (held h)) (b : Bool) (g : IsGiven ds given i (list_of e) b) where
+    module _ (h : Here) (y : x ≡ Ok (Some h)) (e : Element) (q : list_of e ≡ map number_of (held h)) (b : Bool) (g : IsGiven ds given i (list_of e) b) where
       asking : Asking ns ts ds given i (Ok (Some h))
-      asking = subst (λ s. Asking ns ts ds given i (Ok s)) y a
+      asking = subst (Asking ns ts ds given i) y a
 
       step-at : (w : World ns ts ds given) (d : Spans) → Declares w i d → is_given i (row_word ns i 0) (under w (scope_at h)) (list_of e) tt ≡ check Missing (row_word ns i 0) b
       step-at w d D =
@@ -106,15 +99,8 @@ module _ (ns ts ds : List ℕ) (given i : ℕ) where
             (step-at w d D ∙ ap (check Missing (row_word ns i 0)) (not-true b n) ∙ ap (refused Missing) (sym o));
       }
 
-      module _ (n : not b ≡ false) (z : Result (Option Here) Refused) (f : NextIs ns ts ds given i h z) where
-        asking-on : Asking ns ts ds given i z
-        asking-on = record {
-          left = λ w d D.
-              loop-more w i _ _ _ h tt _ (asking.left w d D) (scope_at h) (scope-held h) e q tt z (step-at w d D ∙ ap (check Missing (row_word ns i 0)) (not-false b n)) f;
-        }
-
-        pub asking-next : (s' : Option Here) → z ≡ Ok s' → Asking ns ts ds given i (Ok s')
-        asking-next s' v = subst (Asking ns ts ds given i) v asking-on
-
-        pub asked-stopped : (e : Refused) → z ≡ Err e → DomainGiven ns ts ds given i (Err e)
-        asked-stopped = stopped z asking-on
+      pub asking-next : not b ≡ false → (z : Result (Option Here) Refused) → NextIs ns ts ds given i h z → Asking ns ts ds given i z
+      asking-next n z f = record {
+        left = λ w d D.
+            loop-more w i _ _ _ h tt _ (asking.left w d D) (scope_at h) (scope-held h) e q tt z (step-at w d D ∙ ap (check Missing (row_word ns i 0)) (not-false b n)) f;
+      }

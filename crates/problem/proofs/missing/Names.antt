@@ -22,10 +22,11 @@ use Rattle.evaluator.specs.Cycle.{passed_outcome, seen_by, nothing_bound}
 use Rattle.evaluator.proofs.Names.{below_length, Split, split}
 use Rattle.elements.specs.Placed.{Placed}
 use Rattle.problem.specs.Missing.Given.{DomainGiven, NameGiven, AllGiven, GivenTo}
+use Rattle.store.specs.Table.{Table}
 
 -- ---- one name
 
-module _ (ns ts ds : List ℕ) (given i k : ℕ) (e : k ≡ row_word ns i 2) where
+module _ (ns ts : List ℕ) (ds : Table) (given i k : ℕ) (e : k ≡ row_word ns i 2) where
   pub name-data : (r : Result Unit Refused) → (eqb k 1 || eqb k 2) ≡ true → DomainGiven ns ts ds given i r → NameGiven ns ts ds given i r
   unfolding given_by
   name-data r t f = record {
@@ -61,7 +62,7 @@ module _ (ns ts ds : List ℕ) (given i k : ℕ) (e : k ≡ row_word ns i 2) whe
 
 -- ---- name after name
 
-module _ (ns ts ds : List ℕ) (given : ℕ) where
+module _ (ns ts : List ℕ) (ds : Table) (given : ℕ) where
   pub given-none : GivenTo ns ts ds given 0
   given-none = record { left = λ w p. refl }
 

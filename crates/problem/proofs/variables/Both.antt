@@ -18,6 +18,7 @@ use Rattle.evaluator.proofs.Names.{below_length}
 use Rattle.elements.specs.Placed.{Placed}
 use Rattle.problem.specs.Variables.Order.{InOrder}
 use Rattle.problem.specs.Variables.Numbers.{Adds, Answers, Taken, Picks, Above, AddsSort, discrete_ones, continuous_ones, Counts, NumbersAs}
+use Rattle.store.specs.Table.{Table}
 
 -- ---- a sort by its number
 
@@ -63,7 +64,7 @@ picks-continuous = record { takes = takes; leaves = leaves }
 
 -- ---- both
 
-module _ (ns ts ds : List ℕ) (given : ℕ) (t t₁ : List ℕ) (x : Result ℕ Refused) (m : AddsSort ns ts ds given 4 0 t x t₁) where
+module _ (ns ts : List ℕ) (ds : Table) (given : ℕ) (t t₁ : Table) (x : Result ℕ Refused) (m : AddsSort ns ts ds given 4 0 t x t₁) where
   first : (w : World ns ts ds given) → Placed ns w.names → Answers (discrete_ones w) (Above as_discrete w.names) [] x t₁
   unfolding variable_limit
   first w p = m.is w as_discrete [] p picks-discrete (record { rows = numbered-none t; few = omega arith }) (λ j y e _ _ _. tt)
@@ -75,7 +76,7 @@ module _ (ns ts ds : List ℕ) (given : ℕ) (t t₁ : List ℕ) (x : Result ℕ
         ap (λ y. y >>= λ vs. continuous_ones w vs) z;
   }
 
-  module _ (a : ℕ) (e : x ≡ Ok a) (t₂ : List ℕ) (y : Result ℕ Refused) (n : AddsSort ns ts ds given 5 a t₁ y t₂) where
+  module _ (a : ℕ) (e : x ≡ Ok a) (t₂ : Table) (y : Result ℕ Refused) (n : AddsSort ns ts ds given 5 a t₁ y t₂) where
     module _ (w : World ns ts ds given) (p : Placed ns w.names) (o : InOrder w.names) where
       discretes : Adds (discrete_ones w) (Above as_discrete w.names) [] a t₁
       discretes = subst (λ z. Answers (discrete_ones w) (Above as_discrete w.names) [] z t₁) e (first w p)

@@ -4,7 +4,7 @@ use Rattle.rules.specs.declared.Refused.{Refused}
 use mathlib.Core.Path.{◌≡◌, refl, sym, ◌∙◌, ap, subst, subst₂}
 use mathlib.Core.Bool.{true}
 use mathlib.Core.List.{List, [], ◌∷◌, ◌++◌, map}
-use Prim.Native.Nat.{ℕ, ◌+◌, ◌-◌, ◌/◌, ◌<◌, ◌≤◌}
+use Prim.Native.Nat.{ℕ, ◌+◌, ◌-◌, ◌<◌, ◌≤◌}
 use native.Mathlib.Omega.{arith}
 use borrow.Author.Tests.{lt-ltb, le-ltb}
 use lib.ListN.{length}
@@ -23,7 +23,7 @@ use Rattle.store.specs.declared.Element.{Element}
 use Rattle.store.specs.declared.Key.{Key}
 use Rattle.store.specs.Element.{list_of}
 use Rattle.store.specs.Key.{key_number, key_of}
-use Rattle.store.specs.Table.{key_at, has_room, appended}
+use Rattle.store.specs.Table.{Table, key_at, has_room, appended}
 use Rattle.store.specs.Entries.{Keyed, variable_key, Numbered}
 use Rattle.store.proofs.Keys.{key-name, key-precedes}
 use Rattle.store.proofs.Rows.{append-size}
@@ -52,24 +52,24 @@ added_more d s e vs h = rw (lt-ltb (length vs) variable_limit h)
 -- ---- keys rise
 
 -- the last row is below any element of the name that r has
-abbrev Under : List ℕ → ℕ → ℕ → Result (Option Here) Refused → Type 0
+abbrev Under : Table → ℕ → ℕ → Result (Option Here) Refused → Type 0
 Under t n i (Ok (Some h)) = (e : Element) → list_of e ≡ map number_of (held h) → 0 < n → key_at t (n - 1) < key_of i (list_of e)
 Under t n i (Ok None) = Unit {0}
 Under t n i (Err e) = Unit {0}
 
 -- where all variables are of names before
-last-below : (t : List ℕ) (n i : ℕ) (vs : List Variable) (l : List ℤ) → Numbered t n vs → All (Below i) vs → Keyed i l → 0 < n → key_at t (n - 1) < key_of i l
+last-below : (t : Table) (n i : ℕ) (vs : List Variable) (l : List ℤ) → Numbered t n vs → All (Below i) vs → Keyed i l → 0 < n → key_at t (n - 1) < key_of i l
 last-below t n i [] l h b a f = absurd (omega (arith, h.count))
 last-below t n i (v ∷ vs) l h b a f =
     let x = all_get_d (Below i) (v ∷ vs) (n - 1) v b b.0 in
     subst (λ k. k < key_of i l) (sym (h.keys (n - 1) v (omega arith))) (key-name x.keyed a x.less)
 
-last-key : (t : List ℕ) (n : ℕ) (vs : List Variable) (v : Variable) → n ≡ length vs → Numbered t (n + 1) (vs ++ (v ∷ [])) → key_at t n ≡ variable_key v
+last-key : (t : Table) (n : ℕ) (vs : List Variable) (v : Variable) → n ≡ length vs → Numbered t (n + 1) (vs ++ (v ∷ [])) → key_at t n ≡ variable_key v
 last-key t n vs v c h = subst (λ (m : ℕ). key_at t m ≡ variable_key v) (sym c) (numbered-last t vs v (subst (λ (m : ℕ). Numbered t (m + 1) (vs ++ (v ∷ []))) c h))
 
 -- ---- the loop
 
-module _ (ns ts ds : List ℕ) (given i from : ℕ) (t₀ : List ℕ) where
+module _ (ns ts : List ℕ) (ds : Table) (given i from : ℕ) (t₀ : Table) where
   abbrev step : Spans → Scope → List ℤ → List Variable → Outcome (List Variable)
   step d = add_variable (declared_at ns i d)
 
@@ -80,16 +80,16 @@ module _ (ns ts ds : List ℕ) (given i from : ℕ) (t₀ : List ℕ) where
   outcome w d = over d (nothing_bound w) (step d)
 
   -- at a turn, for a domain d and the variables vs at the start
-  record OnAt (w : World ns ts ds given) (d : Spans) (vs : List Variable) (t : List ℕ) (n : ℕ) (r : Result (Option Here) Refused) : Type 0 where
+  record OnAt (w : World ns ts ds given) (d : Spans) (vs : List Variable) (t : Table) (n : ℕ) (r : Result (Option Here) Refused) : Type 0 where
     variables : List Variable
     remains : Left w d r variables (outcome w d vs)
     held : Held t n variables
     below : (k : ℕ) → i < k → All (Below k) vs → All (Below k) variables
     under : Under t n i r
 
-  pub record NameOn (t : List ℕ) (n : ℕ) (r : Result (Option Here) Refused) : Type 0 where
+  pub record NameOn (t : Table) (n : ℕ) (r : Result (Option Here) Refused) : Type 0 where
     pub size : length t ≡ length t₀
-    pub room : 2048 ≤ length t
+    pub room : 512 ≤ length t
     on : (w : World ns ts ds given) (d : Spans) (vs : List Variable) → Ranges w i d → Held t₀ from vs → All (Below i) vs → OnAt w d vs t n r
 
   -- an element has a key
@@ -100,8 +100,8 @@ module _ (ns ts ds : List ℕ) (given i from : ℕ) (t₀ : List ℕ) where
     subscripts = loop-subscripts w i (row_word ns i 3) (row_word ns i 4) (step d) h vs o m (scope_at h) (scope-held h) e q;
   }
 
-  name-from : (c at : ℕ) (r : Result (Option Here) Refused) → c ≡ row_word ns i 3 → at ≡ row_word ns i 4 → FirstIs ns ts ds given i c at r → 2048 ≤ length t₀ → NameOn t₀ from r
-  name-from c at r p q f l = record { size = refl; room = l; on = go }
+  pub name-start : (c at : ℕ) (r : Result (Option Here) Refused) → c ≡ row_word ns i 3 → at ≡ row_word ns i 4 → FirstIs ns ts ds given i c at r → 512 ≤ length t₀ → NameOn t₀ from r
+  name-start c at r p q f l = record { size = refl; room = l; on = go }
     where
       first : FirstIs ns ts ds given i (row_word ns i 3) (row_word ns i 4) r
       first = subst₂ (λ x y. FirstIs ns ts ds given i x y r) p q f
@@ -117,8 +117,8 @@ module _ (ns ts ds : List ℕ) (given i from : ℕ) (t₀ : List ℕ) where
           lower (Ok None) m = tt
           lower (Err e) m = tt
 
-  stopped : (t : List ℕ) (n : ℕ) (r : Result (Option Here) Refused) → NameOn t n r → (e : Refused) → r ≡ Err e → AddsName ns ts ds given i from t₀ (Err e) t
-  stopped t n r s z e = record { size = s.size; is = go }
+  pub name-stopped : (t : Table) (n : ℕ) (r : Result (Option Here) Refused) → NameOn t n r → (e : Refused) → r ≡ Err e → AddsName ns ts ds given i from t₀ (Err e) t
+  name-stopped t n r s z e = record { size = s.size; is = go }
     where
       go : (w : World ns ts ds given) (d : Spans) (vs : List Variable) → Ranges w i d → Held t₀ from vs → All (Below i) vs
           → outcome w d vs ≡ refused z.refusal z.place
@@ -128,15 +128,8 @@ module _ (ns ts ds : List ℕ) (given i from : ℕ) (t₀ : List ℕ) where
           loop-stopped w i (row_word ns i 3) (row_word ns i 4) (step d) z a.variables o
           (subst (λ x. Left w d x a.variables o) e a.remains)
 
-  module _ (c at : ℕ) (r : Result (Option Here) Refused) (p : c ≡ row_word ns i 3) (q : at ≡ row_word ns i 4) (f : FirstIs ns ts ds given i c at r) (l : 2048 ≤ length t₀) where
-    pub name-start : (x : Option Here) → r ≡ Ok x → NameOn t₀ from (Ok x)
-    name-start x e = subst (NameOn t₀ from) e (name-from c at r p q f l)
-
-    pub name-unstarted : (e : Refused) → r ≡ Err e → AddsName ns ts ds given i from t₀ (Err e) t₀
-    name-unstarted = stopped t₀ from r (name-from c at r p q f l)
-
-  module _ (t : List ℕ) (n : ℕ) (y : Option Here) (s : NameOn t n (Ok y)) where
-    pub name_done : y ≡ None → AddsName ns ts ds given i from t₀ (Ok n) t
+  module _ (t : Table) (n : ℕ) (y : Result (Option Here) Refused) (s : NameOn t n y) where
+    pub name_done : y ≡ Ok None → AddsName ns ts ds given i from t₀ (Ok n) t
     name_done e = record { size = s.size; is = go }
       where
         go : (w : World ns ts ds given) (d : Spans) (vs : List Variable) → Ranges w i d → Held t₀ from vs → All (Below i) vs
@@ -146,15 +139,15 @@ module _ (ns ts ds : List ℕ) (given i from : ℕ) (t₀ : List ℕ) where
             let o = outcome w d vs in
             record {
               variables = a.variables;
-              is = loop-done w i (row_word ns i 3) (row_word ns i 4) (step d) a.variables o (subst (λ x. Left w d (Ok x) a.variables o) e a.remains);
+              is = loop-done w i (row_word ns i 3) (row_word ns i 4) (step d) a.variables o (subst (λ x. Left w d x a.variables o) e a.remains);
               held = a.held;
               below = a.below;
             }
 
-    module _ (h : Here) (e : Element) (f : y ≡ Some h) (q : list_of e ≡ map number_of (held h)) where
+    module _ (h : Here) (e : Element) (f : y ≡ Ok (Some h)) (q : list_of e ≡ map number_of (held h)) where
       -- the turn, at an element
       at-element : (w : World ns ts ds given) (d : Spans) (vs : List Variable) → Ranges w i d → Held t₀ from vs → All (Below i) vs → OnAt w d vs t n (Ok (Some h))
-      at-element w d vs g hd b = subst (λ x. OnAt w d vs t n (Ok x)) f (s.on w d vs g hd b)
+      at-element w d vs g hd b = subst (OnAt w d vs t n) f (s.on w d vs g hd b)
 
       pub name-full : (p : ℕ) → 512 ≤ n → p ≡ row_word ns i 0 → AddsName ns ts ds given i from t₀ (Err (record { refusal = Full; place = p })) t
       name-full p l z = record { size = s.size; is = go }
@@ -167,10 +160,10 @@ module _ (ns ts ds : List ℕ) (given i from : ℕ) (t₀ : List ℕ) where
               (scope_at h) (scope-held h) e q Full p
               (added_full (declared_at ns i d) (under w (scope_at h)) (list_of e) a.variables (omega (arith, l, a.held.rows.count)) ∙ ap (λ (x : ℕ). refused Full x) (sym z))
 
-      module _ (key : Key) (t' : List ℕ) (r' : Result (Option Here) Refused) (l : n < 512) (z : key_number key ≡ key_of i (list_of e)) (u : t' ≡ appended t n key 0) (x : NextIs ns ts ds given i h r') where
+      module _ (key : Key) (t' : Table) (r' : Result (Option Here) Refused) (l : n < 512) (z : key_number key ≡ key_of i (list_of e)) (u : t' ≡ appended t n key 0) (x : NextIs ns ts ds given i h r') where
         has_room_lem : has_room t n ≡ true
         unfolding has_room
-        has_room_lem = lt-ltb n (length t / 4) (omega (arith, l, s.room))
+        has_room_lem = lt-ltb n (length t) (omega (arith, l, s.room))
 
         next-size : length t' ≡ length t₀
         next-size = rw u (append-size t n key 0) ∙ s.size
@@ -219,11 +212,5 @@ module _ (ns ts ds : List ℕ) (given i from : ℕ) (t₀ : List ℕ) where
             rises (Ok None) y k = tt
             rises (Err e) y k = tt
 
-        name-on : NameOn t' (n + 1) r'
-        name-on = record { size = next-size; room = omega (arith, next-size, s.size, s.room); on = next-on }
-
-        pub name-more : (x' : Option Here) → r' ≡ Ok x' → NameOn t' (n + 1) (Ok x')
-        name-more x' v = subst (NameOn t' (n + 1)) v name-on
-
-        pub name-stopped : (e : Refused) → r' ≡ Err e → AddsName ns ts ds given i from t₀ (Err e) t'
-        name-stopped = stopped t' (n + 1) r' name-on
+        pub name-more : NameOn t' (n + 1) r'
+        name-more = record { size = next-size; room = omega (arith, next-size, s.size, s.room); on = next-on }

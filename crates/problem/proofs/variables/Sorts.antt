@@ -24,6 +24,7 @@ use Rattle.evaluator.specs.Cycle.{nothing_bound}
 use Rattle.evaluator.proofs.Names.{below_length, Split, split}
 use Rattle.elements.specs.Placed.{Placed}
 use Rattle.problem.specs.Variables.Numbers.{Below, Held, Adds, Answers, Ranges, declared_at, AddsName, Picks, Above, Before, AddsSort}
+use Rattle.store.specs.Table.{Table}
 
 -- ---- one declaration
 
@@ -48,24 +49,24 @@ added_none s f i names vs h = rw (drop_of_length-le names {i = i} h)
 
 -- ---- the loop
 
-module _ (ns ts ds : List ℕ) (given k from : ℕ) (t₀ : List ℕ) where
+module _ (ns ts : List ℕ) (ds : Table) (given k from : ℕ) (t₀ : Table) where
   -- at name i, for the variables vs at the start
-  record SortAt (w : World ns ts ds given) (f : Sort → Option Spans) (vs : List Variable) (t : List ℕ) (i n : ℕ) : Type 0 where
+  record SortAt (w : World ns ts ds given) (f : Sort → Option Spans) (vs : List Variable) (t : Table) (i n : ℕ) : Type 0 where
     variables : List Variable
     due : add_variables (nothing_bound w) (declared f i (drop i w.names)) variables ≡ add_variables (nothing_bound w) (declared f 0 w.names) vs
     held : Held t n variables
     before : Before f w.names i variables
     below : (j : ℕ) → Above f w.names j → All (Below j) vs → All (Below j) variables
 
-  pub record SortOn (t : List ℕ) (i n : ℕ) : Type 0 where
+  pub record SortOn (t : Table) (i n : ℕ) : Type 0 where
     pub size : length t ≡ length t₀
-    pub room : 2048 ≤ length t
+    pub room : 512 ≤ length t
     on : (w : World ns ts ds given) (f : Sort → Option Spans) (vs : List Variable) → Placed ns w.names → Picks f k → Held t₀ from vs → Before f w.names 0 vs → SortAt w f vs t i n
 
-  pub sort-start : 2048 ≤ length t₀ → SortOn t₀ 0 from
+  pub sort-start : 512 ≤ length t₀ → SortOn t₀ 0 from
   sort-start l = record { size = refl; room = l; on = λ w f vs p q h b. record { variables = vs; due = refl; held = h; before = b; below = λ j a x. x } }
 
-  module _ (t : List ℕ) (i n : ℕ) (s : SortOn t i n) where
+  module _ (t : Table) (i n : ℕ) (s : SortOn t i n) where
     pub sort-end : length ns / 5 ≤ i → AddsSort ns ts ds given k from t₀ (Ok n) t
     sort-end l = record { is = go }
       where
@@ -88,8 +89,8 @@ module _ (ns ts ds : List ℕ) (given k from : ℕ) (t₀ : List ℕ) where
       shaped w = row-shaped w.text ns w.names i (here w).name w.tables.named (here w).here
 
       module _ (v : ℕ) (e : v ≡ row_word ns i 2) where
-        pub sort-skip : (v ≡ k → ⊥) → SortOn t (i + 1) n
-        sort-skip g = record { size = s.size; room = s.room; on = go }
+        pub sort-skip : (x : ℕ) → x ≡ k → (v ≡ x → ⊥) → SortOn t (i + 1) n
+        sort-skip x same g = record { size = s.size; room = s.room; on = go }
           where
             go : (w : World ns ts ds given) (f : Sort → Option Spans) (vs : List Variable) → Placed ns w.names → Picks f k → Held t₀ from vs → Before f w.names 0 vs → SortAt w f vs t (i + 1) n
             go w f vs p q h b =
@@ -97,7 +98,7 @@ module _ (ns ts ds : List ℕ) (given k from : ℕ) (t₀ : List ℕ) where
                 let x = here w in
                 let y : i + 1 ≡ suc i = omega arith in
                 let z : declared f i (drop i w.names) ≡ declared f (suc i) (drop (suc i) w.names) =
-                ap (declared f i) x.behind ∙ declared-left f i x.name (drop (suc i) w.names) (q.leaves x.name.sort (row_word ns i 2) (row_word ns i 3) (shaped w) (λ m. g (e ∙ m))) in
+                ap (declared f i) x.behind ∙ declared-left f i x.name (drop (suc i) w.names) (q.leaves x.name.sort (row_word ns i 2) (row_word ns i 3) (shaped w) (λ m. g (e ∙ m ∙ sym same))) in
                 record {
                   variables = a.variables;
                   due = rw y (ap (λ c. add_variables (nothing_bound w) c a.variables) (sym z) ∙ a.due);
@@ -106,7 +107,10 @@ module _ (ns ts ds : List ℕ) (given k from : ℕ) (t₀ : List ℕ) where
                   below = a.below;
                 }
 
-        module _ (g : v ≡ k) (r : Result ℕ Refused) (t' : List ℕ) (c : AddsName ns ts ds given i n t r t') where
+        module _ (x : ℕ) (same : x ≡ k) (g' : v ≡ x) (r : Result ℕ Refused) (t' : Table) (c : AddsName ns ts ds given i n t r t') where
+          g : v ≡ k
+          g = g' ∙ same
+
           -- the name's domain, and what its variables are added to
           record Turn (w : World ns ts ds given) (f : Sort → Option Spans) (vs : List Variable) : Type 0 where
             now : SortAt w f vs t i n

@@ -17,6 +17,7 @@ use Rattle.evaluator.specs.Tables.{World, DomainAt, Stands}
 use Rattle.evaluator.specs.Cycle.{seen_by, nothing_bound}
 use Rattle.elements.specs.Placed.{Placed}
 use Rattle.problem.specs.Variables.Order.{InOrder}
+use Rattle.store.specs.Table.{Table}
 
 -- a variable with a key, of a name below k
 pub record Below (k : ℕ) (v : Variable) : Type 0 where
@@ -24,25 +25,25 @@ pub record Below (k : ℕ) (v : Variable) : Type 0 where
   pub less : v.name < k
 
 -- n rows that hold the variables
-pub record Held (t : List ℕ) (n : ℕ) (vs : List Variable) : Type 0 where
+pub record Held (t : Table) (n : ℕ) (vs : List Variable) : Type 0 where
   pub rows : Numbered t n vs
   pub few : n ≤ variable_limit
 
 -- o gives variables which n rows hold; those that were not in vs are of names below each k with Q k
-pub record Adds (o : Outcome (List Variable)) (Q : ℕ → Type 0) (vs : List Variable) (n : ℕ) (t : List ℕ) : Type 0 where
+pub record Adds (o : Outcome (List Variable)) (Q : ℕ → Type 0) (vs : List Variable) (n : ℕ) (t : Table) : Type 0 where
   pub variables : List Variable
   pub is : o ≡ done variables
   pub held : Held t n variables
   pub below : (k : ℕ) → Q k → All (Below k) vs → All (Below k) variables
 
-abbrev pub Answers : Outcome (List Variable) → (ℕ → Type 0) → List Variable → Result ℕ Refused → List ℕ → Type 0
+abbrev pub Answers : Outcome (List Variable) → (ℕ → Type 0) → List Variable → Result ℕ Refused → Table → Type 0
 Answers o Q vs (Ok n) t = Adds o Q vs n t
 Answers o Q vs (Err e) t = o ≡ refused e.refusal e.place
 
 -- ---- one name
 
 -- name i has the domain d
-pub record Ranges {ns ts ds : List ℕ} {given : ℕ} (w : World ns ts ds given) (i : ℕ) (d : Spans) : Type 0 where
+pub record Ranges {ns ts : List ℕ} {ds : Table} {given : ℕ} (w : World ns ts ds given) (i : ℕ) (d : Spans) : Type 0 where
   pub named : i < name_bound
   pub stands : DomainAt w.text ts (seen_by w i) d (row_word ns i 4)
   pub sized : size d ≡ row_word ns i 3
@@ -50,7 +51,7 @@ pub record Ranges {ns ts ds : List ℕ} {given : ℕ} (w : World ns ts ds given)
 abbrev pub declared_at : List ℕ → ℕ → Spans → Declaration
 declared_at ns i d = record { name = i; domain = d; place = row_word ns i 0 }
 
-pub record AddsName (ns ts ds : List ℕ) (given i from : ℕ) (t : List ℕ) (r : Result ℕ Refused) (t' : List ℕ) : Type 0 where
+pub record AddsName (ns ts : List ℕ) (ds : Table) (given i from : ℕ) (t : Table) (r : Result ℕ Refused) (t' : Table) : Type 0 where
   pub size : length t' ≡ length t
   pub is : (w : World ns ts ds given) (d : Spans) (vs : List Variable) → Ranges w i d → Held t from vs → All (Below i) vs
       → Answers (over d (nothing_bound w) (add_variable (declared_at ns i d)) vs) (λ k. i < k) vs r t'
@@ -78,14 +79,14 @@ module _ (f : Sort → Option Spans) (names : List Name) where
   abbrev pub Before : ℕ → List Variable → Type 0
   Before i vs = (j : ℕ) (y : Name) (e : Spans) → i ≤ j → slice_get names j ≡ Some y → f y.sort ≡ Some e → All (Below j) vs
 
-pub record AddsSort (ns ts ds : List ℕ) (given k from : ℕ) (t : List ℕ) (r : Result ℕ Refused) (t' : List ℕ) : Type 0 where
+pub record AddsSort (ns ts : List ℕ) (ds : Table) (given k from : ℕ) (t : Table) (r : Result ℕ Refused) (t' : Table) : Type 0 where
   pub is : (w : World ns ts ds given) (f : Sort → Option Spans) (vs : List Variable) → Placed ns w.names → Picks f k
       → Held t from vs → Before f w.names 0 vs
       → Answers (add_variables (nothing_bound w) (declared f 0 w.names) vs) (Above f w.names) vs r t'
 
 -- ---- all
 
-module _ {ns ts ds : List ℕ} {given : ℕ} (w : World ns ts ds given) where
+module _ {ns ts : List ℕ} {ds : Table} {given : ℕ} (w : World ns ts ds given) where
   -- the discrete variables, and the continuous ones behind them
   abbrev pub discrete_ones : Outcome (List Variable)
   discrete_ones = add_variables (nothing_bound w) (declared as_discrete 0 w.names) []
@@ -94,7 +95,7 @@ module _ {ns ts ds : List ℕ} {given : ℕ} (w : World ns ts ds given) where
   continuous_ones vs = add_variables (nothing_bound w) (declared as_continuous 0 w.names) vs
 
   -- n rows hold them all, of which the first a are discrete
-  pub record Counts (a n : ℕ) (t : List ℕ) : Type 0 where
+  pub record Counts (a n : ℕ) (t : Table) : Type 0 where
     pub discretes : List Variable
     pub variables : List Variable
     pub first : discrete_ones ≡ done discretes
@@ -104,9 +105,9 @@ module _ {ns ts ds : List ℕ} {given : ℕ} (w : World ns ts ds given) where
     pub few : n ≤ variable_limit
     pub known : All (Below (length w.names)) variables
 
-  abbrev pub Counting : Result (ℕ × ℕ) Refused → List ℕ → Type 0
+  abbrev pub Counting : Result (ℕ × ℕ) Refused → Table → Type 0
   Counting (Ok (a, n)) t = Counts a n t
   Counting (Err e) t = (discrete_ones >>= λ vs. continuous_ones vs) ≡ refused e.refusal e.place
 
-pub record NumbersAs (ns ts ds : List ℕ) (given : ℕ) (r : Result (ℕ × ℕ) Refused) (t : List ℕ) : Type 0 where
+pub record NumbersAs (ns ts : List ℕ) (ds : Table) (given : ℕ) (r : Result (ℕ × ℕ) Refused) (t : Table) : Type 0 where
   pub is : (w : World ns ts ds given) → Placed ns w.names → InOrder w.names → Counting w r t

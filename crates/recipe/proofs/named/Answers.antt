@@ -2,11 +2,17 @@
 use Rattle.recipe.proofs.Asking.{asked-export, asked-read, asked-unknown}
 use Rattle.recipe.proofs.named.Goals as goal
 
-pub returns-then-same_bytes : goal.returns-then-same_bytes
-returns-then-same_bytes c = search asked-export depth 6
+pub returns-then-eq : goal.returns-then-eq
+returns-then-eq c = asked-export _ _ (rw c.as_slice.ensures at c.eq.ensures) c.if-eq.true
 
-pub returns-then-same_bytes-2 : goal.returns-then-same_bytes-2
-returns-then-same_bytes-2 c = search asked-read depth 8
+pub returns-then-eq-2 : goal.returns-then-eq-2
+returns-then-eq-2 c =
+    let a = rw c.as_slice.ensures at c.eq.ensures in
+    let b = rw c.as_slice-2.ensures at c.eq-2.ensures in
+    asked-read _ _ a _ b c.if-eq.false c.if-eq-2.true
 
 pub returns : goal.returns
-returns c = search asked-unknown depth 8
+returns c =
+    let a = rw c.as_slice.ensures at c.eq.ensures in
+    let b = rw c.as_slice-2.ensures at c.eq-2.ensures in
+    asked-unknown _ _ a _ b c.if-eq.false c.if-eq-2.false

@@ -5,4 +5,4 @@ use Rattle.rows.proofs.Reading.{value-or}
 use Rattle.rows.proofs.value_of.Goals as goal
 
 pub returns : goal.returns
-returns c = c.unwrap_or.ensures ∙ rw c.of_whole.ensures (value-or _ _ (rw (back c.ranges.z.sfits) at c.of_millionths.ensures))
+returns c = c.unwrap_or.ensures ∙ rw c.from.ensures (value-or _ _ (rw (back c.ranges.z.sfits) at c.of_millionths.ensures))

@@ -4,4 +4,4 @@ use Rattle.store.proofs.word_at.Goals as goal
 
 pub returns : goal.returns
 unfolding word_at
-returns c = c.part.ensures
+returns c = rw c.row_at.ensures

@@ -1,12 +1,8 @@
 -- `tokens::find` meets its contract.
-use Prim.Native.Nat.{◌-◌, ◌≤◌}
-use lib.ListN.{length}
+use Prim.Native.Nat.{◌*◌}
 use Rattle.tokens.proofs.Tables.{Tells}
 use Rattle.tokens.specs.Stored.{spelling}
 use Rattle.tokens.proofs.find.Given as goal
 
-abbrev pub invariant-loop-i : goal.invariant-loop-i
-invariant-loop-i l = Tells l.text (spelling l.text l.p l.n) l.names l.i l.number × (l.i ≤ length l.names) × (l.number ≤ l.i)
-
-abbrev pub decreases-loop-i : goal.decreases-loop-i
-decreases-loop-i l = length l.names - l.i
+abbrev pub invariant-loop-number : goal.invariant-loop-number
+invariant-loop-number l = Tells l.text (spelling l.text l.p l.n) l.names (l.number * 5) l.number

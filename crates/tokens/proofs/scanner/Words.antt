@@ -16,6 +16,7 @@ use Rattle.rules.specs.Limits.{byte_limit, name_length, string_length, mantissa_
 use Rattle.rules.specs.Refusals.{refusal_number}
 use Rattle.value.specs.declared.Value.{Value}
 use Rattle.value.proofs.Integers.{sfits}
+use Rattle.lexer.specs.Numbers.{number}
 use Rattle.lexer.specs.Text.{mark, name, literal, string, wrong}
 use Rattle.lexer.specs.declared.Token.{Token}
 use Rattle.lexer.specs.declared.Token.TheVariants.{Mark, Name, Literal, String, End, Wrong}
@@ -29,7 +30,7 @@ use Rattle.tokens.proofs.scanner.Proper.{Held}
 -- ---- room
 
 pub packs : (s : List ℕ) (p : ℕ) (t : Token) → Within s p t → Held (View.kind_of s t) → Packs t
-packs s p (Mark c) w h = tt
+packs s p (Mark m) w h = tt
 packs s p (Name a n) w h = w.short
 packs s p (Literal b v) w h = h
 packs s p (String a n) w h = w.short
@@ -60,7 +61,7 @@ refusal-small LongListing = omega arith
 
 pub payload-small : (t : Token) → Packs t → payload_of t < 8589934592
 unfolding name_length string_length
-payload-small (Mark c) h = omega arith
+payload-small (Mark m) h = omega arith
 payload-small (Name a n) h = omega (arith, h)
 payload-small (Literal w v) h = value-small v h
 payload-small (String a n) h = omega (arith, h)
@@ -104,7 +105,7 @@ value-back v h =
 
 kind-held : (s : List ℕ) (p : ℕ) (t : Token) → Within s p t → Held (View.kind_of s t) → kind_of s (kind_number t) p (payload_of t) ≡ View.kind_of s t
 unfolding kind_of name_length
-kind-held s p (Mark c) w h = mark-kind s c p 0 h
+kind-held s p (Mark m) w h = mark-kind s (number m) p 0 h
 kind-held s p (Name a n) w h = let e : n % 16 ≡ n = omega (arith, w.short) in rw e (ap name (part_held s p name_length a n w))
 kind-held s p (Literal true v) w h = ap (literal true) (value-back v h)
 kind-held s p (Literal false v) w h = ap (literal false) (value-back v h)
@@ -134,7 +135,7 @@ module _ (s : List ℕ) (p x : ℕ) (t : Token) (w : Within s p t) (h : Held (Vi
   word-name k = rw word-payload (go t w h (sym word-kind ∙ k))
     where
       go : (t : Token) → Within s p t → Held (View.kind_of s t) → kind_number t ≡ 1 → payload_of t ≤ name_length
-      go (Mark c) w h e = omega arith
+      go (Mark m) w h e = omega arith
       go (Name a n) w h e = w.short
       go (Literal true v) w h e = absurd (omega (arith, e))
       go (Literal false v) w h e = absurd (omega (arith, e))

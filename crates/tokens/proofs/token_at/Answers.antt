@@ -5,8 +5,8 @@ use Rattle.tokens.proofs.token_at.Goals as goal
 pub returns-then-tokens-at : goal.returns-then-tokens-at
 returns-then-tokens-at c = search looks-past
 
-pub returns-then-kind-eq-WRONG : goal.returns-then-kind-eq-WRONG
-returns-then-kind-eq-WRONG c = search looks-wrong depth 7
+pub returns-then-kind : goal.returns-then-kind
+returns-then-kind c = search looks-wrong depth 7
 
 pub returns : goal.returns
 returns c = search looks-token depth 6

@@ -6,6 +6,7 @@ use Rattle.value.specs.declared.Value.{Value}
 use Rattle.value.specs.Decimal.{Valid}
 use Rattle.lexer.specs.declared.Token.{Token}
 use Rattle.lexer.specs.declared.Token.TheVariants.{Mark, Name, Literal, String, End, Wrong}
+use Rattle.lexer.specs.Numbers.{number}
 use Rattle.lexer.specs.Text.{tokens}
 use Rattle.tokens.specs.Stored.{kind_part, payload_part, view}
 
@@ -16,7 +17,7 @@ table_size = byte_limit + 1
 -- ---- one token
 
 abbrev pub kind_number : Token → ℕ
-kind_number (Mark c) = c
+kind_number (Mark m) = number m
 kind_number (Name a n) = 1
 kind_number (Literal w v) = cond w 2 3
 kind_number (String a n) = 4
@@ -27,7 +28,7 @@ abbrev pub value_payload : Value → ℕ
 value_payload v = nat_abs v.m * 8 + v.s
 
 abbrev pub payload_of : Token → ℕ
-payload_of (Mark c) = 0
+payload_of (Mark m) = 0
 payload_of (Name a n) = n
 payload_of (Literal w v) = value_payload v
 payload_of (String a n) = n
@@ -45,7 +46,7 @@ pub record Plain (v : Value) : Type 0 where
 
 -- a word has room for the token
 abbrev pub Packs : Token → Type 0
-Packs (Mark c) = Unit {0}
+Packs (Mark m) = Unit {0}
 Packs (Name a n) = n ≤ name_length
 Packs (Literal w v) = Plain v
 Packs (String a n) = n ≤ string_length

@@ -1,9 +1,7 @@
 -- `value::lowered` meets its contract. The invariant: what is left is the same number.
+use Prim.Native.Nat.{◌-◌, ◌≤◌}
 use Rattle.value.proofs.Powers.{Fewer}
 use Rattle.value.proofs.lowered.Given as goal
 
-abbrev pub invariant-loop-i : goal.invariant-loop-i
-invariant-loop-i l = Fewer l.x l.s l.y l.i
-
-abbrev pub decreases-loop-i : goal.decreases-loop-i
-decreases-loop-i l = l.i
+abbrev pub invariant-loop : goal.invariant-loop
+invariant-loop l = Fewer l.x l.s l.y (l.s - (l.counter - 18)) × (l.counter - 18 ≤ l.s - 18)

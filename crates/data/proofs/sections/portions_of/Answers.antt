@@ -12,8 +12,8 @@ returns-in_err-next c = let p = err_from_is_err_and c.from_residual.result c.fro
 pub returns-in_err-token : goal.returns-in_err-token
 returns-in_err-token c = let p = err_from_is_err_and c.from_residual-in_err-token.result c.from_residual-in_err-token.ensures.1 in rw (p.1, p.2) (search (portions-wrong, c.in_ok-next.was, c.in_err-token.was) depth 10)
 
-pub returns-then-token-ne-NAME : goal.returns-then-token-ne-NAME
-returns-then-token-ne-NAME c = search (portions-end, c.in_ok-next.was, c.in_ok-token.was) depth 11
+pub returns-then-token : goal.returns-then-token
+returns-then-token c = search (portions-end, c.in_ok-next.was, c.in_ok-token.was) depth 11
 
 pub loop-preserved : goal.loop-preserved
 loop-preserved c = search (portions-on, c.in_ok-next.was, c.in_ok-token.was) depth 11

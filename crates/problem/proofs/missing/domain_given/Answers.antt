@@ -1,28 +1,28 @@
 -- `missing::domain_given` meets its contract: the elements from the step on are still to be asked.
 use Rattle.std.proofs.lemmas.Result.{err_from_is_err_and}
-use Rattle.matrix.proofs.Looping.{step-falls}
-use Rattle.problem.proofs.missing.Elements.{asking-first, asking-next, asked-none, asked-all, asked-stopped, asked-missing}
+use Rattle.elements.proofs.Walking.{reads-start, reads-on, gave-none, gave-err, gave-some}
+use Rattle.problem.proofs.missing.Elements.{asking-from, asking-next, asked-all, asked-stopped, asked-missing}
 use Rattle.problem.proofs.missing.domain_given.Goals as goal
 
-pub returns-in_err-step : goal.returns-in_err-step
-returns-in_err-step c = let p = err_from_is_err_and c.from_residual.result c.from_residual.ensures.1 in rw (p.1, p.2) (search (asked-none, c.in_err-step.was) depth 6)
+pub loop-here-init : goal.loop-here-init
+loop-here-init c =
+    let e = c.into_iter-here-iterator.ensures.into_iter_gives in
+    (rw e (search asking-from depth 7), reads-start _ _ _ e c.new-here-items.ensures.same)
 
-pub loop-step-init : goal.loop-step-init
-loop-step-init c = search (asking-first, c.in_ok-step.was) depth 7
+pub returns-in_err-h : goal.returns-in_err-h
+returns-in_err-h c =
+    let p = err_from_is_err_and c.from_residual.result c.from_residual.ensures.1 in
+    rw (p.1, p.2) (asked-stopped _ _ _ _ _ _ c.loop-here.invariant.0 _ (gave-err _ _ _ c.next.ensures.steps _ c.in-Some.is _ c.in_err-h.was))
 
 pub returns-then-not-is_given : goal.returns-then-not-is_given
-returns-then-not-is_given c = search asked-missing depth 9
+returns-then-not-is_given c =
+    let at = gave-some _ _ _ c.next.ensures.steps _ c.in-Some.is _ _ c.loop-here.invariant.1 _ c.in_ok-h.was in
+    search (asked-missing, at.0) depth 9
 
-pub returns-in_err-step-2 : goal.returns-in_err-step-2
-returns-in_err-step-2 c =
-    let p = err_from_is_err_and c.from_residual-in_err-step-2.result c.from_residual-in_err-step-2.ensures.1 in
-    rw (p.1, p.2) (search (asked-stopped, c.in_err-step-2.was) depth 10)
-
-pub loop-step-smaller : goal.loop-step-smaller
-loop-step-smaller c = step-falls _ _ _ _ _ _ c.loop-step.step c.in_ok-step-2.step _ c.in-Some.is c.next.ensures (search c.in_ok-step-2.was)
-
-pub loop-step-preserved : goal.loop-step-preserved
-loop-step-preserved c = search (asking-next, c.in_ok-step-2.was) depth 11
+pub loop-here-preserved : goal.loop-here-preserved
+loop-here-preserved c =
+    let at = gave-some _ _ _ c.next.ensures.steps _ c.in-Some.is _ _ c.loop-here.invariant.1 _ c.in_ok-h.was in
+    (search (asking-next, at.0, at.1) depth 11, reads-on _ _ _ c.next.ensures.steps _ _ c.loop-here.invariant.1)
 
 pub returns : goal.returns
-returns c = search asked-all depth 5
+returns c = asked-all _ _ _ _ _ _ c.loop-here.invariant.0 (gave-none _ _ _ c.next.ensures.steps c.in-None.is)

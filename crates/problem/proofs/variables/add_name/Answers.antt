@@ -1,29 +1,30 @@
 -- `add_name` meets its contract.
 use Rattle.std.proofs.lemmas.Result.{err_from_is_err_and}
 use native.Mathlib.Omega.{arith}
-use Rattle.matrix.proofs.Looping.{step-falls}
-use Rattle.problem.proofs.variables.Names.{name-start, name-unstarted, name-full, name-more, name_done, name-stopped}
+use Rattle.elements.proofs.Walking.{reads-start, reads-on, gave-none, gave-err, gave-some}
+use Rattle.problem.proofs.variables.Names.{name-start, name-full, name-more, name_done, name-stopped}
 use Rattle.problem.proofs.variables.add_name.Goals as goal
 
-pub returns-in_err-step : goal.returns-in_err-step
-returns-in_err-step c = let p = err_from_is_err_and c.from_residual.result c.from_residual.ensures.1 in rw (p.1, p.2) (search (name-unstarted, c.in_err-step.was) depth 7)
+pub loop-here-init : goal.loop-here-init
+loop-here-init c =
+    let e = c.into_iter-here-iterator.ensures.into_iter_gives in
+    (rw e (search name-start depth 7), reads-start _ _ _ e c.new-here-items.ensures.same)
 
-pub loop-step-init : goal.loop-step-init
-loop-step-init c = search (name-start, c.in_ok-step.was) depth 7
+pub returns-in_err-h : goal.returns-in_err-h
+returns-in_err-h c =
+    let p = err_from_is_err_and c.from_residual.result c.from_residual.ensures.1 in
+    let e = gave-err _ _ _ c.next.ensures.steps _ c.in-Some.is _ c.in_err-h.was in
+    rw (p.1, p.2) (search (name-stopped, e) depth 6)
 
 pub returns-then-n-ge-VARIABLE_LIMIT : goal.returns-then-n-ge-VARIABLE_LIMIT
-returns-then-n-ge-VARIABLE_LIMIT c = name-full _ _ _ _ _ _ _ _ _ _ c.loop-step.invariant _ _ c.in-Some.is c.element-e.ensures _ (omega (arith, c.if-n-ge-VARIABLE_LIMIT.true)) c.word_of.ensures
+returns-then-n-ge-VARIABLE_LIMIT c =
+    let at = gave-some _ _ _ c.next.ensures.steps _ c.in-Some.is _ _ c.loop-here.invariant.1 _ c.in_ok-h.was in
+    name-full _ _ _ _ _ _ _ _ _ _ c.loop-here.invariant.0 _ _ at.0 c.element-e.ensures _ (omega (arith, c.if-n-ge-VARIABLE_LIMIT.true)) c.word_of.ensures
 
-pub returns-in_err-step-2 : goal.returns-in_err-step-2
-returns-in_err-step-2 c =
-    let p = err_from_is_err_and c.from_residual-in_err-step-2.result c.from_residual-in_err-step-2.ensures.1 in
-    rw (p.1, p.2) (search (name-stopped, c.in_err-step-2.was) depth 11)
-
-pub loop-step-smaller : goal.loop-step-smaller
-loop-step-smaller c = step-falls _ _ _ _ _ _ c.loop-step.step c.in_ok-step-2.step _ c.in-Some.is c.next.ensures (search c.in_ok-step-2.was)
-
-pub loop-step-preserved : goal.loop-step-preserved
-loop-step-preserved c = search (name-more, c.in_ok-step-2.was) depth 11
+pub loop-here-preserved : goal.loop-here-preserved
+loop-here-preserved c =
+    let at = gave-some _ _ _ c.next.ensures.steps _ c.in-Some.is _ _ c.loop-here.invariant.1 _ c.in_ok-h.was in
+    (search (name-more, at.0, at.1) depth 11, reads-on _ _ _ c.next.ensures.steps _ _ c.loop-here.invariant.1)
 
 pub returns : goal.returns
-returns c = search name_done depth 5
+returns c = let e = gave-none _ _ _ c.next.ensures.steps c.in-None.is in search (name_done, e) depth 6

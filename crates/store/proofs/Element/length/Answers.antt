@@ -1,9 +1,7 @@
 -- `Element::length` meets its contract.
-use native.Mathlib.Omega.{arith}
-use lib.ListN.{length-take}
 use Rattle.store.specs.Element.{list_of}
 use Rattle.store.proofs.Element.length.Goals as goal
 
 pub returns : goal.returns
 unfolding list_of
-returns c = simp length-take (omega arith)
+returns c = c.length.ensures

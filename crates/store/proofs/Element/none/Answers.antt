@@ -1,8 +1,7 @@
 -- `Element::none` meets its contract.
-use mathlib.Core.Path.{refl}
 use Rattle.store.specs.Element.{list_of}
 use Rattle.store.proofs.Element.none.Goals as goal
 
 pub returns : goal.returns
 unfolding list_of
-returns c = refl
+returns c = c.none.ensures

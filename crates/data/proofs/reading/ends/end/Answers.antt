@@ -6,8 +6,8 @@ use Rattle.data.proofs.reading.ends.end.Goals as goal
 pub returns-in_err-token : goal.returns-in_err-token
 returns-in_err-token c = let p = err_from_is_err_and c.from_residual.result c.from_residual.ensures.1 in rw (p.1, p.2) (search (end-wrong, c.in_err-token.was) depth 6)
 
-pub returns-then-token-ne-END : goal.returns-then-token-ne-END
-returns-then-token-ne-END c = search (end-no, c.in_ok-token.was) depth 7
+pub returns-then-token : goal.returns-then-token
+returns-then-token c = search (end-no, c.in_ok-token.was) depth 7
 
 pub returns : goal.returns
 returns c = search (end-yes, c.in_ok-token.was) depth 7

@@ -6,8 +6,8 @@ use Rattle.data.proofs.reading.heads.signed_entry.Goals as goal
 pub returns-in_err-token : goal.returns-in_err-token
 returns-in_err-token c = let p = err_from_is_err_and c.from_residual.result c.from_residual.ensures.1 in rw (p.1, p.2) (search (fixed-wrong, c.in_err-token.was) depth 6)
 
-pub returns-then-token-ne-WHOLE : goal.returns-then-token-ne-WHOLE
-returns-then-token-ne-WHOLE c = search (fixed_no, c.in_ok-token.was) depth 7
+pub returns-then-token : goal.returns-then-token
+returns-then-token c = search (fixed_no, c.in_ok-token.was) depth 7
 
 pub returns : goal.returns
 returns c = search (fixed-yes, c.in_ok-token.was) depth 8

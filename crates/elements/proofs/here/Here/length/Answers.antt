@@ -1,9 +1,7 @@
--- `Here::length` meets its contract.
-use Rattle.elements.proofs.Held.{length-count, length-four}
+-- `here::Here::length` meets its contract.
+use Rattle.elements.specs.Held.{held}
 use Rattle.elements.proofs.here.Here.length.Goals as goal
 
-pub returns-then-n-lt-INDEX_LIMIT : goal.returns-then-n-lt-INDEX_LIMIT
-returns-then-n-lt-INDEX_LIMIT c = search length-count
-
 pub returns : goal.returns
-returns c = search length-four
+unfolding held
+returns c = c.length.ensures

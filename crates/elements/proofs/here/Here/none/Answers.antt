@@ -1,6 +1,7 @@
--- `Here::none` meets its contract.
-use Rattle.elements.proofs.Held.{held_none}
+-- `here::Here::none` meets its contract.
+use Rattle.elements.specs.Held.{held}
 use Rattle.elements.proofs.here.Here.none.Goals as goal
 
 pub returns : goal.returns
-returns c = search held_none
+unfolding held
+returns c = c.none-2.ensures

@@ -5,8 +5,8 @@ use Rattle.evaluator.proofs.steps.names.index_number.Goals as goal
 pub returns-then-tokens-at : goal.returns-then-tokens-at
 returns-then-tokens-at c = search index-past
 
-pub returns-then-tokens-at-ne-NAME : goal.returns-then-tokens-at-ne-NAME
-returns-then-tokens-at-ne-NAME c = search index-other
+pub returns-then-tokens-at-2 : goal.returns-then-tokens-at-2
+returns-then-tokens-at-2 c = search index-other
 
 pub returns-then-n-eq0 : goal.returns-then-n-eq0
 returns-then-n-eq0 c = search index-none depth 6

@@ -3,4 +3,4 @@ use Rattle.data.proofs.reading.Marks.{entries-count}
 use Rattle.data.proofs.reading.entries.Entries.length.Goals as goal
 
 pub returns : goal.returns
-returns c = search entries-count depth 6
+returns c = entries-count c.args.self _ c.length.ensures

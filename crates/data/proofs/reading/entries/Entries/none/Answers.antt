@@ -3,4 +3,4 @@ use Rattle.data.proofs.reading.Marks.{none-held}
 use Rattle.data.proofs.reading.entries.Entries.none.Goals as goal
 
 pub returns : goal.returns
-returns c = search none-held
+returns c = none-held _ c.none.ensures

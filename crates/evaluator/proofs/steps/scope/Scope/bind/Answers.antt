@@ -1,18 +1,11 @@
 -- `Scope::bind` meets its contract.
-use Rattle.evaluator.proofs.steps.Scopes.{bind-first, bind-second, bind-third, bind-fourth, bind-none}
+use mathlib.Core.Path.{◌∙◌, ap}
+use Rattle.value.proofs.Integers.{back}
+use Rattle.store.specs.Few.{items_of, one_more}
+use Rattle.evaluator.proofs.steps.Scopes.{bind-more}
 use Rattle.evaluator.proofs.steps.scope.Scope.bind.Goals as goal
 
-pub returns-in-0 : goal.returns-in-0
-returns-in-0 c = search bind-first depth 5
-
-pub returns-in-1 : goal.returns-in-1
-returns-in-1 c = search bind-second depth 5
-
-pub returns-in-2 : goal.returns-in-2
-returns-in-2 c = search bind-third depth 5
-
-pub returns-in-3 : goal.returns-in-3
-returns-in-3 c = search bind-fourth depth 5
-
-pub returns-in_default : goal.returns-in_default
-returns-in_default c = search bind-none depth 6
+pub returns : goal.returns
+returns c =
+    bind-more c.args.self (record { bound = c.with.result }) c.args.i c.args.k
+    (c.with.ensures ∙ ap (λ k. one_more (items_of c.args.self.bound) (record { name = c.args.i; at = k })) (back {z = c.args.k} c.ranges.k.sfits))

@@ -3,4 +3,4 @@ use Rattle.evaluator.proofs.steps.Scopes.{none-bound}
 use Rattle.evaluator.proofs.steps.scope.Scope.none.Goals as goal
 
 pub returns : goal.returns
-returns c = search none-bound
+returns c = none-bound (record { bound = c.none.result }) c.none.ensures

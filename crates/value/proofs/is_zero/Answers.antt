@@ -1,8 +1,0 @@
--- `value::is_zero` meets its contract.
-use Rattle.value.specs.Decimal.{is_zero}
-use Rattle.value.proofs.Integers.{zero-bits}
-use Rattle.value.proofs.is_zero.Goals as goal
-
-pub returns : goal.returns
-unfolding is_zero
-returns c = zero-bits c.args.v.m c.struct_told-1.given.0.1

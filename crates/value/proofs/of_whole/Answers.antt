@@ -1,8 +1,0 @@
--- `value::of_whole` meets its contract.
-use Rattle.value.specs.Decimal.{of_whole}
-use Rattle.value.proofs.Integers.{back}
-use Rattle.value.proofs.of_whole.Goals as goal
-
-pub returns : goal.returns
-unfolding of_whole
-returns c = rw (back c.ranges.k.sfits)
