@@ -22,8 +22,7 @@ use Rattle.tokens.specs.Stored.{token, from, size, Sees, Looks, Named, Moves, St
 use Rattle.tokens.specs.Pieces.{index_in}
 use Rattle.tokens.proofs.Moved.{stood, stuck, next-is, look_is, is-mark}
 use Rattle.domains.specs.Domains.{entry_with}
-use Rattle.constraints.specs.Layout.{Packs}
-use Rattle.constraints.specs.Shape.{IsBare, EntriesAre, SizeIs, ShapeIs}
+use Rattle.constraints.specs.Shape.{EntriesAre, SizeIs}
 
 -- ---- entries
 
@@ -233,14 +232,3 @@ module _ (s ns ts : List ℕ) (at : ℕ) (t : Result Seen Refused) (l : Looks ts
 
   pub size-some : (w : Seen) (n : ℕ) → t ≡ Ok w → w.kind ≡ 40 → EntriesAre s ns ts w.next n → SizeIs s ns ts at n
   size-some z n j f h = record { few = h.few; is = λ names o d st. h.is names o d (domain-some s ts at t l names d st z j f) }
-
--- ---- the word
-
-pub shape_is : (s ns ts : List ℕ) (left m domain : ℕ) (b f : Bool) (n r : ℕ) → IsBare s ns ts left b → SizeIs s ns ts domain n → Packs m b f n r → ShapeIs s ns ts left m f domain r
-shape_is s ns ts left m domain b f n r g h w =
-    record {
-      mark = w.mark;
-      has_floor = w.floor;
-      bare = λ names o l a. sym (g.is names o l a) ∙ sym w.bare;
-      entries = λ names o d st. h.is names o d st ∙ sym (w.entries (omega (arith, h.few)));
-    }

@@ -4,10 +4,11 @@ use Rattle.rules.specs.declared.Refused.{Refused}
 use mathlib.Core.Path.{◌≡◌, refl, sym, ◌∙◌, ap, subst}
 use mathlib.Core.Bool.{Bool, true, false}
 use mathlib.Core.List.{List, [], ◌∷◌, ◌++◌, append_assoc}
-use Prim.Native.Nat.{ℕ, suc, ◌+◌, ◌*◌, ◌-◌, ◌<◌, ◌≤◌}
+use Prim.Native.Nat.{ℕ, suc, ◌+◌, ◌-◌, ◌<◌, ◌≤◌}
 use native.Mathlib.Omega.{arith}
-use lib.ListN.{length, drop}
+use lib.ListN.{length, take, drop, set, length-set}
 use lib.Seq.{drop-drop}
+use Rattle.std.proofs.lemmas.List.{take_more_set, drop-set-lt}
 use Rattle.rules.specs.declared.Refusal.TheVariants.{Full}
 use Rattle.rules.specs.Limits.{constraint_limit}
 use Rattle.lexer.specs.Text.{Token}
@@ -16,12 +17,11 @@ use Rattle.language.specs.Syntax.{Name, Constraint}
 use Rattle.language.specs.Reader.{Reader, Read, follow, ◌>>=◌, give, look, is_string}
 use Rattle.language.specs.Grammar.{constraints_of}
 use Rattle.tokens.specs.declared.Seen.{Seen}
-use Rattle.tokens.specs.Stored.{token, from, Sees, Looks, Named, rows_of, Put, Moves, Gives}
-use Rattle.tokens.proofs.Tables.{put-rows}
+use Rattle.tokens.specs.Stored.{token, from, Sees, Looks, Named, Moves, Gives}
 use Rattle.tokens.proofs.Moved.{Got, got, stuck, gives_at, gives-refused, follow-same, look_is}
-use Rattle.constraints.specs.declared.Row.{Row}
+use Rattle.constraints.specs.declared.Record.{Record}
 use Rattle.constraints.specs.Readers.{constraint_in, more_in, constraints_in}
-use Rattle.constraints.specs.Rows.{IsTrue, RowOf, words_of, Rows, Constrained}
+use Rattle.constraints.specs.Rows.{IsTrue, RowOf, Rows, Constrained}
 
 -- ---- no constraint more
 
@@ -36,19 +36,15 @@ module _ (s ns ts : List ℕ) (at : ℕ) (t : Result Seen Refused) (l : Looks ts
 
 -- ---- one row more
 
-rows_more : (s ts rows : List ℕ) (a b c d e : ℕ) (names : List Name) (xs : List Constraint) (x : Constraint) → Rows s ts rows names xs → RowOf s ts (a ∷ b ∷ c ∷ d ∷ e ∷ []) names x
-    → Rows s ts (rows ++ (a ∷ b ∷ c ∷ d ∷ e ∷ [])) names (xs ++ (x ∷ []))
-rows_more s ts [] a b c d e names [] x h r = (r, tt)
-rows_more s ts [] a b c d e names (y ∷ ys) x h r = absurd h
-rows_more s ts (i ∷ []) a b c d e names ys x h r = absurd h
-rows_more s ts (i ∷ j ∷ []) a b c d e names ys x h r = absurd h
-rows_more s ts (i ∷ j ∷ k ∷ []) a b c d e names ys x h r = absurd h
-rows_more s ts (i ∷ j ∷ k ∷ l ∷ []) a b c d e names ys x h r = absurd h
-rows_more s ts (i ∷ j ∷ k ∷ l ∷ m ∷ rows) a b c d e names [] x h r = absurd h
-rows_more s ts (i ∷ j ∷ k ∷ l ∷ m ∷ rows) a b c d e names (y ∷ ys) x h r = (h.0, rows_more s ts rows a b c d e names ys x h.1 r)
+rows_more : (s ts : List ℕ) (rows : List Record) (r : Record) (names : List Name) (xs : List Constraint) (x : Constraint) → Rows s ts rows names xs → RowOf s ts r names x
+    → Rows s ts (rows ++ (r ∷ [])) names (xs ++ (x ∷ []))
+rows_more s ts [] r names [] x h o = (o, tt)
+rows_more s ts [] r names (y ∷ ys) x h o = absurd h
+rows_more s ts (q ∷ rows) r names [] x h o = absurd h
+rows_more s ts (q ∷ rows) r names (y ∷ ys) x h o = (h.0, rows_more s ts rows r names ys x h.1 o)
 
-rest_more : (n : ℕ) (t t' : List ℕ) → drop (n * 5) t' ≡ drop (n * 5) t → drop ((n + 1) * 5) t' ≡ drop ((n + 1) * 5) t
-rest_more n t t' h = let e : (n + 1) * 5 ≡ n * 5 + 5 = omega arith in rw e (sym (drop-drop 5 (n * 5) t') ∙ ap (drop 5) h ∙ drop-drop 5 (n * 5) t)
+rest_more : (n : ℕ) (t t' : List Record) → drop n t' ≡ drop n t → drop (n + 1) t' ≡ drop (n + 1) t
+rest_more n t t' h = sym (drop-drop 1 n t') ∙ ap (drop 1) h ∙ drop-drop 1 n t
 
 -- ---- one constraint and those behind it
 
@@ -77,27 +73,27 @@ behind-one before c (refused n p) = refl
 
 -- ---- the loop: what is read from here on, behind what was read, is what is read from the start
 
-pub record Reached (s ts rows : List ℕ) (names : List Name) (at n a : ℕ) : Type 0 where
+pub record Reached (s ts : List ℕ) (rows : List Record) (names : List Name) (at n a : ℕ) : Type 0 where
   pub before : List Constraint
   pub are : Rows s ts rows names before
   pub same : constraints_in 64 names (from s ts at) ≡ behind before (constraints_in (64 - n) names (from s ts a))
 
-pub record ConstraintsOn (s ns ts t : List ℕ) (at n a : ℕ) (t' : List ℕ) : Type 0 where
+pub record ConstraintsOn (s ns ts : List ℕ) (t : List Record) (at n a : ℕ) (t' : List Record) : Type 0 where
   pub size : length t' ≡ length t
   pub within : n ≤ 64
-  pub rest : drop (n * 5) t' ≡ drop (n * 5) t
-  pub reached : (names : List Name) → Named s ns names → Reached s ts (rows_of n t') names at n a
+  pub rest : drop n t' ≡ drop n t
+  pub reached : (names : List Name) → Named s ns names → Reached s ts (take n t') names at n a
 
-module _ (s ns ts t : List ℕ) (at : ℕ) where
+module _ (s ns ts : List ℕ) (t : List Record) (at : ℕ) where
   pub constraints-start : ConstraintsOn s ns ts t at 0 at t
   constraints-start =
       record { size = refl; within = omega arith; rest = refl; reached = λ names d. record { before = []; are = tt; same = behind-none (constraints_in 64 names (from s ts at)) } }
 
-  refused-with : (t' : List ℕ) (w : Refused) → length t' ≡ length t → ((names : List Name) → Named s ns names → constraints_in 64 names (from s ts at) ≡ refused w.refusal w.place) → Constrained s ns ts t at (Err w) t'
+  refused-with : (t' : List Record) (w : Refused) → length t' ≡ length t → ((names : List Name) → Named s ns names → constraints_in 64 names (from s ts at) ≡ refused w.refusal w.place) → Constrained s ns ts t at (Err w) t'
   unfolding constraint_limit
   refused-with t' z size g = record { size = size; within = tt; gives = (gives-refused (constraints_in 64) (λ _ _. Unit {0}) s ns ts at z g).moves; rest = tt }
 
-  module _ (n a : ℕ) (t' : List ℕ) (o : ConstraintsOn s ns ts t at n a t') where
+  module _ (n a : ℕ) (t' : List Record) (o : ConstraintsOn s ns ts t at n a t') where
     pub constraints-full : (e : Refused) → 64 ≤ n → Moves (constraints_in 0) s ns ts a (Err e) → Constrained s ns ts t at (Err e) t'
     constraints-full w h m =
         let z : 64 - n ≡ 0 = omega arith in
@@ -115,27 +111,31 @@ module _ (s ns ts t : List ℕ) (at : ℕ) where
           let x = o.reached names d in
           x.same ∙ ap (behind x.before) (one names ∙ ap (λ o. follow o (λ c. more_in names >>= turn (64 - (n + 1)) c names)) (stuck constraint_in s ns ts a (Err z) h names d z refl)))
 
-      module _ (row : Row) (b : ℕ) (h : Gives constraint_in (RowOf s ts (words_of row)) s ns ts a (Ok b)) (t'' : List ℕ) (room : 320 ≤ length t)
-          (w : Put t' n (row.title ∷ row.left ∷ row.shape ∷ row.right ∷ row.domain ∷ []) t'') where
-        row-got : (names : List Name) → Named s ns names → Got (constraint_in names) (RowOf s ts (words_of row) names) s ts a b
-        row-got names d = got constraint_in (RowOf s ts (words_of row)) s ns ts a b h names d
+      module _ (row : Record) (b : ℕ) (h : Gives constraint_in (RowOf s ts row) s ns ts a (Ok b)) (room : 64 ≤ length t) where
+        abbrev t'' : List Record
+        t'' = set t' n row
 
-        grown : (names : List Name) (d : Named s ns names) → Rows s ts (rows_of (n + 1) t'') names ((o.reached names d).before ++ ((row-got names d).what ∷ []))
+        row-got : (names : List Name) → Named s ns names → Got (constraint_in names) (RowOf s ts row names) s ts a b
+        row-got names d = got constraint_in (RowOf s ts row) s ns ts a b h names d
+
+        grown : (names : List Name) (d : Named s ns names) → Rows s ts (take (n + 1) t'') names ((o.reached names d).before ++ ((row-got names d).what ∷ []))
         grown names d =
-            let e : n * 5 + 5 ≤ length t' = omega (arith, o.size) in
             let x = o.reached names d in
-            subst (λ t. Rows s ts t names (x.before ++ ((row-got names d).what ∷ []))) (sym (put-rows t' n _ t'' w e))
-            (rows_more s ts (rows_of n t') row.title row.left row.shape row.right row.domain names x.before (row-got names d).what x.are (row-got names d).holds)
+            subst (λ t. Rows s ts t names (x.before ++ ((row-got names d).what ∷ []))) (sym (take_more_set t' n row (omega (arith, o.size))))
+            (rows_more s ts (take n t') row names x.before (row-got names d).what x.are (row-got names d).holds)
 
-        rest-same : drop ((n + 1) * 5) t'' ≡ drop ((n + 1) * 5) t
-        rest-same = w.rest ∙ rest_more n t t' o.rest
+        size-same : length t'' ≡ length t
+        size-same = length-set t' n row ∙ o.size
+
+        rest-same : drop (n + 1) t'' ≡ drop (n + 1) t
+        rest-same = drop-set-lt (n + 1) t' n row (omega arith) ∙ rest_more n t t' o.rest
 
         two : (names : List Name) (d : Named s ns names) → constraints_in (64 - n) names (from s ts a) ≡ follow (more_in names (from s ts b)) (turn (64 - (n + 1)) (row-got names d).what names)
         two names d = one names ∙ ap (λ o. follow o (λ c. more_in names >>= turn (64 - (n + 1)) c names)) (row-got names d).reads
 
-        pub constraints-wrong : (e : Refused) → Moves more_in s ns ts b (Err e) → Constrained s ns ts t at (Err e) t''
+        pub constraints-wrong : (e : Refused) → Moves more_in s ns ts b (Err e) → Constrained s ns ts t at (Err e) (set t' n row)
         constraints-wrong z k =
-            refused-with t'' z (w.size ∙ o.size) (λ names d.
+            refused-with t'' z size-same (λ names d.
             let x = o.reached names d in
             x.same ∙ ap (behind x.before) (two names d ∙ ap (λ o. follow o (turn (64 - (n + 1)) (row-got names d).what names)) (stuck more_in s ns ts b (Err z) k names d z refl)))
 
@@ -147,23 +147,23 @@ module _ (s ns ts t : List ℕ) (at : ℕ) where
               two names d ∙ ap (λ o. follow o (turn (64 - (n + 1)) (row-got names d).what names)) x.reads
               ∙ ap (λ v. turn (64 - (n + 1)) (row-got names d).what names v (from s ts b)) (x.holds.same ∙ e)
 
-          pub constraints-end : v ≡ false → Constrained s ns ts t at (Ok (n + 1, b)) t''
+          pub constraints-end : v ≡ false → Constrained s ns ts t at (Ok (n + 1, b)) (set t' n row)
           unfolding turn constraint_limit
           constraints-end e =
               record {
-                size = w.size ∙ o.size;
+                size = size-same;
                 within = omega arith;
-                gives = gives_at (constraints_in 64) (Rows s ts (rows_of (n + 1) t'')) s ns ts at b (λ names d.
+                gives = gives_at (constraints_in 64) (Rows s ts (take (n + 1) t'')) s ns ts at b (λ names d.
                     let x = o.reached names d in
                     record { what = x.before ++ ((row-got names d).what ∷ []); reads = x.same ∙ ap (behind x.before) (three false names d e); holds = grown names d });
                 rest = rest-same;
               }
 
-          pub constraints-on : v ≡ true → ConstraintsOn s ns ts t at (n + 1) b t''
+          pub constraints-on : v ≡ true → ConstraintsOn s ns ts t at (n + 1) b (set t' n row)
           unfolding turn
           constraints-on e =
               record {
-                size = w.size ∙ o.size;
+                size = size-same;
                 within = omega arith;
                 rest = rest-same;
                 reached = λ names d.

@@ -2,7 +2,8 @@
 use Rattle.std.specs.Prelude.{Err, Ok, Result}
 use Rattle.rules.specs.declared.Refused.{Refused}
 use mathlib.Core.Path.{◌≡◌, refl, sym, ◌∙◌, ap, subst}
-use mathlib.Core.List.{List, [], ◌∷◌}
+use mathlib.Core.Bool.{Bool}
+use mathlib.Core.List.{List}
 use Prim.Native.Nat.{ℕ}
 use Rattle.rules.specs.Limits.{nesting_limit}
 use Rattle.language.specs.Outcome.{refused}
@@ -13,15 +14,13 @@ use Rattle.language.specs.Grammar.{constraint_of}
 use Rattle.tokens.specs.Stored.{from, Named, Moves, Gives}
 use Rattle.tokens.proofs.Moved.{Stood, stood, stuck, Got, got, gives_at, gives-refused, follow-same}
 use Rattle.formulas.specs.Cycle.{formula_in}
-use Rattle.lexer.specs.Numbers.{number}
-use Rattle.lexer.proofs.Marks.{number-byte}
 use Rattle.linear.specs.Linear.{linear_in}
 use Rattle.domains.specs.Domains.{optional_in}
 use Rattle.constraints.specs.declared.Sites.{Sites}
 use Rattle.constraints.specs.declared.Bounds.{Bounds}
 use Rattle.constraints.specs.Readers.{title_in, relation_in, Comparison, comparison_in, constraint_in}
 use Rattle.constraints.specs.Rows.{Compares, Located, RowOf}
-use Rattle.constraints.specs.Shape.{ShapeIs}
+use Rattle.constraints.specs.Shape.{IsBare, SizeIs}
 use Rattle.constraints.proofs.ComparisonLaws.{comparison-then}
 
 abbrev made : Titled → Linear → Comparison → Spans → Constraint
@@ -122,9 +121,9 @@ module _ (s ns ts : List ℕ) (at : ℕ) where
 
 -- ---- its row
 
-pub row_is : (s ns ts : List ℕ) (at : ℕ) (q : Sites) (a v : ℕ) → Gives constraint_in (Located s ts q) s ns ts at (Ok a) → ShapeIs s ns ts q.left (number q.mark) q.floor q.domain v
-    → Gives constraint_in (RowOf s ts (q.title ∷ q.left ∷ v ∷ q.right ∷ q.domain ∷ [])) s ns ts at (Ok a)
-row_is s ns ts at q a v h w =
+pub row_is : (s ns ts : List ℕ) (at : ℕ) (q : Sites) (a : ℕ) (b : Bool) (n : ℕ) → Gives constraint_in (Located s ts q) s ns ts at (Ok a) → IsBare s ns ts q.left b → SizeIs s ns ts q.domain n
+    → Gives constraint_in (RowOf s ts (record { title = q.title; left = q.left; mark = q.mark; bare = b; floor = q.floor; entries = n; right = q.right; domain = q.domain })) s ns ts at (Ok a)
+row_is s ns ts at q a b n h g w =
     record {
       moves = h.moves;
       tells = λ names d x e.
@@ -132,10 +131,10 @@ row_is s ns ts at q a v h w =
           record {
             title = y.title;
             left = y.left;
-            relation = y.relation ∙ sym (w.mark (number-byte q.mark));
-            bare = w.bare names d x.what.left y.left;
-            floor = y.floor ∙ sym w.has_floor;
-            entries = w.entries names d x.what.domain y.domain;
+            relation = y.relation;
+            bare = sym (g.is names d x.what.left y.left);
+            floor = y.floor;
+            entries = w.is names d x.what.domain y.domain;
             right = y.right;
             floor_stands = y.floor_stands;
             domain = y.domain;

@@ -1,4 +1,3 @@
 pub mod Readers
-pub mod Layout
 pub mod Rows
 pub mod Shape

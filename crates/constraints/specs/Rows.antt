@@ -1,5 +1,5 @@
 -- What code tells of what it read, and what a table of constraints tells of them.
-use Rattle.std.specs.Prelude.{Ok, Err, Result, IfOk, MatchResult, ◌≡◌, Bool, true, false, List, [], ◌∷◌, ℕ, ◌*◌, ◌≤◌, length, drop, get_or}
+use Rattle.std.specs.Prelude.{Ok, Err, Result, IfOk, MatchResult, ◌≡◌, Bool, true, false, List, [], ◌∷◌, ℕ, ◌≤◌, length, take, drop, get_or}
 use Rattle.rules.specs.Limits.{nesting_limit, constraint_limit}
 use Rattle.lexer.specs.Marks as Marks
 use Rattle.lexer.specs.Numbers.{number}
@@ -9,13 +9,13 @@ use Rattle.language.specs.Outcome.{done}
 use Rattle.language.specs.Reader.{read_string}
 use Rattle.language.specs.Formulas.{formula_at, optional_domain}
 use Rattle.language.specs.Linear.{Linear, linear_at, side_of}
-use Rattle.tokens.specs.Stored.{size, Stands, Moves, Gives, rows_of}
+use Rattle.tokens.specs.Stored.{size, Stands, Moves, Gives}
 use Rattle.constraints.specs.declared.Bounds.{Bounds}
 use Rattle.constraints.specs.declared.Sites.{Sites}
-use Rattle.constraints.specs.declared.Row.{Row}
+use Rattle.constraints.specs.declared.Record.{Record}
 use Rattle.rules.specs.declared.Refused.{Refused}
 use Rattle.constraints.specs.Readers.{plain_by, Comparison, constraints_in}
-use Rattle.constraints.specs.Layout.{mark_part, bare_part, floor_part, entries_part}
+use Rattle.lexer.specs.declared.Mark.TheVariants.{AtMost}
 
 -- the mark by which a relation is written
 abbrev pub relation_mark : Relation → ℕ
@@ -89,35 +89,35 @@ pub record Located (s ts : List ℕ) (r : Sites) (names : List Name) (c : Constr
   pub floor_stands : FloorAt names right.rest c.relation
   pub domain : Stands (optional_domain names) s ts r.domain c.domain
 
--- a constraint's row
-pub record RowOf (s ts row : List ℕ) (names : List Name) (c : Constraint) : Type 0 where
-  pub title : Stands read_string s ts (get_or row 0 0) (record { title = c.title; place = c.place })
-  pub left : SideAt s ts (get_or row 1 0) names c.left
-  pub relation : relation_mark c.relation ≡ mark_part (get_or row 2 0)
-  pub bare : is_bare c.left ≡ bare_part (get_or row 2 0)
-  pub floor : has_floor c.relation ≡ floor_part (get_or row 2 0)
-  pub entries : size c.domain ≡ entries_part (get_or row 2 0)
-  pub right : Stands (formula_at names nesting_limit) s ts (get_or row 3 0) c.right
-  pub floor_stands : FloorAt names right.rest c.relation
-  pub domain : Stands (optional_domain names) s ts (get_or row 4 0) c.domain
+-- what row k is where a table has none, and row k of a table
+abbrev pub no_row : Record
+no_row = record { title = 0; left = 0; mark = AtMost; bare = false; floor = false; entries = 0; right = 0; domain = 0 }
 
-abbrev pub words_of : Row → List ℕ
-words_of r = r.title ∷ r.left ∷ r.shape ∷ r.right ∷ r.domain ∷ []
+abbrev pub row_at : List Record → ℕ → Record
+row_at t k = get_or t k no_row
+
+-- a constraint's row
+pub record RowOf (s ts : List ℕ) (r : Record) (names : List Name) (c : Constraint) : Type 0 where
+  pub title : Stands read_string s ts r.title (record { title = c.title; place = c.place })
+  pub left : SideAt s ts r.left names c.left
+  pub relation : relation_mark c.relation ≡ number r.mark
+  pub bare : is_bare c.left ≡ r.bare
+  pub floor : has_floor c.relation ≡ r.floor
+  pub entries : size c.domain ≡ r.entries
+  pub right : Stands (formula_at names nesting_limit) s ts r.right c.right
+  pub floor_stands : FloorAt names right.rest c.relation
+  pub domain : Stands (optional_domain names) s ts r.domain c.domain
 
 -- the rows of a list of constraints, in their order
-abbrev pub Rows : List ℕ → List ℕ → List ℕ → List Name → List Constraint → Type 0
+abbrev pub Rows : List ℕ → List ℕ → List Record → List Name → List Constraint → Type 0
 Rows s ts [] names [] = Unit {0}
 Rows s ts [] names (x ∷ xs) = ⊥
-Rows s ts (a ∷ []) names xs = ⊥
-Rows s ts (a ∷ b ∷ []) names xs = ⊥
-Rows s ts (a ∷ b ∷ c ∷ []) names xs = ⊥
-Rows s ts (a ∷ b ∷ c ∷ d ∷ []) names xs = ⊥
-Rows s ts (a ∷ b ∷ c ∷ d ∷ e ∷ rows) names [] = ⊥
-Rows s ts (a ∷ b ∷ c ∷ d ∷ e ∷ rows) names (x ∷ xs) = RowOf s ts (a ∷ b ∷ c ∷ d ∷ e ∷ []) names x × Rows s ts rows names xs
+Rows s ts (r ∷ rows) names [] = ⊥
+Rows s ts (r ∷ rows) names (x ∷ xs) = RowOf s ts r names x × Rows s ts rows names xs
 
 -- all constraints, in the first rows of a table t that becomes t'; what stands behind these rows stays
-pub record Constrained (s ns ts t : List ℕ) (at : ℕ) (r : Result (ℕ × ℕ) Refused) (t' : List ℕ) : Type 0 where
+pub record Constrained (s ns ts : List ℕ) (t : List Record) (at : ℕ) (r : Result (ℕ × ℕ) Refused) (t' : List Record) : Type 0 where
   pub size : length t' ≡ length t
   pub within : IfOk r (λ w. w.0 ≤ 64)
-  pub gives : MatchResult r (λ w. Gives (constraints_in constraint_limit) (Rows s ts (rows_of w.0 t')) s ns ts at (Ok w.1)) (λ e. Moves (constraints_in constraint_limit) s ns ts at (Err e))
-  pub rest : IfOk r (λ w. drop (w.0 * 5) t' ≡ drop (w.0 * 5) t)
+  pub gives : MatchResult r (λ w. Gives (constraints_in constraint_limit) (Rows s ts (take w.0 t')) s ns ts at (Ok w.1)) (λ e. Moves (constraints_in constraint_limit) s ns ts at (Err e))
+  pub rest : IfOk r (λ w. drop w.0 t' ≡ drop w.0 t)

@@ -1,12 +1,11 @@
 -- What code tells of a left side and of a domain, for all names that the table tells of.
-use Rattle.std.specs.Prelude.{◌≡◌, Bool, not, List, ℕ, ◌<◌, ◌≤◌}
+use Rattle.std.specs.Prelude.{◌≡◌, Bool, not, List, ℕ, ◌≤◌}
 use Rattle.lexer.specs.Text.{Token}
 use Rattle.language.specs.Syntax.{Name, Spans, Side}
 use Rattle.language.specs.Reader.{look, read_index}
 use Rattle.language.specs.Formulas.{is_sum, in_domain, entries_of, optional_domain}
 use Rattle.onepass.specs.Entries.{read}
 use Rattle.tokens.specs.Stored.{from, size, Named, Stands}
-use Rattle.constraints.specs.Layout.{mark_part, bare_part, floor_part, entries_part}
 use Rattle.constraints.specs.Rows.{SideAt, is_bare}
 
 pub record IsAlone (ts : List ℕ) (at : ℕ) (r : Bool) : Type 0 where
@@ -25,10 +24,3 @@ pub record EntriesAre (s ns ts : List ℕ) (at r : ℕ) : Type 0 where
 pub record SizeIs (s ns ts : List ℕ) (at r : ℕ) : Type 0 where
   pub is : (names : List Name) → Named s ns names → (d : Spans) → Stands (optional_domain names) s ts at d → size d ≡ r
   pub few : r ≤ 4
-
--- the third word of a row, by the mark m, whether there is a floor, and the positions of the left side and of the domain
-pub record ShapeIs (s ns ts : List ℕ) (left m : ℕ) (floor : Bool) (domain r : ℕ) : Type 0 where
-  pub mark : m < 256 → mark_part r ≡ m
-  pub has_floor : floor_part r ≡ floor
-  pub bare : (names : List Name) → Named s ns names → (l : Side) → SideAt s ts left names l → is_bare l ≡ bare_part r
-  pub entries : (names : List Name) → Named s ns names → (d : Spans) → Stands (optional_domain names) s ts domain d → size d ≡ entries_part r

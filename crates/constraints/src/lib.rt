@@ -1,15 +1,14 @@
 // Relations, objectives and constraints read over the stored tokens; each constraint becomes a row of a table.
 #![tactic(auto)]
 
-pub mod layout;
 mod shape;
 
-ghost use Rattle.std.specs.Prelude.{Ok, Err, MatchResult, ◌≤◌, length};
+ghost use Rattle.std.specs.Prelude.{Ok, Err, MatchResult, ◌≡◌, ◌≤◌, length};
 ghost use Rattle.lexer.specs.Numbers.{number};
 ghost use Rattle.tokens.specs.Stored.{from, Moves, Gives};
 ghost use Rattle.tokens.specs.Text.{In};
 ghost use Rattle.constraints.specs.Readers.{title_in, relation_in, floor_formula_in, floor_in, comparison_in, goal_in, constraint_in, more_in};
-ghost use Rattle.constraints.specs.Rows.{IsRelation, IsFloor, Compares, IsTrue, Located, RowOf, words_of, Constrained};
+ghost use Rattle.constraints.specs.Rows.{IsRelation, IsFloor, Compares, IsTrue, Located, no_row, row_at, RowOf, Constrained};
 
 use lexer::Mark;
 use rules::{Refused, refused};
@@ -19,29 +18,57 @@ use tokens::{Kind, Text};
 #[derive(Clone, Copy)]
 struct Bounds {
     mark: Mark,
-    right: u64,
+    right: usize,
     floor: bool,
 }
 
 // Where a constraint's string, sides and domain stand, the mark of its relation and whether it has a floor.
 #[derive(Clone, Copy)]
 struct Sites {
-    title: u64,
-    left: u64,
+    title: usize,
+    left: usize,
     mark: Mark,
-    right: u64,
+    right: usize,
     floor: bool,
-    domain: u64,
+    domain: usize,
 }
 
-// The words of a constraint's row.
+// A row of the table of constraints: where the string, the sides and the domain stand, and the mark of the relation. `bare`: the left
+// side is one variable; `floor`: a floor follows the right side; `entries`: how many entries the domain has.
 #[derive(Clone, Copy)]
-struct Row {
-    title: u64,
-    left: u64,
-    shape: u64,
-    right: u64,
-    domain: u64,
+pub struct Record {
+    pub title: usize,
+    pub left: usize,
+    pub mark: Mark,
+    pub bare: bool,
+    pub floor: bool,
+    pub entries: usize,
+    pub right: usize,
+    pub domain: usize,
+}
+
+impl Record {
+    pub fn none() -> Self
+        ensures { result ≡ no_row }
+    {
+        Record {
+            title: 0,
+            left: 0,
+            mark: Mark::AtMost,
+            bare: false,
+            floor: false,
+            entries: 0,
+            right: 0,
+            domain: 0,
+        }
+    }
+}
+
+// Row k, an empty one where there is none.
+pub fn row_at(table: &[Record], k: usize) -> Record
+    ensures { result ≡ row_at table.now k }
+{
+    table.get(k).copied().unwrap_or(Record::none())
 }
 
 // A string.
@@ -133,11 +160,7 @@ fn comparison(text: Text<'_>, at: usize) -> Result<(Bounds, usize), Refused>
     let (mark, right) = relation(text, at)?;
     let behind = formulas::formula(text, right, rules::NESTING_LIMIT)?;
     let (floor, end) = optional_floor(text, mark, behind)?;
-    let bounds = Bounds {
-        mark,
-        right: right as u64,
-        floor,
-    };
+    let bounds = Bounds { mark, right, floor };
     Ok((bounds, end))
 }
 
@@ -152,34 +175,32 @@ fn locate(text: Text<'_>, at: usize) -> Result<(Sites, usize), Refused>
     let (bounds, domain) = comparison(text, behind)?;
     let end = domains::optional_domain(text, domain)?;
     let sites = Sites {
-        title: at as u64,
-        left: left as u64,
+        title: at,
+        left,
         mark: bounds.mark,
         right: bounds.right,
         floor: bounds.floor,
-        domain: domain as u64,
+        domain,
     };
     Ok((sites, end))
 }
 
-// A constraint: what its row keeps of it, and the position after it.
-fn constraint(text: Text<'_>, at: usize) -> Result<(Row, usize), Refused>
+// A constraint: its row, and the position after it.
+fn constraint(text: Text<'_>, at: usize) -> Result<(Record, usize), Refused>
     ensures { MatchResult result
-        (λ w. In (Gives constraint_in (RowOf text.entry.bytes.now text.entry.tokens.now (words_of w.0))) text.entry at (Ok w.1))
+        (λ w. In (Gives constraint_in (RowOf text.entry.bytes.now text.entry.tokens.now w.0)) text.entry at (Ok w.1))
         (λ e. In (Moves constraint_in) text.entry at (Err e)) }
 {
     let (sites, end) = locate(text, at)?;
-    let shape = shape::word_at(
-        text,
-        sites.left as usize,
-        sites.mark,
-        sites.floor,
-        sites.domain as usize,
-    );
-    let row = Row {
+    let bare = shape::is_bare(text, sites.left);
+    let entries = shape::entries_at(text, sites.domain);
+    let row = Record {
         title: sites.title,
         left: sites.left,
-        shape,
+        mark: sites.mark,
+        bare,
+        floor: sites.floor,
+        entries,
         right: sites.right,
         domain: sites.domain,
     };
@@ -188,16 +209,14 @@ fn constraint(text: Text<'_>, at: usize) -> Result<(Row, usize), Refused>
 
 // One or more constraints, into the first rows of the table: how many there are, and the position after them. A 65th is refused with
 // 6 at its token.
-fn read_rows(text: Text<'_>, rows: &mut [u64], at: usize) -> Result<(usize, usize), Refused>
-    requires { 320 ≤ length rows.old }
+fn read_rows(text: Text<'_>, rows: &mut [Record], at: usize) -> Result<(usize, usize), Refused>
+    requires { 64 ≤ length rows.old }
     ensures { In Constrained text.entry rows.old at result rows.new }
 {
     let mut start = at;
     for n in 0..rules::CONSTRAINT_LIMIT {
         let (row, next) = constraint(text, start)?;
-        tokens::put_row(
-            rows, n, row.title, row.left, row.shape, row.right, row.domain,
-        );
+        rows[n] = row;
         let goes_on = more(text, next)?;
         if !goes_on {
             return Ok((n + 1, next));
@@ -208,10 +227,10 @@ fn read_rows(text: Text<'_>, rows: &mut [u64], at: usize) -> Result<(usize, usiz
     refused!(Full, token.place)
 }
 
-// All constraints: 1 to 64 rows of five words. How many there are, and the position after them.
+// All constraints: 1 to 64 rows. How many there are, and the position after them.
 pub fn constraints(
     text: Text<'_>,
-    rows: &mut [u64; 320],
+    rows: &mut [Record; 64],
     at: usize,
 ) -> Result<(usize, usize), Refused>
     ensures { In Constrained text.entry rows.old at result rows.new }

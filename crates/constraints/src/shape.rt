@@ -1,10 +1,8 @@
 // What the tokens of a constraint tell of its shape, beside its positions: whether its left side is one variable, and how many entries
 // its domain has.
-ghost use Rattle.constraints.specs.Shape.{IsAlone, IsBare, EntriesAre, SizeIs, ShapeIs};
-ghost use Rattle.lexer.specs.Numbers.{number};
+ghost use Rattle.constraints.specs.Shape.{IsAlone, IsBare, EntriesAre, SizeIs};
 ghost use Rattle.tokens.specs.Text.{In};
 
-use super::layout;
 use lexer::Mark;
 use tokens::Text;
 
@@ -19,7 +17,7 @@ fn is_alone(tokens: &[u64], at: usize) -> bool
 }
 
 // Whether the left side at a position is one variable, without sign or factor.
-fn is_bare(text: Text<'_>, at: usize) -> bool
+pub fn is_bare(text: Text<'_>, at: usize) -> bool
     ensures { In IsBare text.entry at result }
 {
     let Ok(token) = tokens::token_at(text.tokens, at) else {
@@ -64,7 +62,7 @@ fn entries(text: Text<'_>, at: usize) -> usize
 }
 
 // How many entries the domain at a position has, none where no domain stands there.
-fn entries_at(text: Text<'_>, at: usize) -> usize
+pub fn entries_at(text: Text<'_>, at: usize) -> usize
     ensures { In SizeIs text.entry at result }
 {
     let Ok(token) = tokens::token_at(text.tokens, at) else {
@@ -74,14 +72,4 @@ fn entries_at(text: Text<'_>, at: usize) -> usize
         return 0;
     }
     entries(text, token.next)
-}
-
-// The third word of the row of a constraint with the relation `mark`, whose left side and domain stand at these positions, and
-// which has a floor or not: `floor` is data, not a step.
-pub fn word_at(text: Text<'_>, left: usize, mark: Mark, floor: bool, domain: usize) -> u64
-    ensures { In ShapeIs text.entry left (number mark) floor domain result }
-{
-    let bare = is_bare(text, left);
-    let count = entries_at(text, domain);
-    layout::packed(mark, bare, floor, count)
 }

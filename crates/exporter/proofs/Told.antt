@@ -25,7 +25,7 @@ use Rattle.store.specs.Table.{Table, word_at}
 use Rattle.store.specs.Packed.{unpacked}
 use Rattle.rows.specs.declared.Sizes.{Sizes}
 use Rattle.rows.specs.Slots.{objective_row, less_slot, Slot}
-use Rattle.rows.specs.Bounds.{lower_word, upper_word}
+use Rattle.rows.specs.Bounds.{BoundTable}
 use Rattle.rows.specs.Read.{within, slot_at, count_at, value_of}
 use Rattle.rows.specs.Held.{Held}
 use Rattle.rows.proofs.Reading.{Within, within-yes, yes-within}
@@ -156,7 +156,7 @@ each-floor P [] h k i = k i (omega arith)
 each-floor P (e ∷ es) h k zero = h 0 e refl
 each-floor P (e ∷ es) h k (suc i) = each-floor (λ n w. P (suc n) w) es (λ n f a. h (suc n) f a) (λ n g. k (suc n) (omega arith)) i
 
-module _ {t : Table} {b : List ℕ} {m : List ℤ} {z : Sizes} {p : Lp} (h : Held t b m z p) where
+module _ {t : Table} {b : BoundTable} {m : List ℤ} {z : Sizes} {p : Lp} (h : Held t b m z p) where
   count : length (rows p) ≡ z.less + z.equal
   unfolding rows less_rows equal_rows
   count = omega (arith, length-append (less_rows p) (equal_rows p), h.rows.less_count, h.rows.equal_count)
@@ -223,8 +223,8 @@ module _ {t : Table} {b : List ℕ} {m : List ℤ} {z : Sizes} {p : Lp} (h : Hel
   bound-told : (j : ℕ) → j < z.variables → bound_text b j ≡ value_line (lower_head (suc j)) (lower_of p.entries j) ++ upper_line (suc j) (upper_of p.entries j)
   unfolding bound_text
   bound-told j g =
-      let lower = lower-told p.entries j (lower_word b j) (h.stated.lower j g) (h.stated.valid_lower j g) in
-      let upper = upper-told p.entries j (upper_word b j) (h.stated.upper j g) (h.stated.valid_upper j g) in
+      let lower = lower-told p.entries b j (h.stated.lower j g) in
+      let upper = upper-told p.entries b j (h.stated.upper j g) in
       rw (lower, upper, line-shown (lower_head (j + 1)) _ (lower-held p.entries j (h.stated.valid_lower j g)), upper-shown (j + 1) _ (upper-held p.entries j (h.stated.valid_upper j g)), add-one j)
 
   bounds : (k j : ℕ) → j + k ≤ z.variables → text_from (bound_text b) k j ≡ bound_lines j (each (bounds_at p) k j)
@@ -275,7 +275,7 @@ formed-yes x e =
       sizes = within-yes x (and_right (leb x.discrete x.variables) _ e);
     }
 
-module _ (t : Table) (b : List ℕ) (m : List ℤ) (z : Sizes) where
+module _ (t : Table) (b : BoundTable) (m : List ℤ) (z : Sizes) where
   pub exports-none : (f : Bool) (l : List ℕ) (r : ℕ) (l' : List ℕ) → f ≡ formed z → not f ≡ true → Exports t b m z l r l'
   exports-none f l r l' e n = record { lines = λ p h. never (sym (all-formed h) ∙ sym e ∙ not-true f n) }
     where

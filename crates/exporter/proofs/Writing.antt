@@ -20,8 +20,8 @@ use Rattle.listing.proofs.Showing.{whole_is, natural-shown, natural-read}
 use Rattle.listing.proofs.Writing.{Left, left-all, left-more}
 use Rattle.rows.specs.declared.Sizes.{Sizes}
 use Rattle.rows.specs.Slots.{objective_row, floor_slot}
-use Rattle.rows.specs.Bounds.{lower_word, upper_word}
-use Rattle.rows.specs.Read.{within, slot_at, count_at, value_of, lower_in, end_in}
+use Rattle.rows.specs.Bounds.{BoundTable}
+use Rattle.rows.specs.Read.{within, slot_at, count_at, value_of, lower_in, upper_in, end_in}
 use Rattle.store.specs.Table.{Table, word_at}
 use Rattle.store.specs.Packed.{unpacked}
 use Rattle.rows.proofs.Reading.{zero-count}
@@ -167,7 +167,7 @@ module _ {l : List ℕ} {at r : ℕ} {l' : List ℕ} where
   unfolding shown_upper upper_head
   upper-at j u v e w = rw e w
 
-  pub bound-lines : (b : List ℕ) (j : ℕ) (v : Value) (u : Option Value) {s : ℕ} {k : List ℕ} → v ≡ lower_in (lower_word b j) → u ≡ end_in (upper_word b j)
+  pub bound-lines : (b : BoundTable) (j : ℕ) (v : Value) (u : Option Value) {s : ℕ} {k : List ℕ} → v ≡ lower_in b j → u ≡ upper_in b j
       → Written l at (shown_line (named (bytes " LO MODEL C") (j + 1) (bytes " ")) v) s k → Written k s (shown_upper (j + 1) u) r l' → Written l at (bound_text b j) r l'
   unfolding bound_text lower_head
   bound-lines b j v u e g w x = rw (← e, ← g) (written_then _ _ _ _ _ _ _ _ w x)
@@ -201,7 +201,7 @@ module _ {l : List ℕ} {at r : ℕ} {l' : List ℕ} {r' : ℕ} {l'' : List ℕ}
     unfolding columns_text
     columns-then t m less n d v w x y = written_then _ _ _ _ _ _ _ _ w (written_then _ _ _ _ _ _ _ _ x y)
 
-    pub bounds-then : (b : List ℕ) (n : ℕ) → Written l at (bytes "BOUNDS\n") s k → Written k s (text_from (bound_text b) n 0) r l'
+    pub bounds-then : (b : BoundTable) (n : ℕ) → Written l at (bytes "BOUNDS\n") s k → Written k s (text_from (bound_text b) n 0) r l'
         → Written l' r (bytes "ENDATA\n") r' l'' → Written l at (bounds_text b n) r' l''
     unfolding bounds_text
     bounds-then b n w x y = written_then _ _ _ _ _ _ _ _ w (written_then _ _ _ _ _ _ _ _ x y)

@@ -8,8 +8,8 @@ use Rattle.value.specs.Printed.{shown}
 use Rattle.store.specs.Table.{Table, word_at}
 use Rattle.store.specs.Packed.{unpacked}
 use Rattle.rows.specs.Slots.{objective_row, floor_slot}
-use Rattle.rows.specs.Bounds.{lower_word, upper_word}
-use Rattle.rows.specs.Read.{slot_at, count_at, value_of, lower_in, end_in}
+use Rattle.rows.specs.Bounds.{BoundTable}
+use Rattle.rows.specs.Read.{slot_at, count_at, value_of, lower_in, upper_in, end_in}
 use Rattle.mps.specs.Export.{named, less_line, floor_line, equal_line, cell_head, floor_cell_head, objective_head, right_head, floor_head, lower_head, upper_head, no_upper_line, if_floor}
 
 -- a text for each of k numbers from i on
@@ -80,8 +80,8 @@ shown_upper j None = no_upper_line j
 shown_upper j (Some v) = shown_line (upper_head j) v
 
 -- the bounds of variable j
-unfoldable pub bound_text : List ℕ → ℕ → List ℕ
-bound_text b j = shown_line (lower_head (j + 1)) (lower_in (lower_word b j)) ++ shown_upper (j + 1) (end_in (upper_word b j))
+unfoldable pub bound_text : BoundTable → ℕ → List ℕ
+bound_text b j = shown_line (lower_head (j + 1)) (lower_in b j) ++ shown_upper (j + 1) (upper_in b j)
 
 -- ---- sections
 
@@ -95,5 +95,5 @@ columns_text t m less n discrete variables =
 unfoldable pub rights_text : Table → ℕ → ℕ → List ℕ
 rights_text t less n = bytes "RHS\n" ++ text_from (right_text t less) n 0
 
-unfoldable pub bounds_text : List ℕ → ℕ → List ℕ
+unfoldable pub bounds_text : BoundTable → ℕ → List ℕ
 bounds_text b n = bytes "BOUNDS\n" ++ (text_from (bound_text b) n 0 ++ bytes "ENDATA\n")

@@ -11,6 +11,7 @@ ghost use Rattle.mps.specs.Export.{named};
 ghost use Rattle.exporter.specs.Texts.{text_from, shown_line, floor_at, floor_row, cell_start, shown_twice, shown_cell, shown_floor, shown_upper, row_text, cell_text, objective_text, column_text, discrete_text, right_text, bound_text, rows_text, columns_text, rights_text, bounds_text};
 ghost use Rattle.exporter.specs.Exports.{formed, Exports};
 
+use rows::Bound;
 use store::Row;
 
 // The tables of n rows, of which the first `less` are those of `<=` and `>=`: their words, and the coefficients.
@@ -302,7 +303,7 @@ fn upper_line(j: usize, upper: Option<value::Value>, out: &mut [u8], at: usize) 
 }
 
 // The two lines of variable j.
-fn bound_lines(bounds: &[u64], j: usize, out: &mut [u8], at: usize) -> usize
+fn bound_lines(bounds: &[Bound], j: usize, out: &mut [u8], at: usize) -> usize
     requires { (j < 512) × (at < 2 ^ 37) }
     ensures { (Written out.old at (bound_text bounds.now j) result out.new) × (result ≤ at + 256) }
 {
@@ -313,7 +314,7 @@ fn bound_lines(bounds: &[u64], j: usize, out: &mut [u8], at: usize) -> usize
 }
 
 // The bounds of n variables.
-fn all_bounds(bounds: &[u64], n: usize, out: &mut [u8], at: usize) -> usize
+fn all_bounds(bounds: &[Bound], n: usize, out: &mut [u8], at: usize) -> usize
     requires { (n ≤ 512) × (at < 2 ^ 36) }
     ensures { (Written out.old at (text_from (bound_text bounds.now) n 0) result out.new) × (result ≤ at + 131072) }
 {
@@ -324,7 +325,7 @@ fn all_bounds(bounds: &[u64], n: usize, out: &mut [u8], at: usize) -> usize
     next
 }
 
-fn bounds_section(bounds: &[u64], n: usize, out: &mut [u8], at: usize) -> usize
+fn bounds_section(bounds: &[Bound], n: usize, out: &mut [u8], at: usize) -> usize
     requires { (n ≤ 512) × (at < 2 ^ 35) }
     ensures { Written out.old at (bounds_text bounds.now n) result out.new }
 {
@@ -347,7 +348,7 @@ fn is_formed(sizes: rows::Sizes) -> bool
 // The export of a problem, from the output's first byte on, and its length. Nothing is written where a number is past its limit.
 pub fn write(
     slots: &[Row],
-    bounds: &[u64],
+    bounds: &[Bound],
     counts: &[i64],
     sizes: rows::Sizes,
     out: &mut [u8],

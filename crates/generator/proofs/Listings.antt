@@ -8,7 +8,7 @@ use Prim.Native.Nat.{ℕ, zero, suc, ◌+◌, ◌<◌, ◌≤◌}
 use native.Mathlib.Omega.{arith}
 use borrow.Author.Tests.{leb-true, ltb-false, lt-ltb, le-ltb}
 use lib.Dec.{leb, ltb}
-use lib.ListN.{length, get_or, take, replicate}
+use lib.ListN.{length, take, replicate}
 use lib.IntN.{ℤ}
 use Rattle.rules.specs.declared.Refusal.{Refusal}
 use Rattle.rules.specs.declared.Refusal.TheVariants.{LongText}
@@ -27,6 +27,7 @@ use Rattle.language.specs.Answer.{Accepted, accepted, listing_of}
 use Rattle.language.proofs.ProperText.{accepted-proper}
 use Rattle.tokens.specs.Stored.{spelling, bytes_from, Named, rows_of}
 use Rattle.tokens.specs.Text.{In}
+use Rattle.constraints.specs.declared.Record.{Record}
 use Rattle.listing.proofs.Lines.{lines-shown}
 use Rattle.problem.specs.Variables.Order.{InOrder}
 use Rattle.problem.proofs.variables.Order.{declarations-order}
@@ -43,6 +44,7 @@ use Rattle.listing.proofs.sheet.Texts.{visible-inside}
 use Rattle.generator.specs.declared.Posed.{Posed}
 use Rattle.generator.specs.Generated.{reported, Prints, behind_brace, Writes, PrintsModel, PrintsIn, Generates}
 use Rattle.store.specs.Table.{Table}
+use Rattle.rows.specs.Bounds.{BoundTable, unstated, nth_bound}
 
 -- ---- a text that was read is not too long
 
@@ -88,7 +90,7 @@ unfolding listing_of
 written-listing t out r out' l = record { report = λ x y g d. subst (λ b. Written out 0 b r out') (lines-shown (lines_of x y) d.proper) (l.lines x y d) }
 
 -- of every model and problem that the tables are of, the report f was written
-abbrev Told : (Accepted → List ℕ) → List ℕ → List ℕ → List ℕ → List ℕ → Table → Table → List ℕ → List ℤ → Sizes → ℕ → ℕ → ℕ → List ℕ → ℕ → List ℕ → Type 0
+abbrev Told : (Accepted → List ℕ) → List ℕ → List ℕ → List ℕ → List Record → Table → Table → BoundTable → List ℤ → Sizes → ℕ → ℕ → ℕ → List ℕ → ℕ → List ℕ → Type 0
 Told f s ns ts cs vs rows bs m z title place bytes out r out' =
     (x : Model) (p : Lp) → generate x ≡ done p → Shown s ns ts cs vs rows bs m z title place bytes x p → Written out 0 (f (record { model = x; problem = p })) r out'
 
@@ -112,12 +114,13 @@ module _ (s : List ℕ) (m : Model) (reads : read_model s ≡ done m) where
 
 -- ---- the listing of a text that was read
 
-zeros-at : (n k : ℕ) → ◌≡◌ {A = ℕ} (get_or (replicate n 0) k 0) 0
-zeros-at zero k = refl
-zeros-at (suc n) zero = refl
-zeros-at (suc n) (suc k) = zeros-at n k
+unstated-at : (n k : ℕ) → nth_bound (replicate n unstated) k ≡ unstated
+unfolding nth_bound
+unstated-at zero k = refl
+unstated-at (suc n) zero = refl
+unstated-at (suc n) (suc k) = unstated-at n k
 
-module _ (s ts ns cs : List ℕ) (ds : Table) (r : Tables) (few : r.constraints ≤ 64) (bs : List ℕ) (unstated : bs ≡ replicate 1024 0) (m : Model) (reads : read_model s ≡ done m) (h : ModelAt s ts ns cs ds r m) where
+module _ (s ts ns : List ℕ) (cs : List Record) (ds : Table) (r : Tables) (few : r.constraints ≤ 64) (bs : BoundTable) (empty : bs ≡ replicate 512 unstated) (m : Model) (reads : read_model s ≡ done m) (h : ModelAt s ts ns cs ds r m) where
   -- the tables tell of the model
   poses : Poses (rows_of r.names ns) ts ds r.given r.objective r.minimize cs r.constraints bs (model-holds s ts ns cs ds r m h).world m
   unfolding constraint_limit
@@ -133,10 +136,10 @@ module _ (s ts ns cs : List ℕ) (ds : Table) (r : Tables) (few : r.constraints 
         minimize = h.structure.minimize;
         few = few;
         constraints = rw w.text h.structure.constraints;
-        unbound = λ k. ap (λ l. get_or l k 0) unstated ∙ zeros-at 1024 k;
+        unbound = λ k. ap (λ l. nth_bound l k) empty ∙ unstated-at 512 k;
       }
 
-  module _ (f : Accepted → List ℕ) (xs t : Table) (bs' : List ℕ) (c : List ℤ) (out out' : List ℕ) where
+  module _ (f : Accepted → List ℕ) (xs t : Table) (bs' : BoundTable) (c : List ℤ) (out out' : List ℕ) where
     made-refused : (e : Refused) → GeneratesAs (rows_of r.names ns) ts ds r.given r.objective r.minimize cs r.constraints bs (Err e) xs t bs' c
         → Prints (reported f (accepted s)) out (Err e) out'
     made-refused z g = go (generate m) refl (g.is _ m poses)
@@ -146,7 +149,7 @@ module _ (s ts ns cs : List ℕ) (ds : Table) (r : Tables) (few : r.constraints 
         go (refused n' q') i w = subst (λ o. Prints (reported f o) out (Err z) out') (sym (problem-refused s m reads n' q' i)) w
 
     made-printed : (w : Problem) → GeneratesAs (rows_of r.names ns) ts ds r.given r.objective r.minimize cs r.constraints bs (Ok w) xs t bs' c → (size : ℕ)
-        → Told f s (rows_of r.names ns) ts (rows_of r.constraints cs) xs t bs' c (sizes_of w) r.title (behind_brace r.section) r.bytes out size out'
+        → Told f s (rows_of r.names ns) ts (take r.constraints cs) xs t bs' c (sizes_of w) r.title (behind_brace r.section) r.bytes out size out'
         → Prints (reported f (accepted s)) out (Ok size) out'
     unfolding lines_of
     made-printed z g size l = go (generate m) refl (g.is _ m poses)
@@ -158,7 +161,7 @@ module _ (s ts ns cs : List ℕ) (ds : Table) (r : Tables) (few : r.constraints 
             let proper : All Proper.Proper (lines_of m p) = accepted-proper s (record { model = m; problem = p }) acc in
             let short = read_short s m reads in
             let titled : Proper.Text m.given.title = proper.0.data-title in
-            let shown : Shown s (rows_of r.names ns) ts (rows_of r.constraints cs) xs t bs' c (sizes_of z) r.title (behind_brace r.section) r.bytes m p =
+            let shown : Shown s (rows_of r.names ns) ts (take r.constraints cs) xs t bs' c (sizes_of z) r.title (behind_brace r.section) r.bytes m p =
             record {
               short = short;
               title_place = h.structure.place;
@@ -179,27 +182,27 @@ module _ (s ts ns cs : List ℕ) (ds : Table) (r : Tables) (few : r.constraints 
             subst (λ o. Prints (reported f o) out (Ok size) out') (sym acc) (l m p i shown)
 
 -- the same, of the rows of the names alone
-module _ (f : Accepted → List ℕ) (s ns ts cs : List ℕ) (ds : Table) (r : Tables) (few : r.constraints ≤ 64) (bs : List ℕ) (x : Result Problem Refused) (xs t : Table) (bs' : List ℕ) (c : List ℤ) (g : GeneratesAs ns ts ds r.given r.objective r.minimize cs r.constraints bs x xs t bs' c) (out out' : List ℕ) where
+module _ (f : Accepted → List ℕ) (s ns ts : List ℕ) (cs : List Record) (ds : Table) (r : Tables) (few : r.constraints ≤ 64) (bs : BoundTable) (x : Result Problem Refused) (xs t : Table) (bs' : BoundTable) (c : List ℤ) (g : GeneratesAs ns ts ds r.given r.objective r.minimize cs r.constraints bs x xs t bs' c) (out out' : List ℕ) where
   generates-as : (y : Result Problem Refused) → x ≡ y → (t₀ : List ℕ) → ns ≡ rows_of r.names t₀
       → GeneratesAs (rows_of r.names t₀) ts ds r.given r.objective r.minimize cs r.constraints bs y xs t bs' c
   generates-as y e t₀ i = subst₂ (λ l y. GeneratesAs l ts ds r.given r.objective r.minimize cs r.constraints bs y xs t bs' c) i e g
 
   pub print-refused : (e : Refused) → x ≡ Err e → PrintsIn f s ns ts cs ds r bs out (Err e) out'
-  print-refused z e = record { prints = λ unstated. record { prints = λ m reads t₀ i h. made-refused s ts t₀ cs ds r few bs unstated m reads h f xs t bs' c out out' z (generates-as (Err z) e t₀ i) } }
+  print-refused z e = record { prints = λ empty. record { prints = λ m reads t₀ i h. made-refused s ts t₀ cs ds r few bs empty m reads h f xs t bs' c out out' z (generates-as (Err z) e t₀ i) } }
 
   pub print-done : (w : Problem) → x ≡ Ok w → (q size : ℕ) → q ≡ behind_brace r.section
-      → Told f s ns ts (rows_of r.constraints cs) xs t bs' c (sizes_of w) r.title q r.bytes out size out'
+      → Told f s ns ts (take r.constraints cs) xs t bs' c (sizes_of w) r.title q r.bytes out size out'
       → PrintsIn f s ns ts cs ds r bs out (Ok size) out'
   print-done w e q size b l = record {
-    prints = λ unstated. record {
-      prints = λ m reads t₀ i h. made-printed s ts t₀ cs ds r few bs unstated m reads h f xs t bs' c out out' w (generates-as (Ok w) e t₀ i) size
-          (subst (λ z. Told f s z ts (rows_of r.constraints cs) xs t bs' c (sizes_of w) r.title (behind_brace r.section) r.bytes out size out') i (rw (← b) l));
+    prints = λ empty. record {
+      prints = λ m reads t₀ i h. made-printed s ts t₀ cs ds r few bs empty m reads h f xs t bs' c out out' w (generates-as (Ok w) e t₀ i) size
+          (subst (λ z. Told f s z ts (take r.constraints cs) xs t bs' c (sizes_of w) r.title (behind_brace r.section) r.bytes out size out') i (rw (← b) l));
     };
   }
 
 -- ---- the report of a text
 
-module _ (f : Accepted → List ℕ) (s : List ℕ) (r : Result Tables Refused) (ts ns cs : List ℕ) (ds : Table) (h : ReadAs s r ts ns cs ds) (out : List ℕ) where
+module _ (f : Accepted → List ℕ) (s : List ℕ) (r : Result Tables Refused) (ts ns : List ℕ) (cs : List Record) (ds : Table) (h : ReadAs s r ts ns cs ds) (out : List ℕ) where
   pub text-unread : (e : Refused) → r ≡ Err e → (out' : List ℕ) → Generates f s out (Err e) out'
   text-unread z e out' = record { prints = subst (λ o. Prints (reported f o) out (Err z) out') (sym (accepted-refused s z.refusal z.place (text-refused s r ts ns cs ds h z e))) (refl, refl) }
 

@@ -10,6 +10,7 @@ use Rattle.language.specs.Numbering.{Lp, generate}
 use Rattle.language.specs.Answer.{Accepted, accepted, fitted}
 use Rattle.tokens.specs.Stored.{rows_of}
 use Rattle.tokens.specs.Text.{In}
+use Rattle.constraints.specs.declared.Record.{Record}
 use Rattle.model.specs.declared.Model.{Model as Read}
 use Rattle.model.specs.ReadAs.{ModelAt}
 use Rattle.listing.specs.Sheet.Shown.{Shown}
@@ -19,6 +20,7 @@ use Rattle.generator.specs.declared.Answer.{Answer}
 use Rattle.generator.specs.declared.Posed.{Posed}
 use Rattle.generator.specs.Contract.{Gives}
 use Rattle.store.specs.Table.{Table}
+use Rattle.rows.specs.Bounds.{BoundTable, unstated}
 
 -- what a report f prints of an accepted text
 abbrev pub reported : (Accepted → List ℕ) → Outcome Accepted → Outcome (List ℕ)
@@ -47,12 +49,12 @@ unfoldable pub behind_brace : ℕ → ℕ
 behind_brace p = cond (ltb p byte_limit) (p + 1) 0
 
 -- of a text that was read into tables; ns are the rows of its names
-pub record PrintsModel (f : Accepted → List ℕ) (s ns ts cs : List ℕ) (ds : Table) (r : Read) (out : List ℕ) (g : Result ℕ Refused) (out' : List ℕ) : Type 0 where
+pub record PrintsModel (f : Accepted → List ℕ) (s ns ts : List ℕ) (cs : List Record) (ds : Table) (r : Read) (out : List ℕ) (g : Result ℕ Refused) (out' : List ℕ) : Type 0 where
   pub prints : (m : Model) → read_model s ≡ done m → (t : List ℕ) → ns ≡ rows_of r.names t → ModelAt s ts t cs ds r m → Prints (reported f (accepted s)) out g out'
 
 -- with tables for its problem, in which no bound is stated
-pub record PrintsIn (f : Accepted → List ℕ) (s ns ts cs : List ℕ) (ds : Table) (r : Read) (bs out : List ℕ) (g : Result ℕ Refused) (out' : List ℕ) : Type 0 where
-  pub prints : bs ≡ replicate 1024 0 → PrintsModel f s ns ts cs ds r out g out'
+pub record PrintsIn (f : Accepted → List ℕ) (s ns ts : List ℕ) (cs : List Record) (ds : Table) (r : Read) (bs : BoundTable) (out : List ℕ) (g : Result ℕ Refused) (out' : List ℕ) : Type 0 where
+  pub prints : bs ≡ replicate 512 unstated → PrintsModel f s ns ts cs ds r out g out'
 
 -- of every text
 pub record Generates (f : Accepted → List ℕ) (text out : List ℕ) (g : Result ℕ Refused) (out' : List ℕ) : Type 0 where

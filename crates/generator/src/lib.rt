@@ -10,9 +10,10 @@ ghost use Rattle.tokens.specs.Text.{In};
 ghost use Rattle.generator.specs.Contract.{Gives, Defined, Accepts, Meaning, Exports, Carries, ReadsBack, Calls};
 ghost use Rattle.generator.specs.Generated.{behind_brace, Writes, Printer, PrintsModel, PrintsIn, Generates, Rewrites, Answers};
 
+use constraints::Record;
 use evaluator::Stored;
 use model::Model;
-use rows::Sizes;
+use rows::{Bound, Sizes};
 use rules::{Refused, refused};
 use store::Row;
 use tokens::Text;
@@ -39,10 +40,10 @@ pub enum Entry {
 #[derive(Clone, Copy)]
 struct Posed<'a> {
     text: Text<'a>,
-    constraints: &'a [u64],
+    constraints: &'a [Record],
     variables: &'a [Row],
     slots: &'a [Row],
-    bounds: &'a [u64],
+    bounds: &'a [Bound],
     counts: &'a [i64],
     sizes: Sizes,
     title: usize,
@@ -90,12 +91,12 @@ fn write_export(t: Posed<'_>, out: &mut [u8]) -> usize
 // The text has the rows of its names and its tokens, and no others.
 fn list_in<P: FnOnce(Posed<'_>, &mut [u8]) -> usize>(
     text: Text<'_>,
-    constraints: &[u64; 320],
+    constraints: &[Record; 64],
     store: &[Row],
     model: Model,
     variables: &mut [Row; 512],
     slots: &mut [Row; 1026],
-    bounds: &mut [u64; 1024],
+    bounds: &mut [Bound; 512],
     counts: &mut [i64; 263168],
     print: P,
     out: &mut [u8],
@@ -127,10 +128,9 @@ fn list_in<P: FnOnce(Posed<'_>, &mut [u8]) -> usize>(
         less: problem.filled.less,
         equal: problem.filled.equal,
     };
-    let c = model.constraints * 5;
     let posed = Posed {
         text,
-        constraints: &constraints[..c],
+        constraints: &constraints[..model.constraints],
         variables,
         slots,
         bounds,
@@ -146,7 +146,7 @@ fn list_in<P: FnOnce(Posed<'_>, &mut [u8]) -> usize>(
 // The report of a model that was read into tables.
 fn list<P: FnOnce(Posed<'_>, &mut [u8]) -> usize>(
     text: Text<'_>,
-    constraints: &[u64; 320],
+    constraints: &[Record; 64],
     store: &[Row],
     model: Model,
     print: P,
@@ -158,7 +158,7 @@ fn list<P: FnOnce(Posed<'_>, &mut [u8]) -> usize>(
 {
     let mut variables = [Row::none(); 512];
     let mut slots = [Row::none(); 1026];
-    let mut bounds = [0u64; 1024];
+    let mut bounds = [Bound::unstated(); 512];
     let mut counts = [0i64; 263168];
     list_in(
         text,
@@ -177,7 +177,7 @@ fn list<P: FnOnce(Posed<'_>, &mut [u8]) -> usize>(
 // The same, of all rows and tokens of the tables.
 fn part<P: FnOnce(Posed<'_>, &mut [u8]) -> usize>(
     text: Text<'_>,
-    constraints: &[u64; 320],
+    constraints: &[Record; 64],
     store: &[Row; 2048],
     model: Model,
     print: P,
@@ -202,7 +202,7 @@ fn generate_in<P: FnOnce(Posed<'_>, &mut [u8]) -> usize>(
     text: &[u8],
     tokens: &mut [u64; 16385],
     names: &mut [u64; 320],
-    constraints: &mut [u64; 320],
+    constraints: &mut [Record; 64],
     store: &mut [Row; 2048],
     print: P,
     out: &mut [u8],
@@ -230,7 +230,7 @@ fn generate<P: FnOnce(Posed<'_>, &mut [u8]) -> usize>(
 {
     let mut tokens = [0u64; 16385];
     let mut names = [0u64; 320];
-    let mut constraints = [0u64; 320];
+    let mut constraints = [Record::none(); 64];
     let mut store = [Row::none(); 2048];
     generate_in(
         text,

@@ -16,8 +16,9 @@ ghost use Rattle.listing.specs.Sheet.Told.{RowAlone, RowTold, VariableTold, Writ
 ghost use Rattle.listing.specs.Sheet.Shown.{Lists};
 ghost use Rattle.tokens.specs.Text.{In};
 
-use constraints::layout;
+use constraints::Record;
 use evaluator::steps::names;
+use rows::Bound;
 use store::Row;
 use tokens::Text;
 
@@ -50,10 +51,11 @@ fn string_at<'a>(text: &'a [u8], tokens: &[u64], at: usize) -> &'a [u8]
 }
 
 // The string of the constraint of a number.
-fn title_of<'a>(text: &'a [u8], tokens: &[u64], constraints: &[u64], i: usize) -> &'a [u8]
-    ensures { result.now ≡ title_of text.now tokens.now constraints.now i }
+fn title_of<'a>(text: &'a [u8], tokens: &[u64], table: &[Record], i: usize) -> &'a [u8]
+    ensures { result.now ≡ title_of text.now tokens.now table.now i }
 {
-    string_at(text, tokens, layout::title_of(constraints, i))
+    let row = constraints::row_at(table, i);
+    string_at(text, tokens, row.title)
 }
 
 // ---- the first line and the last
@@ -120,7 +122,7 @@ fn floor_line(row: usize, floor: Option<value::Value>, out: &mut [u8], at: usize
 fn row_alone(
     text: &[u8],
     tokens: &[u64],
-    constraints: &[u64],
+    constraints: &[Record],
     rows: &[Row],
     k: usize,
     number: usize,
@@ -142,7 +144,7 @@ fn row_alone(
 fn row_line(
     text: &[u8],
     tokens: &[u64],
-    constraints: &[u64],
+    constraints: &[Record],
     rows: &[Row],
     less: usize,
     i: usize,
@@ -163,7 +165,7 @@ fn row_line(
 fn row_lines(
     text: &[u8],
     tokens: &[u64],
-    constraints: &[u64],
+    constraints: &[Record],
     rows: &[Row],
     less: usize,
     n: usize,
@@ -186,7 +188,7 @@ fn variable_line(
     text: &[u8],
     names: &[u64],
     variables: &[Row],
-    bounds: &[u64],
+    bounds: &[Bound],
     discrete: usize,
     j: usize,
     out: &mut [u8],
@@ -208,7 +210,7 @@ fn variable_lines(
     text: &[u8],
     names: &[u64],
     variables: &[Row],
-    bounds: &[u64],
+    bounds: &[Bound],
     discrete: usize,
     n: usize,
     out: &mut [u8],
@@ -289,10 +291,10 @@ fn columns(
 // the last line. Nothing is written where a number is past its limit.
 pub fn write(
     text: Text<'_>,
-    constraints: &[u64],
+    constraints: &[Record],
     variables: &[Row],
     rows: &[Row],
-    bounds: &[u64],
+    bounds: &[Bound],
     matrix: &[i64],
     sizes: rows::Sizes,
     title: usize,

@@ -37,7 +37,7 @@ use Rattle.constraints.specs.Rows.{SideAt, FloorAt, is_bare}
 use Rattle.matrix.specs.declared.parts.Parts.{Parts}
 use Rattle.rows.specs.declared.Filled.{Filled}
 use Rattle.rows.specs.Slots.{objective_row, next_slot, RowsHeld, RowPut, Wrote}
-use Rattle.rows.specs.Bounds.{bound_stated, floor_stated}
+use Rattle.rows.specs.Bounds.{BoundTable, bound_stated, floor_stated}
 use Rattle.rows.proofs.Parts.{row_put}
 use Rattle.rows.proofs.Slotting.{rows-counted, next-within, row-added, bound-passed, objective-put}
 use Rattle.rows.proofs.Bounding.{bound-added, row-passed}
@@ -193,7 +193,7 @@ module _ (ns ts : List ℕ) (ds : Table) (given : ℕ) (xs : Table) (total : ℕ
           }
 
   -- a bound
-  module _ (p : Parts) (sc : Scope) (b : List ℕ) (few : total ≤ 512) (wide : 1024 ≤ length b) (stated : Result Bounded Refused)
+  module _ (p : Parts) (sc : Scope) (b : BoundTable) (few : total ≤ 512) (wide : 512 ≤ length b) (stated : Result Bounded Refused)
       (h : BoundIs p.floor ns ts ds given xs total 64 sc p.left p.right stated) where
     bounds : (w : Model ns ts ds given xs total) (n : ℕ) (c : Constraint) → Takes ns ts ds given xs total w n c p → is_bare c.left ≡ true → Small sc → (y : Result Bounded Refused) → stated ≡ y
         → BoundFound total (fact_with w.variables c.left c.relation c.right (under w.world sc)) y
@@ -205,7 +205,7 @@ module _ (ns ts : List ℕ) (ds : Table) (given : ℕ) (xs : Table) (total : ℕ
     bound-refused z i =
         record { adds = λ w n c k bare sm e t m f es st. entry-refused w.variables n c (under w.world sc) e es z.refusal z.place (bounds w n c k bare sm _ i) }
 
-    pub bound-stated : (w : Bounded) (half b' : List ℕ) → stated ≡ Ok w → half ≡ bound_stated b w.variable p.lower p.upper w.right → b' ≡ floor_stated half w.variable w.floor
+    pub bound-stated : (w : Bounded) (half b' : BoundTable) → stated ≡ Ok w → half ≡ bound_stated b w.variable p.lower p.upper w.right → b' ≡ floor_stated half w.variable w.floor
         → BoundAdds ns ts ds given xs total p sc b (Ok tt) b'
     bound-stated y half b' i g l =
         record {

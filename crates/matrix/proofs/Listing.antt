@@ -1,13 +1,13 @@
 -- Laws of the list of constraints: each in its row, one after the other, and all of them.
 use Rattle.std.specs.Prelude.{Err, Ok, Result}
 use Rattle.rules.specs.declared.Refused.{Refused}
-use mathlib.Core.Path.{◌≡◌, refl, sym, ◌∙◌, subst}
+use mathlib.Core.Path.{◌≡◌, refl, ◌∙◌, subst}
 use mathlib.Core.Bool.{Bool, true, false}
 use mathlib.Core.List.{List, [], ◌∷◌}
-use Prim.Native.Nat.{ℕ, zero, suc, ◌+◌, ◌*◌, ◌<◌, ◌≤◌}
+use Prim.Native.Nat.{ℕ, zero, suc, ◌+◌, ◌<◌, ◌≤◌}
 use native.Mathlib.Numerals.{add-one}
 use native.Mathlib.Omega.{arith}
-use lib.ListN.{length, take, drop, get_or, length-take, drop_of_length-le}
+use lib.ListN.{length, take, drop, length-take, drop_of_length-le}
 use lib.Seq.{get_or-take}
 use lib.IntN.{ℤ}
 use Rattle.rules.specs.declared.Refusal.{Refusal}
@@ -17,11 +17,10 @@ use Rattle.language.specs.Scope.{Scope as Bindings}
 use Rattle.language.specs.Syntax.{Name, Constraint}
 use Rattle.language.specs.Evaluation.{over}
 use Rattle.language.specs.Numbering.{Variable, Entry, add_entry, add_entries}
-use Rattle.tokens.specs.Stored.{rows_of}
 use Rattle.store.specs.Key.{name_bound}
 use Rattle.evaluator.specs.Cycle.{nothing_bound}
-use Rattle.constraints.specs.Layout.{row_at}
-use Rattle.constraints.specs.Rows.{is_bare, RowOf, Rows}
+use Rattle.constraints.specs.declared.Record.{Record}
+use Rattle.constraints.specs.Rows.{is_bare, no_row, row_at, RowOf, Rows}
 use Rattle.matrix.specs.declared.parts.Parts.{Parts}
 use Rattle.matrix.specs.Parts.Parts.{PartsAre}
 use Rattle.rows.specs.declared.Filled.{Filled}
@@ -30,10 +29,11 @@ use Rattle.rows.proofs.Bounding.{bounds-none}
 use Rattle.gatherer.specs.Cycle.{Model}
 use Rattle.matrix.specs.Answers.{State, Adds, AddsBounds, Stays, Takes, RowsAdd, BoundsAdd, OneAdds, AllAdd, Generates}
 use Rattle.store.specs.Table.{Table}
+use Rattle.rows.specs.Bounds.{BoundTable, nth_bound, unstated}
 
 -- ---- one constraint
 
-module _ (ns ts : List ℕ) (ds : Table) (given : ℕ) (xs : Table) (total : ℕ) (cs : List ℕ) (k : ℕ) (f : Filled) (t : Table) (b : List ℕ) (m : List ℤ) (p : Parts) (h : PartsAre ts cs k p) where
+module _ (ns ts : List ℕ) (ds : Table) (given : ℕ) (xs : Table) (total : ℕ) (cs : List Record) (k : ℕ) (f : Filled) (t : Table) (b : BoundTable) (m : List ℤ) (p : Parts) (h : PartsAre ts cs k p) where
   -- what the row tells
   takes : (w : Model ns ts ds given xs total) → k < name_bound → (c : Constraint) → RowOf w.world.text ts (row_at cs k) w.world.names c → Takes ns ts ds given xs total w k c p
   takes w n c r = record { tells = h.is w.world.text w.world.names c r; numbered = n }
@@ -44,7 +44,7 @@ module _ (ns ts : List ℕ) (ds : Table) (given : ℕ) (xs : Table) (total : ℕ
   pub one-rows : p.bare ≡ false → (r : Result Filled Refused) (t' : Table) (m' : List ℤ) → RowsAdd ns ts ds given xs total k p f t m r t' m' → OneAdds ns ts ds given xs total cs k f t b m r t' b m'
   one-rows i r t' m' a = record { stays = a.stays; adds = λ w n c row es st. a.adds w c (takes w n c row) (side-is false i w c row) b es st }
 
-  module _ (i : p.bare ≡ true) (q : Result Unit Refused) (b' : List ℕ) (a : BoundsAdd ns ts ds given xs total p b q b') where
+  module _ (i : p.bare ≡ true) (q : Result Unit Refused) (b' : BoundTable) (a : BoundsAdd ns ts ds given xs total p b q b') where
     pub one-bounds : q ≡ Ok tt → OneAdds ns ts ds given xs total cs k f t b m (Ok f) t b' m
     one-bounds j =
         record {
@@ -65,52 +65,28 @@ module _ (ns ts : List ℕ) (ds : Table) (given : ℕ) (xs : Table) (total : ℕ
 
 -- ---- rows of the table
 
-record RowHere (s ts : List ℕ) (names : List Name) (u : List ℕ) (l : List Constraint) (k : ℕ) : Type 0 where
+record RowHere (s ts : List ℕ) (names : List Name) (u : List Record) (l : List Constraint) (k : ℕ) : Type 0 where
   constraint : Constraint
   here : drop k l ≡ constraint ∷ drop (suc k) l
   row : RowOf s ts (row_at u k) names constraint
 
--- a row behind the first
-row-behind : (s ts : List ℕ) (names : List Name) (a b c d e : ℕ) (u : List ℕ) (k : ℕ) (x : Constraint) → RowOf s ts (row_at u k) names x → RowOf s ts (row_at (a ∷ b ∷ c ∷ d ∷ e ∷ u) (suc k)) names x
-row-behind s ts names a b c d e u k x h = subst (λ z. RowOf s ts z names x) (sym same) h
-  where
-    word : (j : ℕ) → get_or (a ∷ b ∷ c ∷ d ∷ e ∷ u) (suc k * 5 + j) 0 ≡ get_or u (k * 5 + j) 0
-    word j = let z : suc k * 5 + j ≡ suc (suc (suc (suc (suc (k * 5 + j))))) = omega arith in rw z
-
-    same : row_at (a ∷ b ∷ c ∷ d ∷ e ∷ u) (suc k) ≡ row_at u k
-    same = rw (word 0, word 1, word 2, word 3, word 4)
-
-row_here : (s ts : List ℕ) (names : List Name) (u : List ℕ) (l : List Constraint) → Rows s ts u names l → (k : ℕ) → k * 5 < length u → RowHere s ts names u l k
+row_here : (s ts : List ℕ) (names : List Name) (u : List Record) (l : List Constraint) → Rows s ts u names l → (k : ℕ) → k < length u → RowHere s ts names u l k
 row_here s ts names [] l h k g = absurd (omega arith)
-row_here s ts names (a ∷ []) l h k g = absurd h
-row_here s ts names (a ∷ b ∷ []) l h k g = absurd h
-row_here s ts names (a ∷ b ∷ c ∷ []) l h k g = absurd h
-row_here s ts names (a ∷ b ∷ c ∷ d ∷ []) l h k g = absurd h
-row_here s ts names (a ∷ b ∷ c ∷ d ∷ e ∷ u) [] h k g = absurd h
-row_here s ts names (a ∷ b ∷ c ∷ d ∷ e ∷ u) (x ∷ l) h zero g = record { constraint = x; here = refl; row = h.0 }
-row_here s ts names (a ∷ b ∷ c ∷ d ∷ e ∷ u) (x ∷ l) h (suc k) g =
-    let r = row_here s ts names u l h.1 k (omega arith) in
-    record { constraint = r.constraint; here = r.here; row = row-behind s ts names a b c d e u k r.constraint r.row }
+row_here s ts names (r ∷ u) [] h k g = absurd h
+row_here s ts names (r ∷ u) (x ∷ l) h zero g = record { constraint = x; here = refl; row = h.0 }
+row_here s ts names (r ∷ u) (x ∷ l) h (suc k) g =
+    let y = row_here s ts names u l h.1 k (omega arith) in
+    record { constraint = y.constraint; here = y.here; row = y.row }
 
-rows-length : (s ts : List ℕ) (names : List Name) (u : List ℕ) (l : List Constraint) → Rows s ts u names l → length l * 5 ≡ length u
+rows-length : (s ts : List ℕ) (names : List Name) (u : List Record) (l : List Constraint) → Rows s ts u names l → length l ≡ length u
 rows-length s ts names [] [] h = refl
 rows-length s ts names [] (x ∷ l) h = absurd h
-rows-length s ts names (a ∷ []) l h = absurd h
-rows-length s ts names (a ∷ b ∷ []) l h = absurd h
-rows-length s ts names (a ∷ b ∷ c ∷ []) l h = absurd h
-rows-length s ts names (a ∷ b ∷ c ∷ d ∷ []) l h = absurd h
-rows-length s ts names (a ∷ b ∷ c ∷ d ∷ e ∷ u) [] h = absurd h
-rows-length s ts names (a ∷ b ∷ c ∷ d ∷ e ∷ u) (x ∷ l) h = omega (arith, rows-length s ts names u l h.1)
+rows-length s ts names (r ∷ u) [] h = absurd h
+rows-length s ts names (r ∷ u) (x ∷ l) h = omega (arith, rows-length s ts names u l h.1)
 
 -- the row in the whole table
-row-whole : (s ts : List ℕ) (names : List Name) (cs : List ℕ) (count k : ℕ) (x : Constraint) → k < count → RowOf s ts (row_at (rows_of count cs) k) names x → RowOf s ts (row_at cs k) names x
-row-whole s ts names cs count k x g h = subst (λ z. RowOf s ts z names x) same h
-  where
-    word : (j : ℕ) → j < 5 → get_or (take (count * 5) cs) (k * 5 + j) 0 ≡ get_or cs (k * 5 + j) 0
-    word j i = get_or-take (count * 5) cs (k * 5 + j) 0 (omega arith)
-
-    same : row_at (rows_of count cs) k ≡ row_at cs k
-    same = rw (word 0 (omega arith), word 1 (omega arith), word 2 (omega arith), word 3 (omega arith), word 4 (omega arith))
+row-whole : (s ts : List ℕ) (names : List Name) (cs : List Record) (count k : ℕ) (x : Constraint) → k < count → RowOf s ts (row_at (take count cs) k) names x → RowOf s ts (row_at cs k) names x
+row-whole s ts names cs count k x g h = subst (λ z. RowOf s ts z names x) (get_or-take count cs k no_row g) h
 
 -- ---- one constraint more
 
@@ -130,30 +106,30 @@ module _ (vs : List Variable) (s : Bindings) (k : ℕ) (l : List Constraint) (es
 
 -- ---- the loop
 
-module _ (ns ts : List ℕ) (ds : Table) (given : ℕ) (xs : Table) (total : ℕ) (cs : List ℕ) (count : ℕ) (t₀ : Table) (b₀ : List ℕ) (m₀ : List ℤ) where
+module _ (ns ts : List ℕ) (ds : Table) (given : ℕ) (xs : Table) (total : ℕ) (cs : List Record) (count : ℕ) (t₀ : Table) (b₀ : BoundTable) (m₀ : List ℤ) where
   abbrev all-entries : (w : Model ns ts ds given xs total) → List Constraint → Outcome (List Entry)
   all-entries w l = add_entries w.variables (nothing_bound w.world) 0 l []
 
-  record AllAt (w : Model ns ts ds given xs total) (l : List Constraint) (f : Filled) (t : Table) (b : List ℕ) (m : List ℤ) (k : ℕ) : Type 0 where
+  record AllAt (w : Model ns ts ds given xs total) (l : List Constraint) (f : Filled) (t : Table) (b : BoundTable) (m : List ℤ) (k : ℕ) : Type 0 where
     entries : List Entry
     state : State w.variables t m b f entries
     due : all-entries w l ≡ add_entries w.variables (nothing_bound w.world) k (drop k l) entries
 
-  pub record AllOn (f : Filled) (t : Table) (b : List ℕ) (m : List ℤ) (k : ℕ) : Type 0 where
+  pub record AllOn (f : Filled) (t : Table) (b : BoundTable) (m : List ℤ) (k : ℕ) : Type 0 where
     pub few : total ≤ 512
-    pub rowed : 320 ≤ length cs
+    pub rowed : 64 ≤ length cs
     pub room : 1026 ≤ length t
-    pub words : 1024 ≤ length b
+    pub words : 512 ≤ length b
     pub wide : 263168 ≤ length m
     pub slots : length t ≡ length t₀
     pub bounds : length b ≡ length b₀
     pub counts : length m ≡ length m₀
     pub within : k ≤ count
     stays : Stays total m₀ m
-    on : (w : Model ns ts ds given xs total) → count ≤ constraint_limit → (l : List Constraint) → Rows w.world.text ts (rows_of count cs) w.world.names l
-        → ((i : ℕ) → get_or b₀ i 0 ≡ 0) → AllAt w l f t b m k
+    on : (w : Model ns ts ds given xs total) → count ≤ constraint_limit → (l : List Constraint) → Rows w.world.text ts (take count cs) w.world.names l
+        → ((i : ℕ) → nth_bound b₀ i ≡ unstated) → AllAt w l f t b m k
 
-  pub all_start : total ≤ 512 → 320 ≤ length cs → 1026 ≤ length t₀ → 1024 ≤ length b₀ → 263168 ≤ length m₀ → AllOn (record { less = 0; equal = 0 }) t₀ b₀ m₀ 0
+  pub all_start : total ≤ 512 → 64 ≤ length cs → 1026 ≤ length t₀ → 512 ≤ length b₀ → 263168 ≤ length m₀ → AllOn (record { less = 0; equal = 0 }) t₀ b₀ m₀ 0
   all_start a b c d e =
       record {
         few = a;
@@ -169,10 +145,10 @@ module _ (ns ts : List ℕ) (ds : Table) (given : ℕ) (xs : Table) (total : ℕ
         on = λ w i l r z. record { entries = []; state = record { rows = rows_none w.variables t₀ m₀; bounds = bounds-none b₀ (length w.variables) z }; due = refl };
       }
 
-  module _ (f : Filled) (t : Table) (b : List ℕ) (m : List ℤ) (k : ℕ) (o : AllOn f t b m k) where
-    size-rows : count ≤ constraint_limit → length (rows_of count cs) ≡ count * 5
+  module _ (f : Filled) (t : Table) (b : BoundTable) (m : List ℤ) (k : ℕ) (o : AllOn f t b m k) where
+    size-rows : count ≤ constraint_limit → length (take count cs) ≡ count
     unfolding constraint_limit
-    size-rows h = length-take (count * 5) cs ∙ omega (arith, o.rowed)
+    size-rows h = length-take count cs ∙ omega (arith, o.rowed)
 
     pub all_done : count ≤ k → AllAdd ns ts ds given xs total cs count b₀ m₀ (Ok f) t b m
     all_done g =
@@ -180,16 +156,16 @@ module _ (ns ts : List ℕ) (ds : Table) (given : ℕ) (xs : Table) (total : ℕ
           stays = o.stays;
           adds = λ w i l r z.
               let x = o.on w i l r z in
-              let n : length l ≤ k = omega (arith, rows-length w.world.text ts w.world.names (rows_of count cs) l r, size-rows i) in
+              let n : length l ≤ k = omega (arith, rows-length w.world.text ts w.world.names (take count cs) l r, size-rows i) in
               record { entries = x.entries; is = x.due ∙ entries_none w.variables (nothing_bound w.world) k l x.entries (drop_of_length-le l n); state = x.state };
         }
 
-    module _ (g : k < count) (q : Result Filled Refused) (t' : Table) (b' : List ℕ) (m' : List ℤ) (a : OneAdds ns ts ds given xs total cs k f t b m q t' b' m') where
+    module _ (g : k < count) (q : Result Filled Refused) (t' : Table) (b' : BoundTable) (m' : List ℤ) (a : OneAdds ns ts ds given xs total cs k f t b m q t' b' m') where
       -- the constraint in row k
-      next_row : (w : Model ns ts ds given xs total) → count ≤ constraint_limit → (l : List Constraint) → Rows w.world.text ts (rows_of count cs) w.world.names l → RowHere w.world.text ts w.world.names (rows_of count cs) l k
-      next_row w i l r = row_here w.world.text ts w.world.names (rows_of count cs) l r k (omega (arith, size-rows i))
+      next_row : (w : Model ns ts ds given xs total) → count ≤ constraint_limit → (l : List Constraint) → Rows w.world.text ts (take count cs) w.world.names l → RowHere w.world.text ts w.world.names (take count cs) l k
+      next_row w i l r = row_here w.world.text ts w.world.names (take count cs) l r k (omega (arith, size-rows i))
 
-      adds-next : (w : Model ns ts ds given xs total) (i : count ≤ constraint_limit) (l : List Constraint) (r : Rows w.world.text ts (rows_of count cs) w.world.names l) (x : AllAt w l f t b m k)
+      adds-next : (w : Model ns ts ds given xs total) (i : count ≤ constraint_limit) (l : List Constraint) (r : Rows w.world.text ts (take count cs) w.world.names l) (x : AllAt w l f t b m k)
           → Adds w.variables (over (next_row w i l r).constraint.domain (nothing_bound w.world) (add_entry w.variables k (next_row w i l r).constraint) x.entries) q t' m' b'
       unfolding constraint_limit name_bound
       adds-next w i l r x =
@@ -233,7 +209,7 @@ module _ (ns ts : List ℕ) (ds : Table) (given : ℕ) (xs : Table) (total : ℕ
 
 -- ---- at most 512 variables
 
-module _ (ns ts : List ℕ) (ds : Table) (given : ℕ) (xs : Table) (total : ℕ) (cs : List ℕ) (count : ℕ) (b : List ℕ) (m : List ℤ) (r : Result Filled Refused) (t' : Table) (b' : List ℕ) (m' : List ℤ) where
+module _ (ns ts : List ℕ) (ds : Table) (given : ℕ) (xs : Table) (total : ℕ) (cs : List Record) (count : ℕ) (b : BoundTable) (m : List ℤ) (r : Result Filled Refused) (t' : Table) (b' : BoundTable) (m' : List ℤ) where
   pub too_many : 512 < total → Generates ns ts ds given xs total cs count b m r t' b' m'
   unfolding variable_limit
   too_many h = record { all = λ g. absurd (omega arith) }

@@ -31,6 +31,7 @@ use Rattle.gatherer.specs.Cycle.{Model}
 use Rattle.matrix.specs.Answers.{State, Adds, AddsBounds, Stays, Takes, RowAdds, RowsAdd, BoundAdds, BoundsAdd}
 use Rattle.matrix.proofs.Adding.{seen_all}
 use Rattle.store.specs.Table.{Table}
+use Rattle.rows.specs.Bounds.{BoundTable}
 
 module _ (ns ts : List ℕ) (ds : Table) (given : ℕ) (xs : Table) (total : ℕ) where
   -- what is left to do at the elements that a step has
@@ -49,7 +50,7 @@ module _ (ns ts : List ℕ) (ds : Table) (given : ℕ) (xs : Table) (total : ℕ
   -- ---- rows
 
   module _ (n : ℕ) (p : Parts) (f₀ : Filled) (t₀ : Table) (m₀ : List ℤ) where
-    record RowsAt (w : Model ns ts ds given xs total) (c : Constraint) (b : List ℕ) (es : List Entry) (f : Filled) (t : Table) (m : List ℤ) (r : Result (Option Here) Refused) : Type 0 where
+    record RowsAt (w : Model ns ts ds given xs total) (c : Constraint) (b : BoundTable) (es : List Entry) (f : Filled) (t : Table) (m : List ℤ) (r : Result (Option Here) Refused) : Type 0 where
       entries : List Entry
       state : State w.variables t m b f entries
       remains : Left w n c p r entries (whole w n c es)
@@ -62,7 +63,7 @@ module _ (ns ts : List ℕ) (ds : Table) (given : ℕ) (xs : Table) (total : ℕ
       pub counts : length m ≡ length m₀
       stays : Stays total m₀ m
       on : (w : Model ns ts ds given xs total) (c : Constraint) → Takes ns ts ds given xs total w n c p → is_bare c.left ≡ false
-          → (b : List ℕ) (es : List Entry) → State w.variables t₀ m₀ b f₀ es → RowsAt w c b es f t m r
+          → (b : BoundTable) (es : List Entry) → State w.variables t₀ m₀ b f₀ es → RowsAt w c b es f t m r
 
     pub rows_start : (r : Result (Option Here) Refused) → FirstIs ns ts ds given 64 p.count p.at r → total ≤ 512 → 1026 ≤ length t₀ → 263168 ≤ length m₀ → RowsOn f₀ t₀ m₀ r
     rows_start r i x y z = record { few = x; room = y; wide = z; slots = refl; counts = refl; stays = refl; on = λ w c k b bs es st. record { entries = es; state = st; remains = left-start w n c p k r i es } }
@@ -93,7 +94,7 @@ module _ (ns ts : List ℕ) (ds : Table) (given : ℕ) (xs : Table) (total : ℕ
       module _ (h : Here) (e : q ≡ Ok (Some h)) (sc : Scope) (hs : bindings_of sc ≡ bound (held h) []) (l : Element) (hl : list_of l ≡ map number_of (held h)) (z : Result Filled Refused) (t' : Table) (m' : List ℤ)
           (add : RowAdds ns ts ds given xs total n p sc (list_of l) f t m z t' m') where
         -- the step at the element
-        stepped : (w : Model ns ts ds given xs total) (c : Constraint) → Takes ns ts ds given xs total w n c p → is_bare c.left ≡ false → (b : List ℕ) (es : List Entry) → State w.variables t₀ m₀ b f₀ es
+        stepped : (w : Model ns ts ds given xs total) (c : Constraint) → Takes ns ts ds given xs total w n c p → is_bare c.left ≡ false → (b : BoundTable) (es : List Entry) → State w.variables t₀ m₀ b f₀ es
             → (x : RowsAt w c b es f t m (Ok (Some h))) → Adds w.variables (add_entry w.variables n c (under w.world sc) (list_of l) x.entries) z t' m' b
         stepped w c k b bs es st x =
             add.adds w c k b
@@ -113,7 +114,7 @@ module _ (ns ts : List ℕ) (ds : Table) (given : ℕ) (xs : Table) (total : ℕ
 
         module _ (g : Filled) (j : z ≡ Ok g) (r : Result (Option Here) Refused) (i : NextIs ns ts ds given 64 h r) where
           -- the entry is added, and the next step is r
-          next-at : (w : Model ns ts ds given xs total) (c : Constraint) → Takes ns ts ds given xs total w n c p → is_bare c.left ≡ false → (b : List ℕ) (es : List Entry) → State w.variables t₀ m₀ b f₀ es → RowsAt w c b es g t' m' r
+          next-at : (w : Model ns ts ds given xs total) (c : Constraint) → Takes ns ts ds given xs total w n c p → is_bare c.left ≡ false → (b : BoundTable) (es : List Entry) → State w.variables t₀ m₀ b f₀ es → RowsAt w c b es g t' m' r
           next-at w c k b bs es st =
               let x = subst (RowsAt w c bs es f t m) e (s.on w c k b bs es st) in
               let y = subst (λ z. Adds w.variables (add_entry w.variables n c (under w.world sc) (list_of l) x.entries) z t' m' bs) j (stepped w c k b bs es st x) in
@@ -137,23 +138,23 @@ module _ (ns ts : List ℕ) (ds : Table) (given : ℕ) (xs : Table) (total : ℕ
 
   -- ---- bounds
 
-  module _ (p : Parts) (b₀ : List ℕ) where
-    record BoundsAt (w : Model ns ts ds given xs total) (n : ℕ) (c : Constraint) (t : Table) (m : List ℤ) (f : Filled) (es : List Entry) (b : List ℕ) (r : Result (Option Here) Refused) : Type 0 where
+  module _ (p : Parts) (b₀ : BoundTable) where
+    record BoundsAt (w : Model ns ts ds given xs total) (n : ℕ) (c : Constraint) (t : Table) (m : List ℤ) (f : Filled) (es : List Entry) (b : BoundTable) (r : Result (Option Here) Refused) : Type 0 where
       entries : List Entry
       state : State w.variables t m b f entries
       remains : Left w n c p r entries (whole w n c es)
 
-    pub record BoundsOn (b : List ℕ) (r : Result (Option Here) Refused) : Type 0 where
+    pub record BoundsOn (b : BoundTable) (r : Result (Option Here) Refused) : Type 0 where
       pub few : total ≤ 512
-      pub room : 1024 ≤ length b
+      pub room : 512 ≤ length b
       pub words : length b ≡ length b₀
       on : (w : Model ns ts ds given xs total) (n : ℕ) (c : Constraint) → Takes ns ts ds given xs total w n c p → is_bare c.left ≡ true
           → (t : Table) (m : List ℤ) (f : Filled) (es : List Entry) → State w.variables t m b₀ f es → BoundsAt w n c t m f es b r
 
-    pub bounds-start : (r : Result (Option Here) Refused) → FirstIs ns ts ds given 64 p.count p.at r → total ≤ 512 → 1024 ≤ length b₀ → BoundsOn b₀ r
+    pub bounds-start : (r : Result (Option Here) Refused) → FirstIs ns ts ds given 64 p.count p.at r → total ≤ 512 → 512 ≤ length b₀ → BoundsOn b₀ r
     bounds-start r i x y = record { few = x; room = y; words = refl; on = λ w n c k a t m f es st. record { entries = es; state = st; remains = left-start w n c p k r i es } }
 
-    module _ (b : List ℕ) (q : Result (Option Here) Refused) (s : BoundsOn b q) where
+    module _ (b : BoundTable) (q : Result (Option Here) Refused) (s : BoundsOn b q) where
       pub bounds-stopped : (e : Refused) → q ≡ Err e → BoundsAdd ns ts ds given xs total p b₀ (Err e) b
       bounds-stopped y e =
           record {
@@ -174,7 +175,7 @@ module _ (ns ts : List ℕ) (ds : Table) (given : ℕ) (xs : Table) (total : ℕ
                 };
           }
 
-      module _ (h : Here) (e : q ≡ Ok (Some h)) (sc : Scope) (hs : bindings_of sc ≡ bound (held h) []) (z : Result Unit Refused) (b' : List ℕ) (add : BoundAdds ns ts ds given xs total p sc b z b') where
+      module _ (h : Here) (e : q ≡ Ok (Some h)) (sc : Scope) (hs : bindings_of sc ≡ bound (held h) []) (z : Result Unit Refused) (b' : BoundTable) (add : BoundAdds ns ts ds given xs total p sc b z b') where
         stated : (w : Model ns ts ds given xs total) (n : ℕ) (c : Constraint) → Takes ns ts ds given xs total w n c p → is_bare c.left ≡ true → (t : Table) (m : List ℤ) (f : Filled) (es : List Entry)
             → (x : BoundsAt w n c t m f es b (Ok (Some h))) → AddsBounds w.variables (add_entry w.variables n c (under w.world sc) (list_of (element_at h)) x.entries) z t m b' f
         stated w n c k a t m f es x =

@@ -11,11 +11,12 @@ ghost use Rattle.store.specs.Element.{list_of};
 ghost use Rattle.matrix.specs.Answers.{RowAdds, RowsAdd, BoundAdds, BoundsAdd, OneAdds, AllAdd, Generates, ObjectiveIs};
 ghost use Rattle.evaluator.specs.Context.{Over};
 
+use constraints::Record;
 use elements::walk::Walk;
 use evaluator::steps::scope::Scope;
 use evaluator::{Context, Stored};
 use parts::Parts;
-use rows::Filled;
+use rows::{Bound, Filled};
 use rules::{Refused, refused};
 use store::{Element, Row};
 
@@ -111,9 +112,9 @@ fn bound(
     total: usize,
     parts: Parts,
     scope: Scope,
-    bounds: &mut [u64],
+    bounds: &mut [Bound],
 ) -> Result<(), Refused>
-    requires { (total ≤ 512) × (1024 ≤ length bounds.old) }
+    requires { (total ≤ 512) × (512 ≤ length bounds.old) }
     ensures { Over BoundAdds stored.entry variables.now total parts scope bounds.old result bounds.new }
 {
     let cx = Context {
@@ -140,9 +141,9 @@ fn bounds_of(
     variables: &[Row],
     total: usize,
     parts: Parts,
-    bounds: &mut [u64],
+    bounds: &mut [Bound],
 ) -> Result<(), Refused>
-    requires { (total ≤ 512) × (1024 ≤ length bounds.old) }
+    requires { (total ≤ 512) × (512 ≤ length bounds.old) }
     ensures { Over BoundsAdd stored.entry variables.now total parts bounds.old result bounds.new }
 {
     let cx = Context {
@@ -165,14 +166,14 @@ fn one(
     stored: Stored<'_>,
     variables: &[Row],
     total: usize,
-    constraints: &[u64],
+    constraints: &[Record],
     k: usize,
     filled: Filled,
     slots: &mut [Row],
-    bounds: &mut [u64],
+    bounds: &mut [Bound],
     counts: &mut [i64],
 ) -> Result<Filled, Refused>
-    requires { (total ≤ 512) × (1026 ≤ length slots.old) × (1024 ≤ length bounds.old) × (263168 ≤ length counts.old) }
+    requires { (total ≤ 512) × (1026 ≤ length slots.old) × (512 ≤ length bounds.old) × (263168 ≤ length counts.old) }
     ensures { Over OneAdds stored.entry variables.now total constraints.now k filled slots.old bounds.old counts.old result slots.new bounds.new counts.new }
 {
     let parts = parts::read(stored.tokens, constraints, k);
@@ -188,13 +189,13 @@ fn all(
     stored: Stored<'_>,
     variables: &[Row],
     total: usize,
-    constraints: &[u64],
+    constraints: &[Record],
     count: usize,
     slots: &mut [Row],
-    bounds: &mut [u64],
+    bounds: &mut [Bound],
     counts: &mut [i64],
 ) -> Result<Filled, Refused>
-    requires { (total ≤ 512) × (1026 ≤ length slots.old) × (1024 ≤ length bounds.old) × (263168 ≤ length counts.old) × (320 ≤ length constraints.now) }
+    requires { (total ≤ 512) × (1026 ≤ length slots.old) × (512 ≤ length bounds.old) × (263168 ≤ length counts.old) × (64 ≤ length constraints.now) }
     ensures { Over AllAdd stored.entry variables.now total constraints.now count bounds.old counts.old result slots.new bounds.new counts.new }
 {
     let mut f = Filled { less: 0, equal: 0 };
@@ -219,10 +220,10 @@ pub fn constraints(
     stored: Stored<'_>,
     variables: &[Row],
     total: usize,
-    constraints: &[u64; 320],
+    constraints: &[Record; 64],
     count: usize,
     slots: &mut [Row; 1026],
-    bounds: &mut [u64; 1024],
+    bounds: &mut [Bound; 512],
     counts: &mut [i64; 263168],
 ) -> Result<Filled, Refused>
     ensures { Over Generates stored.entry variables.now total constraints.now count bounds.old counts.old result slots.new bounds.new counts.new }

@@ -2,7 +2,7 @@
 // relation says. What an answer tells is in specs/Parts.antt.
 ghost use Rattle.matrix.specs.Parts.Parts.{PlaceIs, FirstIs, PartsAre};
 
-use constraints::layout;
+use constraints::Record;
 use lexer::Mark;
 
 // A constraint's place, the positions of its sides and of the first entry of its domain, and how many entries there are. `bare`:
@@ -47,25 +47,21 @@ fn first_entry(tokens: &[u64], at: usize) -> usize
 }
 
 // The parts of the constraint in row k.
-pub fn read(tokens: &[u64], constraints: &[u64], k: usize) -> Parts
-    ensures { PartsAre tokens.now constraints.now k result }
+pub fn read(tokens: &[u64], table: &[Record], k: usize) -> Parts
+    ensures { PartsAre tokens.now table.now k result }
 {
-    let place = place_at(tokens, layout::title_of(constraints, k));
-    let left = layout::left_of(constraints, k);
-    let mark = layout::relation_of(constraints, k);
-    let bare = layout::is_bare(constraints, k);
-    let right = layout::right_of(constraints, k);
-    let floor = layout::has_floor(constraints, k);
-    let at = first_entry(tokens, layout::domain_of(constraints, k));
-    let count = layout::entries_of(constraints, k);
+    let row = constraints::row_at(table, k);
+    let place = place_at(tokens, row.title);
+    let at = first_entry(tokens, row.domain);
+    let mark = row.mark.number();
     Parts {
         place,
-        left,
-        right,
+        left: row.left,
+        right: row.right,
         at,
-        count,
-        bare,
-        floor,
+        count: row.entries,
+        bare: row.bare,
+        floor: row.floor,
         flips: mark == Mark::AtLeast as u64,
         equal: mark == Mark::Equals as u64,
         lower: mark != Mark::AtMost as u64,

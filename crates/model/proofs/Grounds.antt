@@ -23,6 +23,7 @@ use Rattle.tokens.proofs.Tables.{named-length}
 use Rattle.tokens.specs.Scanner.Table.{Holds}
 use Rattle.evaluator.specs.Steps.Names.{row_word, Resolves}
 use Rattle.declarations.specs.Tables.{Spanned, Declares, Told}
+use Rattle.constraints.specs.declared.Record.{Record}
 use Rattle.parser.specs.declared.Parsed.{Parsed}
 use Rattle.parser.specs.Parsed.{StructureAt}
 use Rattle.evaluator.specs.Tables.{DomainAt, Stands}
@@ -95,7 +96,7 @@ all-literals s ts h at w v p l e = literal-first (view s (drop at ts)) l w v p (
 
 -- ---- all of it
 
-module _ (s ts ts' ns t : List ℕ) (r : Parsed) (x : Structure) (few : r.names ≤ 64) (h : Holds s ts) (a : StructureAt s ts r ns t x) (z : Resolves s (rows_of r.names ns) ts ts') where
+module _ (s ts ts' ns : List ℕ) (t : List Record) (r : Parsed) (x : Structure) (few : r.names ≤ 64) (h : Holds s ts) (a : StructureAt s ts r ns t x) (z : Resolves s (rows_of r.names ns) ts ts') where
   pub resolved-structure : StructureAt s ts' r ns t x
   resolved-structure = structure-kept s ts ts' (z.same s) r ns t x a
 

@@ -2,11 +2,13 @@
 use mathlib.Core.Path.{◌≡◌, ◌∙◌, ap}
 use mathlib.Core.List.{List, [], ◌∷◌, ◌++◌}
 use Prim.Native.Nat.{ℕ}
+use lib.ListN.{take}
 use Rattle.language.specs.Syntax.{Name, Sort, Form, Spans, Constraint, Structure}
 use Rattle.language.specs.Syntax
 use Rattle.language.specs.Reader.{Reader}
-use Rattle.tokens.specs.Stored.{from, Stands, rows_of}
+use Rattle.tokens.specs.Stored.{from, Stands}
 use Rattle.declarations.specs.Tables.{Spanned, Declares, Told, NamesAre}
+use Rattle.constraints.specs.declared.Record.{Record}
 use Rattle.constraints.specs.Rows.{RowOf, Rows}
 use Rattle.parser.specs.declared.Parsed.{Parsed}
 use Rattle.parser.specs.Parsed.{FormAt, StructureAt}
@@ -46,7 +48,7 @@ module _ (s ts ts' : List ℕ) (same : (at : ℕ) → from s ts' at ≡ from s t
   form-kept : (a : ℕ) (names : List Name) (f : Form) → FormAt s ts a names f → FormAt s ts' a names f
   form-kept a names f h = record { linear = h.linear; stands = stands-kept _ a h.linear h.stands; form = h.form }
 
-  row_kept : (row : List ℕ) (names : List Name) (x : Constraint) → RowOf s ts row names x → RowOf s ts' row names x
+  row_kept : (row : Record) (names : List Name) (x : Constraint) → RowOf s ts row names x → RowOf s ts' row names x
   unfolding stands-kept
   row_kept row names x h =
       record {
@@ -61,17 +63,13 @@ module _ (s ts ts' : List ℕ) (same : (at : ℕ) → from s ts' at ≡ from s t
         domain = stands-kept _ _ _ h.domain;
       }
 
-  rows-kept : (rows : List ℕ) (names : List Name) (xs : List Constraint) → Rows s ts rows names xs → Rows s ts' rows names xs
+  rows-kept : (rows : List Record) (names : List Name) (xs : List Constraint) → Rows s ts rows names xs → Rows s ts' rows names xs
   rows-kept [] names [] h = tt
   rows-kept [] names (x ∷ xs) h = absurd h
-  rows-kept (a ∷ []) names xs h = absurd h
-  rows-kept (a ∷ b ∷ []) names xs h = absurd h
-  rows-kept (a ∷ b ∷ c ∷ []) names xs h = absurd h
-  rows-kept (a ∷ b ∷ c ∷ d ∷ []) names xs h = absurd h
-  rows-kept (a ∷ b ∷ c ∷ d ∷ e ∷ rows) names [] h = absurd h
-  rows-kept (a ∷ b ∷ c ∷ d ∷ e ∷ rows) names (x ∷ xs) h = (row_kept _ names x h.0, rows-kept rows names xs h.1)
+  rows-kept (r ∷ rows) names [] h = absurd h
+  rows-kept (r ∷ rows) names (x ∷ xs) h = (row_kept r names x h.0, rows-kept rows names xs h.1)
 
-  pub structure-kept : (r : Parsed) (ns t : List ℕ) (x : Structure) → StructureAt s ts r ns t x → StructureAt s ts' r ns t x
+  pub structure-kept : (r : Parsed) (ns : List ℕ) (t : List Record) (x : Structure) → StructureAt s ts r ns t x → StructureAt s ts' r ns t x
   structure-kept r ns t x h =
       record {
         place = h.place;
@@ -79,5 +77,5 @@ module _ (s ts ts' : List ℕ) (same : (at : ℕ) → from s ts' at ≡ from s t
         names = names-kept _ x.names h.names;
         minimize = h.minimize;
         objective = form-kept _ x.names x.objective h.objective;
-        constraints = rows-kept (rows_of r.constraints t) x.names x.constraints h.constraints;
+        constraints = rows-kept (take r.constraints t) x.names x.constraints h.constraints;
       }

@@ -20,6 +20,7 @@ use Rattle.tokens.specs.Scanner.Table.{Scanned}
 use Rattle.tokens.proofs.scanner.Calls.{table-holds, holds-from}
 use Rattle.evaluator.specs.Steps.Names.{resolved_word, Resolves}
 use Rattle.evaluator.proofs.steps.Numbers.{map-resolves}
+use Rattle.constraints.specs.declared.Record.{Record}
 use Rattle.parser.specs.declared.Parsed.{Parsed}
 use Rattle.parser.specs.Parsed.{StructureAt, Parsing, ParsedAs}
 use Rattle.evaluator.specs.Ground.{Ground}
@@ -57,7 +58,7 @@ module _ (s t ns t' : List ℕ) (ds : Table) (n : ℕ) (x : Parsed) (a : ℕ) (g
 
 -- ---- the whole text
 
-module _ (s t ns cs : List ℕ) (ds : Table) (n : ℕ) (r : Result (Parsed × ℕ) Refused) (c : Scans s n t) (h : ParsedAs s (take n t) r ns cs) where
+module _ (s t ns : List ℕ) (cs : List Record) (ds : Table) (n : ℕ) (r : Result (Parsed × ℕ) Refused) (c : Scans s n t) (h : ParsedAs s (take n t) r ns cs) where
   parsing : Parsing (structure (tokens s)) s (take n t) r ns cs
   parsing = subst (λ l. Parsing (structure l) s (take n t) r ns cs) (holds-from s (take n t) c.holds) h.outcome
 

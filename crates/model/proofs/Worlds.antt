@@ -17,11 +17,12 @@ use Rattle.elements.specs.Placed.{Placed}
 use Rattle.data.proofs.Rows.{stores-given}
 use Rattle.model.specs.declared.Model.{Model}
 use Rattle.model.specs.ReadAs.{ModelAt, Reading, ReadAs}
+use Rattle.constraints.specs.declared.Record.{Record}
 use Rattle.store.specs.Table.{Table}
 
 -- ---- the answer
 
-module _ (s : List ℕ) (r : Result Model Refused) (ts ns cs : List ℕ) (ds : Table) (h : ReadAs s r ts ns cs ds) where
+module _ (s : List ℕ) (r : Result Model Refused) (ts ns : List ℕ) (cs : List Record) (ds : Table) (h : ReadAs s r ts ns cs ds) where
   pub text-refused : (e : Refused) → r ≡ Err e → read_model s ≡ refused e.refusal e.place
   text-refused z e = go (read_model s) (subst (Reading (read_model s) s ts ns cs ds) e h.outcome)
     where
@@ -52,7 +53,7 @@ pub record Holds (s ns ts : List ℕ) (ds : Table) (given : ℕ) (m : language.M
   pub known : world.known ≡ stored m.given.store
   pub placed : Placed ns world.names
 
-pub model-holds : (s ts ns cs : List ℕ) (ds : Table) (r : Model) (m : language.Model) → ModelAt s ts ns cs ds r m → Holds s (rows_of r.names ns) ts ds r.given m
+pub model-holds : (s ts ns : List ℕ) (cs : List Record) (ds : Table) (r : Model) (m : language.Model) → ModelAt s ts ns cs ds r m → Holds s (rows_of r.names ns) ts ds r.given m
 model-holds s ts ns cs ds r m h =
     record {
       world = world_on h.ground (stores-given ds r.given m.given.store h.store);

@@ -7,6 +7,7 @@ use Rattle.language.specs.Model as language
 use Rattle.tokens.specs.Stored.{spelling, rows_of}
 use Rattle.tokens.specs.Scanner.Table.{Holds}
 use Rattle.evaluator.specs.Steps.Names.{Resolves}
+use Rattle.constraints.specs.declared.Record.{Record}
 use Rattle.parser.specs.declared.Parsed.{Parsed}
 use Rattle.parser.specs.Parsed.{StructureAt}
 use Rattle.evaluator.specs.Ground.{Ground}
@@ -57,7 +58,7 @@ parsed_of r = record { title = r.title; names = r.names; minimize = r.minimize; 
 
 -- ts are the text's tokens with the numbers of their names; the first rows of ns and cs tell of the names and constraints, those
 -- of ds hold the data
-pub record ModelAt (s ts ns cs : List ℕ) (ds : Table) (r : Model) (m : language.Model) : Type 0 where
+pub record ModelAt (s ts ns : List ℕ) (cs : List Record) (ds : Table) (r : Model) (m : language.Model) : Type 0 where
   pub ground : Ground s (rows_of r.names ns) ts
   pub names : ground.names ≡ m.structure.names
   pub placed : Placed (rows_of r.names ns) m.structure.names
@@ -66,13 +67,13 @@ pub record ModelAt (s ts ns cs : List ℕ) (ds : Table) (r : Model) (m : languag
   pub store : Stores ds r.given m.given.store
 
 -- the same refusal, or the tables tell of the model
-abbrev pub Reading : Outcome language.Model → List ℕ → List ℕ → List ℕ → List ℕ → Table → Result Model Refused → Type 0
+abbrev pub Reading : Outcome language.Model → List ℕ → List ℕ → List ℕ → List Record → Table → Result Model Refused → Type 0
 Reading (done m) s ts ns cs ds (Ok r) = ModelAt s (take r.tokens ts) ns cs ds r m
 Reading (done m) s ts ns cs ds (Err e) = ⊥
 Reading (refused k q) s ts ns cs ds (Ok r) = ⊥
 Reading (refused k q) s ts ns cs ds (Err e) = (k ≡ e.refusal) × (q ≡ e.place)
 
-pub record ReadAs (s : List ℕ) (r : Result Model Refused) (ts ns cs : List ℕ) (ds : Table) : Type 0 where
+pub record ReadAs (s : List ℕ) (r : Result Model Refused) (ts ns : List ℕ) (cs : List Record) (ds : Table) : Type 0 where
   pub scanned : IfOk r (λ x. x.tokens ≤ 16385)
   pub named : IfOk r (λ x. x.names ≤ 64)
   pub constrained : IfOk r (λ x. x.constraints ≤ 64)

@@ -8,6 +8,7 @@ ghost use Rattle.parser.specs.Parsed.{ParsedAs};
 ghost use Rattle.data.specs.Sections.{ReadsData};
 ghost use Rattle.model.specs.ReadAs.{Scans, Finishes, ReadAs};
 
+use constraints::Record;
 use data::Given;
 use rules::Refused;
 use store::Row;
@@ -43,7 +44,7 @@ fn parsed(
     tokens: &[u64],
     n: usize,
     names: &mut [u64; 320],
-    constraints: &mut [u64; 320],
+    constraints: &mut [Record; 64],
 ) -> Result<(parser::Parsed, usize), Refused>
     requires { n ≤ length tokens.now }
     ensures { ParsedAs text.now (take n tokens.now) result names.new constraints.new }
@@ -116,7 +117,7 @@ pub fn read(
     text: &[u8],
     tokens: &mut [u64; 16385],
     names: &mut [u64; 320],
-    constraints: &mut [u64; 320],
+    constraints: &mut [Record; 64],
     store: &mut [Row; 2048],
 ) -> Result<Model, Refused>
     ensures { ReadAs text.now result tokens.new names.new constraints.new store.new }

@@ -5,6 +5,7 @@ use mathlib.Core.Path.{◌≡◌, refl, sym, ◌∙◌, ap, subst}
 use mathlib.Core.Bool.{Bool}
 use mathlib.Core.List.{List, []}
 use Prim.Native.Nat.{ℕ}
+use lib.ListN.{take}
 use Rattle.rules.specs.Limits.{nesting_limit, constraint_limit}
 use Rattle.lexer.specs.Text.{Token}
 use Rattle.lexer.specs.Marks.{open_word, colon}
@@ -20,6 +21,7 @@ use Rattle.tokens.proofs.Moved.{stood, stuck, Got, got, gives_at, gives-refused,
 use Rattle.linear.specs.Linear.{linear_in}
 use Rattle.declarations.specs.Tables.{NamesAre, Listing, Declared}
 use Rattle.constraints.specs.Readers.{title_in, goal_in, constraints_in}
+use Rattle.constraints.specs.declared.Record.{Record}
 use Rattle.constraints.specs.Rows.{IsTrue, Rows, Constrained}
 use Rattle.parser.specs.declared.Aim.{Aim}
 use Rattle.parser.specs.declared.Body.{Body}
@@ -122,10 +124,10 @@ module _ (s ns ts : List ℕ) (at : ℕ) where
   unfolding content_in rows_rest constraints_in
   content-is names = refl
 
-  no-body : (e : Refused) (t : List ℕ) → ((names : List Name) → Named s ns names → content_in names (from s ts at) ≡ refused e.refusal e.place) → Bodied s ns ts at (Err e) t
+  no-body : (e : Refused) (t : List Record) → ((names : List Name) → Named s ns names → content_in names (from s ts at) ≡ refused e.refusal e.place) → Bodied s ns ts at (Err e) t
   no-body z t g = record { within = tt; gives = (gives-refused content_in (λ _ _. Unit {0}) s ns ts at z g).moves }
 
-  pub body-objective : (e : Refused) (t : List ℕ) → Moves objective_in s ns ts at (Err e) → Bodied s ns ts at (Err e) t
+  pub body-objective : (e : Refused) (t : List Record) → Moves objective_in s ns ts at (Err e) → Bodied s ns ts at (Err e) t
   body-objective z t h = no-body z t (λ names d. content-is names ∙ ap (λ o. follow o (rows_rest names)) (stuck objective_in s ns ts at (Err z) h names d z refl))
 
   module _ (r : Aim) (a : ℕ) (h : Gives objective_in (ObjectiveAt s ts r.minimize r.position) s ns ts at (Ok a)) where
@@ -139,16 +141,16 @@ module _ (s ns ts : List ℕ) (at : ℕ) where
     unfolding rows_rest
     behind names d = content-is names ∙ ap (λ o. follow o (rows_rest names)) (objective-read names d).reads
 
-    pub body-refused : (e : Refused) (t t' : List ℕ) → Constrained s ns ts t a (Err e) t' → Bodied s ns ts at (Err e) t'
+    pub body-refused : (e : Refused) (t t' : List Record) → Constrained s ns ts t a (Err e) t' → Bodied s ns ts at (Err e) t'
     body-refused e t t' g =
         no-body e t' (λ names d. behind names d ∙ ap (λ o. follow o (λ cs. give (all names d cs))) (stuck (constraints_in constraint_limit) s ns ts a (Err e) g.gives names d e refl))
 
-    pub body-rows : (n b : ℕ) (t t' : List ℕ) → Constrained s ns ts t a (Ok (n, b)) t' → Bodied s ns ts at (Ok (record { minimize = r.minimize; objective = r.position; constraints = n }, b)) t'
+    pub body-rows : (n b : ℕ) (t t' : List Record) → Constrained s ns ts t a (Ok (n, b)) t' → Bodied s ns ts at (Ok (record { minimize = r.minimize; objective = r.position; constraints = n }, b)) t'
     body-rows n b t t' g =
         record {
           within = g.within;
-          gives = gives_at content_in (ContentAt s ts r.minimize r.position (rows_of n t')) s ns ts at b (λ names d.
-              let x = got (constraints_in constraint_limit) (Rows s ts (rows_of n t')) s ns ts a b g.gives names d in
+          gives = gives_at content_in (ContentAt s ts r.minimize r.position (take n t')) s ns ts at b (λ names d.
+              let x = got (constraints_in constraint_limit) (Rows s ts (take n t')) s ns ts a b g.gives names d in
               record {
                 what = all names d x.what;
                 reads = behind names d ∙ ap (λ o. follow o (λ cs. give (all names d cs))) x.reads;
@@ -212,10 +214,10 @@ structure-is names l =
     goal t ns (refused n p) = refl
 
 module _ (s ts : List ℕ) where
-  no-model : (e : Refused) (ns t : List ℕ) → structure (from s ts 0) ≡ refused e.refusal e.place → ParsedAs s ts (Err e) ns t
+  no-model : (e : Refused) (ns : List ℕ) (t : List Record) → structure (from s ts 0) ≡ refused e.refusal e.place → ParsedAs s ts (Err e) ns t
   no-model z ns t i = record { named = tt; constrained = tt; outcome = subst (λ o. Parsing o s ts (Err z) ns t) (sym i) (refl, refl) }
 
-  pub parse-opening : (e : Refused) (ns t : List ℕ) → Moves opening_in s [] ts 0 (Err e) → ParsedAs s ts (Err e) ns t
+  pub parse-opening : (e : Refused) (ns : List ℕ) (t : List Record) → Moves opening_in s [] ts 0 (Err e) → ParsedAs s ts (Err e) ns t
   parse-opening z ns t h = no-model z ns t (structure-is [] (from s ts 0) ∙ ap (λ o. follow o names_rest) (stuck opening_in s [] ts 0 (Err z) h [] tt z refl))
 
   module _ (p a : ℕ) (h : Gives opening_in (TitleAt s ts p) s [] ts 0 (Ok a)) where
@@ -226,14 +228,14 @@ module _ (s ts : List ℕ) where
     unfolding names_rest
     second = structure-is [] (from s ts 0) ∙ ap (λ o. follow o names_rest) title-read.reads
 
-    pub parse-names : (e : Refused) (ns t : List ℕ) → Declared s ts a (Err e) ns → ParsedAs s ts (Err e) ns t
+    pub parse-names : (e : Refused) (ns : List ℕ) (t : List Record) → Declared s ts a (Err e) ns → ParsedAs s ts (Err e) ns t
     parse-names z ns t g = no-model z ns t (second ∙ ap (λ o. follow o (content_rest title-read.what)) (go (declarations (from s ts a)) g.lists))
       where
         go : (o : Outcome (Read (List Name))) → Listing o s ts (Err z) ns → o ≡ refused z.refusal z.place
         go (done x) k = absurd k
         go (refused m q) k = ap (λ m. refused m q) k.0 ∙ ap (refused z.refusal) k.1
 
-    module _ (ns : List ℕ) (n b : ℕ) (g : Declared s ts a (Ok (n, b)) ns) (t : List ℕ) where
+    module _ (ns : List ℕ) (n b : ℕ) (g : Declared s ts a (Ok (n, b)) ns) (t : List Record) where
       -- what the names are, and what is read behind them
       all-read : (q : Result (Parsed × ℕ) Refused) → ((names : List Name) → NamesAre s ts (rows_of n ns) names → Parsing (content_rest title-read.what names (from s ts b)) s ts q ns t) → Parsing (structure (from s ts 0)) s ts q ns t
       all-read q f = subst (λ o. Parsing o s ts q ns t) (sym second) (go (declarations (from s ts a)) g.lists)
@@ -261,7 +263,7 @@ module _ (s ts : List ℕ) where
             named = g.within;
             constrained = k.within;
             outcome = all-read (Ok (r, c)) (λ names d.
-                let x = got content_in (ContentAt s ts w.minimize w.objective (rows_of w.constraints t)) s (rows_of n ns) ts b c k.gives names d.named in
+                let x = got content_in (ContentAt s ts w.minimize w.objective (take w.constraints t)) s (rows_of n ns) ts b c k.gives names d.named in
                 subst (λ o. Parsing (follow o (λ x. give (model title-read.what names x))) s ts (Ok (r, c)) ns t) (sym x.reads) (
                   refl,
                   record {

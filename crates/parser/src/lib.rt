@@ -7,6 +7,7 @@ ghost use Rattle.tokens.specs.Text.{In};
 ghost use Rattle.parser.specs.Readers.{opening_in, objective_in};
 ghost use Rattle.parser.specs.Parsed.{TitleAt, ObjectiveAt, Bodied, ParsedAs};
 
+use constraints::Record;
 use lexer::Mark;
 use rules::Refused;
 use tokens::Text;
@@ -67,7 +68,7 @@ fn objective(text: Text<'_>, at: usize) -> Result<(Aim, usize), Refused>
 // The objective and the constraints, with the first `count` names of the table, and the position after them.
 fn read_body(
     text: Text<'_>,
-    rows: &mut [u64; 320],
+    rows: &mut [Record; 64],
     at: usize,
     count: usize,
 ) -> Result<(Body, usize), Refused>
@@ -93,7 +94,7 @@ pub fn parse(
     text: &[u8],
     tokens: &[u64],
     names: &mut [u64; 320],
-    constraints: &mut [u64; 320],
+    constraints: &mut [Record; 64],
 ) -> Result<(Parsed, usize), Refused>
     ensures { ParsedAs text.now tokens.now result names.new constraints.new }
 {

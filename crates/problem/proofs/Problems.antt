@@ -5,7 +5,7 @@ use mathlib.Core.Path.{◌≡◌, refl, sym, ◌∙◌, ap, subst, subst₂}
 use mathlib.Core.Bool.{Bool}
 use mathlib.Core.List.{List, [], map}
 use Prim.Native.Nat.{ℕ, ◌≤◌}
-use lib.ListN.{length}
+use lib.ListN.{length, take}
 use lib.IntN.{ℤ}
 use Rattle.rules.specs.Limits.{nesting_limit, variable_limit}
 use Rattle.language.specs.Outcome.{Outcome, done, refused, ◌>>=◌}
@@ -17,7 +17,8 @@ use Rattle.language.specs.Store.{all_given}
 use Rattle.language.specs.Model.{Model, start, as_discrete, as_continuous, declared}
 use Rattle.language.specs.Numbering.{Variable, Row, Entry, Lp, signed, add_variables, gathered, add_entries, generate}
 use Rattle.language.proofs.Entries.{entries-grown, entry-made}
-use Rattle.tokens.specs.Stored.{Stands, rows_of}
+use Rattle.tokens.specs.Stored.{Stands}
+use Rattle.constraints.specs.declared.Record.{Record}
 use Rattle.constraints.specs.Rows.{Rows}
 use Rattle.evaluator.specs.Tables.{World}
 use Rattle.evaluator.specs.Cycle.{nothing_bound, passed_outcome}
@@ -27,7 +28,7 @@ use Rattle.rows.specs.declared.Filled.{Filled}
 use Rattle.rows.specs.Slots.{counts_at, objective_row, ObjectiveHeld}
 use Rattle.rows.specs.Counts.{RowOf}
 use Rattle.language.specs.Linear.{linear_at}
-use Rattle.rows.specs.Bounds.{BoundsHeld}
+use Rattle.rows.specs.Bounds.{BoundTable, BoundsHeld}
 use Rattle.gatherer.specs.Cycle.{Model as Gathering}
 use Rattle.matrix.specs.Answers.{Adds, Objective, ObjectiveAdds, ObjectiveIs, Stays, Generates}
 use Rattle.problem.specs.declared.Problem.{Problem}
@@ -38,10 +39,10 @@ use Rattle.store.specs.Table.{Table}
 
 -- ---- answers
 
-answer-refused : (o : Outcome Lp) (e : Refused) (cs : List Constraint) (xs t : Table) (bs : List ℕ) (c : List ℤ) → o ≡ refused e.refusal e.place → Generating o cs (Err e) xs t bs c
+answer-refused : (o : Outcome Lp) (e : Refused) (cs : List Constraint) (xs t : Table) (bs : BoundTable) (c : List ℤ) → o ≡ refused e.refusal e.place → Generating o cs (Err e) xs t bs c
 answer-refused o z cs xs t bs c e = subst (λ o. Generating o cs (Err z) xs t bs c) (sym e) (refl, refl)
 
-answer-done : (o : Outcome Lp) (p : Lp) (cs : List Constraint) (w : Problem) (xs t : Table) (bs : List ℕ) (c : List ℤ) → o ≡ done p → Holds xs t bs c w.discrete w.total w.filled cs p
+answer-done : (o : Outcome Lp) (p : Lp) (cs : List Constraint) (w : Problem) (xs t : Table) (bs : BoundTable) (c : List ℤ) → o ≡ done p → Holds xs t bs c w.discrete w.total w.filled cs p
     → Generating o cs (Ok w) xs t bs c
 answer-done o p cs z xs t bs c e h = subst (λ o. Generating o cs (Ok z) xs t bs c) (sym e) h
 
@@ -53,12 +54,12 @@ sources m vs es e =
 
 -- ---- missing data, variables
 
-module _ {ns ts : List ℕ} {ds : Table} {given aim : ℕ} {b : Bool} {cs : List ℕ} {count : ℕ} {bs : List ℕ} where
+module _ {ns ts : List ℕ} {ds : Table} {given aim : ℕ} {b : Bool} {cs : List Record} {count : ℕ} {bs : BoundTable} where
   -- what was said of a world's names and scope is said of the model's
   at-start : (P : List Name → Scope → Type 0) (w : World ns ts ds given) (m : Model) → Poses ns ts ds given aim b cs count bs w m → P w.names (nothing_bound w) → P m.structure.names (start m)
   at-start P w m p h = subst₂ P p.names p.start h
 
-  pub missing-refused : (test : Result Unit Refused) → AllGiven ns ts ds given test → (e : Refused) → test ≡ Err e → (xs t : Table) (bs' : List ℕ) (c : List ℤ)
+  pub missing-refused : (test : Result Unit Refused) → AllGiven ns ts ds given test → (e : Refused) → test ≡ Err e → (xs t : Table) (bs' : BoundTable) (c : List ℤ)
       → GeneratesAs ns ts ds given aim b cs count bs (Err e) xs t bs' c
   missing-refused test a z e xs t bs' c = record {
     is = λ w m p. answer-refused (generate m) z m.structure.constraints xs t bs' c
@@ -69,7 +70,7 @@ module _ {ns ts : List ℕ} {ds : Table} {given aim : ℕ} {b : Bool} {cs : List
     all-given : (w : World ns ts ds given) (m : Model) → Poses ns ts ds given aim b cs count bs w m → all_given 0 m.structure.names (start m) ≡ done tt
     all-given w m p = at-start (λ l r. all_given 0 l r ≡ done tt) w m p (a.is w p.placed ∙ ap passed_outcome inside)
 
-    pub variables-refused : (r : Result (ℕ × ℕ) Refused) (xs : Table) → NumbersAs ns ts ds given r xs → (e : Refused) → r ≡ Err e → (t : Table) (bs' : List ℕ) (c : List ℤ)
+    pub variables-refused : (r : Result (ℕ × ℕ) Refused) (xs : Table) → NumbersAs ns ts ds given r xs → (e : Refused) → r ≡ Err e → (t : Table) (bs' : BoundTable) (c : List ℤ)
         → GeneratesAs ns ts ds given aim b cs count bs (Err e) xs t bs' c
     variables-refused r xs v z e t bs' c = record {
       is = λ w m p. answer-refused (generate m) z m.structure.constraints xs t bs' c
@@ -94,7 +95,7 @@ module _ {ns ts : List ℕ} {ds : Table} {given aim : ℕ} {b : Bool} {cs : List
           keyed = all-weaken (Below (length w.names)) KeyedVariable (λ v h. h.keyed) k.variables k.known;
         }
 
-    pub shaped : (r : Result (ℕ × ℕ) Refused) (xs : Table) → NumbersAs ns ts ds given r xs → (discrete total : ℕ) → r ≡ Ok (discrete, total) → (x : Result Problem Refused) (t : Table) (bs' : List ℕ) (c : List ℤ)
+    pub shaped : (r : Result (ℕ × ℕ) Refused) (xs : Table) → NumbersAs ns ts ds given r xs → (discrete total : ℕ) → r ≡ Ok (discrete, total) → (x : Result Problem Refused) (t : Table) (bs' : BoundTable) (c : List ℤ)
         → ShapesAs ns ts ds given xs discrete total aim b cs count bs x t bs' c → GeneratesAs ns ts ds given aim b cs count bs x xs t bs' c
     shaped r xs v discrete total e x t bs' c h = record {
       is = λ w m p. h.is w m p (numbers_of_lem xs discrete total (subst (λ r. NumbersAs ns ts ds given r xs) e v) w m p);
@@ -102,7 +103,7 @@ module _ {ns ts : List ℕ} {ds : Table} {given aim : ℕ} {b : Bool} {cs : List
 
 -- ---- the objective, constraints
 
-module _ {ns ts : List ℕ} {ds : Table} {given : ℕ} {xs : Table} {discrete total aim : ℕ} {b : Bool} {cs : List ℕ} {count : ℕ} {bs : List ℕ} where
+module _ {ns ts : List ℕ} {ds : Table} {given : ℕ} {xs : Table} {discrete total aim : ℕ} {b : Bool} {cs : List Record} {count : ℕ} {bs : BoundTable} where
   module _ (w : World ns ts ds given) (m : Model) (p : Poses ns ts ds given aim b cs count bs w m) (v : Numbers xs discrete total m) where
     abbrev gathering : Gathering ns ts ds given xs total
     gathering = record { world = w; variables = v.variables; held = v.numbered }
@@ -115,14 +116,14 @@ module _ {ns ts : List ℕ} {ds : Table} {given : ℕ} {xs : Table} {discrete to
         (o.is v.few gathering f.linear (subst (λ l. Stands (linear_at l nesting_limit) w.text ts aim f.linear) (sym p.names) f.stands))
 
     -- the constraints' answer, of the model
-    entries_at : (c : List ℤ) (r : Result Filled Refused) (t : Table) (bs' : List ℕ) (c' : List ℤ) → Generates ns ts ds given xs total cs count bs c r t bs' c'
+    entries_at : (c : List ℤ) (r : Result Filled Refused) (t : Table) (bs' : BoundTable) (c' : List ℤ) → Generates ns ts ds given xs total cs count bs c r t bs' c'
         → Adds v.variables (add_entries v.variables (start m) 0 m.structure.constraints []) r t c' bs'
     entries_at c r t bs' c' g =
         subst (λ z. Adds v.variables (add_entries v.variables z 0 m.structure.constraints []) r t c' bs') p.start
         ((g.all v.few).adds gathering p.few m.structure.constraints
-        (subst (λ l. Rows w.text ts (rows_of count cs) l m.structure.constraints) (sym p.names) p.constraints) p.unbound)
+        (subst (λ l. Rows w.text ts (take count cs) l m.structure.constraints) (sym p.names) p.constraints) p.unbound)
 
-  pub objective-refused : (r : Result Unit Refused) (c : List ℤ) → ObjectiveIs b ns ts ds given xs total aim r c → (e : Refused) → r ≡ Err e → (t : Table) (bs' : List ℕ) (c' : List ℤ)
+  pub objective-refused : (r : Result Unit Refused) (c : List ℤ) → ObjectiveIs b ns ts ds given xs total aim r c → (e : Refused) → r ≡ Err e → (t : Table) (bs' : BoundTable) (c' : List ℤ)
       → ShapesAs ns ts ds given xs discrete total aim b cs count bs (Err e) t bs' c'
   objective-refused r c o z e t bs' c' = record {
     is = λ w m p v. answer-refused (generate m) z m.structure.constraints xs t bs' c'
@@ -135,7 +136,7 @@ module _ {ns ts : List ℕ} {ds : Table} {given : ℕ} {xs : Table} {discrete to
         → Objective v.variables b (gathered v.variables m.structure.objective (start m)) c
     aimed w m p v = subst (λ r. ObjectiveAdds v.variables b (gathered v.variables m.structure.objective (start m)) r c) inside (objective-at w m p v r c o)
 
-    module _ (x : Result Filled Refused) (t : Table) (bs' : List ℕ) (c' : List ℤ) (g : Generates ns ts ds given xs total cs count bs c x t bs' c') where
+    module _ (x : Result Filled Refused) (t : Table) (bs' : BoundTable) (c' : List ℤ) (g : Generates ns ts ds given xs total cs count bs c x t bs' c') where
       pub constraints-refused : (e : Refused) → x ≡ Err e → ShapesAs ns ts ds given xs discrete total aim b cs count bs (Err e) t bs' c'
       constraints-refused z e = record {
         is = λ w m p v.

@@ -1,5 +1,5 @@
 -- What the tables tell of a model and of its problem.
-use Rattle.std.specs.Prelude.{Err, Ok, Result, ◌≡◌, Bool, List, [], ℕ, ◌≤◌, length, get_or, ℤ}
+use Rattle.std.specs.Prelude.{Err, Ok, Result, ◌≡◌, Bool, List, [], ℕ, ◌≤◌, length, take, ℤ}
 use Rattle.rules.specs.declared.Refused.{Refused}
 use Rattle.rules.specs.Limits.{variable_limit, constraint_limit}
 use Rattle.language.specs.Outcome.{Outcome, done, refused}
@@ -8,7 +8,7 @@ use Rattle.language.specs.Syntax.{Constraint}
 use Rattle.language.specs.Store.{all_given}
 use Rattle.language.specs.Model.{Model, start, as_discrete, as_continuous, declared}
 use Rattle.language.specs.Numbering.{Variable, Lp, add_variables, generate}
-use Rattle.tokens.specs.Stored.{rows_of}
+use Rattle.constraints.specs.declared.Record.{Record}
 use Rattle.constraints.specs.Rows.{Rows}
 use Rattle.parser.specs.Parsed.{FormAt}
 use Rattle.store.specs.Entries.{Numbered}
@@ -17,7 +17,7 @@ use Rattle.evaluator.specs.Cycle.{nothing_bound}
 use Rattle.elements.specs.Placed.{Placed}
 use Rattle.rows.specs.declared.Filled.{Filled}
 use Rattle.rows.specs.Slots.{RowsHeld, ObjectiveHeld}
-use Rattle.rows.specs.Bounds.{BoundsHeld}
+use Rattle.rows.specs.Bounds.{BoundTable, nth_bound, unstated, BoundsHeld}
 use Rattle.rows.specs.Problems.{KeyedVariable, FromConstraint}
 use Rattle.problem.specs.Variables.Order.{InOrder}
 use Rattle.problem.specs.declared.Problem.{Problem}
@@ -26,7 +26,7 @@ use Rattle.store.specs.Table.{Table}
 -- ---- the model
 
 -- the tables, which hold a world, tell of the model m: its names, its objective at `aim`, its constraints; and no bound is stated
-pub record Poses (ns ts : List ℕ) (ds : Table) (given aim : ℕ) (b : Bool) (cs : List ℕ) (count : ℕ) (bs : List ℕ) (w : World ns ts ds given) (m : Model) : Type 0 where
+pub record Poses (ns ts : List ℕ) (ds : Table) (given aim : ℕ) (b : Bool) (cs : List Record) (count : ℕ) (bs : BoundTable) (w : World ns ts ds given) (m : Model) : Type 0 where
   pub names : w.names ≡ m.structure.names
   pub start : nothing_bound w ≡ start m
   pub placed : Placed ns w.names
@@ -34,13 +34,13 @@ pub record Poses (ns ts : List ℕ) (ds : Table) (given aim : ℕ) (b : Bool) (c
   pub objective : FormAt w.text ts aim m.structure.names m.structure.objective
   pub minimize : m.structure.minimize ≡ b
   pub few : count ≤ constraint_limit
-  pub constraints : Rows w.text ts (rows_of count cs) m.structure.names m.structure.constraints
-  pub unbound : (k : ℕ) → get_or bs k 0 ≡ 0
+  pub constraints : Rows w.text ts (take count cs) m.structure.names m.structure.constraints
+  pub unbound : (k : ℕ) → nth_bound bs k ≡ unstated
 
 -- ---- the problem
 
 -- the tables of variables, slots, bounds and counts hold the problem p of the constraints cs
-pub record Holds (xs t : Table) (bs : List ℕ) (m : List ℤ) (discrete total : ℕ) (f : Filled) (cs : List Constraint) (p : Lp) : Type 0 where
+pub record Holds (xs t : Table) (bs : BoundTable) (m : List ℤ) (discrete total : ℕ) (f : Filled) (cs : List Constraint) (p : Lp) : Type 0 where
   pub discretes : discrete ≡ p.discrete
   pub few : length p.variables ≤ variable_limit
   pub numbered : Numbered xs total p.variables
@@ -51,7 +51,7 @@ pub record Holds (xs t : Table) (bs : List ℕ) (m : List ℤ) (discrete total :
   pub bounds : BoundsHeld bs total p.entries
 
 -- the same refusal, or the problem
-abbrev pub Generating : Outcome Lp → List Constraint → Result Problem Refused → Table → Table → List ℕ → List ℤ → Type 0
+abbrev pub Generating : Outcome Lp → List Constraint → Result Problem Refused → Table → Table → BoundTable → List ℤ → Type 0
 Generating (done p) cs (Ok x) xs t bs m = Holds xs t bs m x.discrete x.total x.filled cs p
 Generating (done p) cs (Err e) xs t bs m = ⊥
 Generating (refused k q) cs (Ok x) xs t bs m = ⊥
@@ -69,9 +69,9 @@ pub record Numbers (xs : Table) (a n : ℕ) (m : Model) : Type 0 where
   pub numbered : Numbered xs n variables
   pub keyed : All KeyedVariable variables
 
-pub record ShapesAs (ns ts : List ℕ) (ds : Table) (given : ℕ) (xs : Table) (discrete total aim : ℕ) (b : Bool) (cs : List ℕ) (count : ℕ) (bs : List ℕ) (r : Result Problem Refused) (t : Table) (bs' : List ℕ) (c : List ℤ) : Type 0 where
+pub record ShapesAs (ns ts : List ℕ) (ds : Table) (given : ℕ) (xs : Table) (discrete total aim : ℕ) (b : Bool) (cs : List Record) (count : ℕ) (bs : BoundTable) (r : Result Problem Refused) (t : Table) (bs' : BoundTable) (c : List ℤ) : Type 0 where
   pub is : (w : World ns ts ds given) (m : Model) → Poses ns ts ds given aim b cs count bs w m → Numbers xs discrete total m
       → Generating (generate m) m.structure.constraints r xs t bs' c
 
-pub record GeneratesAs (ns ts : List ℕ) (ds : Table) (given aim : ℕ) (b : Bool) (cs : List ℕ) (count : ℕ) (bs : List ℕ) (r : Result Problem Refused) (xs t : Table) (bs' : List ℕ) (c : List ℤ) : Type 0 where
+pub record GeneratesAs (ns ts : List ℕ) (ds : Table) (given aim : ℕ) (b : Bool) (cs : List Record) (count : ℕ) (bs : BoundTable) (r : Result Problem Refused) (xs t : Table) (bs' : BoundTable) (c : List ℤ) : Type 0 where
   pub is : (w : World ns ts ds given) (m : Model) → Poses ns ts ds given aim b cs count bs w m → Generating (generate m) m.structure.constraints r xs t bs' c

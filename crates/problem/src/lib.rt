@@ -8,8 +8,9 @@ pub mod variables;
 ghost use Rattle.problem.specs.Problem.{ShapesAs, GeneratesAs};
 ghost use Rattle.evaluator.specs.Context.{Over};
 
+use constraints::Record;
 use evaluator::Stored;
-use rows::Filled;
+use rows::{Bound, Filled};
 use rules::Refused;
 use store::Row;
 
@@ -29,10 +30,10 @@ fn shape(
     total: usize,
     aim: usize,
     minimize: bool,
-    constraints: &[u64; 320],
+    constraints: &[Record; 64],
     count: usize,
     slots: &mut [Row; 1026],
-    bounds: &mut [u64; 1024],
+    bounds: &mut [Bound; 512],
     counts: &mut [i64; 263168],
 ) -> Result<Problem, Refused>
     ensures { Over ShapesAs stored.entry variables.now discrete total aim minimize constraints.now count bounds.old result slots.new bounds.new counts.new }
@@ -61,11 +62,11 @@ pub fn generate(
     stored: Stored<'_>,
     aim: usize,
     minimize: bool,
-    constraints: &[u64; 320],
+    constraints: &[Record; 64],
     count: usize,
     variables: &mut [Row; 512],
     slots: &mut [Row; 1026],
-    bounds: &mut [u64; 1024],
+    bounds: &mut [Bound; 512],
     counts: &mut [i64; 263168],
 ) -> Result<Problem, Refused>
     ensures { Over GeneratesAs stored.entry aim minimize constraints.now count bounds.old result variables.new slots.new bounds.new counts.new }

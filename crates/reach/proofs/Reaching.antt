@@ -20,9 +20,9 @@ use Rattle.language.specs.Valid.{ValidIfAny}
 use Rattle.language.specs.Numbering.{Row, Entry, Lp, xor, rows, less_rows, equal_rows, lower_of, upper_of}
 use Rattle.language.specs.Listing.{coefficients_of}
 use Rattle.rows.specs.declared.Sizes.{Sizes}
-use Rattle.rows.specs.Bounds.{lower_word, upper_word}
+use Rattle.rows.specs.Bounds.{BoundTable}
 use Rattle.rows.specs.Slots.{Slot}
-use Rattle.rows.specs.Read.{slot_at, count_at, value_of, lower_in, end_in}
+use Rattle.rows.specs.Read.{slot_at, count_at, value_of, lower_in, upper_in}
 use Rattle.rows.specs.Held.{Held}
 use Rattle.rows.proofs.Held.{slot_held, value-told, lower-told, upper-told, row-valid, lower-held, upper-held}
 use Rattle.reach.specs.declared.End.{End}
@@ -80,12 +80,12 @@ module _ (t c : Value) (o : Option Value) where
   unfolding added_in sum_in
   added-both b p f g e h k i = rw (e, ← h, k) i
 
-module _ (bounds : List ℕ) (greatest : Bool) (j : ℕ) (t c v : Value) (z : Bool) where
+module _ (bounds : BoundTable) (greatest : Bool) (j : ℕ) (t c v : Value) (z : Bool) where
   pub column-zero : v ≡ c → z ≡ is_zero v → z ≡ true → (Some t) ≡ column_in bounds greatest j t c
   unfolding column_in
   column-zero e h k = rw (← e, ← h, k)
 
-  pub column-added : (o r : Option Value) → v ≡ c → z ≡ is_zero v → z ≡ false → o ≡ takes greatest v (lower_in (lower_word bounds j)) (end_in (upper_word bounds j))
+  pub column-added : (o r : Option Value) → v ≡ c → z ≡ is_zero v → z ≡ false → o ≡ takes greatest v (lower_in bounds j) (upper_in bounds j)
       → r ≡ added_in t v o → r ≡ column_in bounds greatest j t c
   unfolding column_in
   column-added o r e h k i a = rw (← e, ← h, k, ← i) a
@@ -93,12 +93,12 @@ module _ (bounds : List ℕ) (greatest : Bool) (j : ℕ) (t c v : Value) (z : Bo
 -- ---- all columns
 
 -- i columns more, from variable j on
-unfoldable pub columns_in : List ℤ → List ℕ → ℕ → Bool → ℕ → ℕ → Option Value → Option Value
+unfoldable pub columns_in : List ℤ → BoundTable → ℕ → Bool → ℕ → ℕ → Option Value → Option Value
 columns_in m bounds k greatest zero j t = t
 columns_in m bounds k greatest (suc i) j None = None
 columns_in m bounds k greatest (suc i) j (Some t) = columns_in m bounds k greatest i (suc j) (column_in bounds greatest j t (value_of (count_at m k j)))
 
-module _ (m : List ℤ) (bounds : List ℕ) (k : ℕ) (greatest : Bool) where
+module _ (m : List ℤ) (bounds : BoundTable) (k : ℕ) (greatest : Bool) where
   open-columns : (i j : ℕ) → columns_in m bounds k greatest i j None ≡ None
   unfolding columns_in
   open-columns zero j = refl
@@ -158,14 +158,14 @@ takes-valid greatest c l u hl hu = go (xor greatest (is_negative c))
     go true = hu
     go false = hl
 
-module _ (m : List ℤ) (bounds : List ℕ) (k : ℕ) (greatest : Bool) (lower : ℕ → Value) (upper : ℕ → Option Value) where
+module _ (m : List ℤ) (bounds : BoundTable) (k : ℕ) (greatest : Bool) (lower : ℕ → Value) (upper : ℕ → Option Value) where
   -- what the tables say of variable j, whose coefficient is c
   record ColumnTold (j : ℕ) (c : Value) : Type 0 where
     coefficient : value_of (count_at m k j) ≡ c
     valid : Valid c
-    low : lower_in (lower_word bounds j) ≡ lower j
+    low : lower_in bounds j ≡ lower j
     valid_low : Valid (lower j)
-    high : end_in (upper_word bounds j) ≡ upper j
+    high : upper_in bounds j ≡ upper j
     valid_high : ValidIfAny (upper j)
 
   column-told : (j : ℕ) (c t : Value) → ColumnTold j c → Valid t
@@ -185,7 +185,7 @@ module _ (m : List ℤ) (bounds : List ℕ) (k : ℕ) (greatest : Bool) (lower :
       ap (columns_in m bounds k greatest (length cs) (suc j)) (column-told j c t first v)
       ∙ columns-told (suc j) cs _ (λ i g. let y : suc j + i ≡ j + suc i = omega arith in rw y (h (suc i) (omega arith))) (column-valid t v (is_zero c) _)
 
-module _ {slots : Table} {bounds : List ℕ} {m : List ℤ} {sizes : Sizes} {p : Lp} (h : Held slots bounds m sizes p) where
+module _ {slots : Table} {bounds : BoundTable} {m : List ℤ} {sizes : Sizes} {p : Lp} (h : Held slots bounds m sizes p) where
   pub slot : (i : ℕ) (e : Entry) → At (rows p) i e → Slot p.variables slots m (slot_at sizes.less i) e
   unfolding rows less_rows equal_rows
   slot i e a = slot_held p.variables slots m sizes.less sizes.equal p.entries h.rows i e a
@@ -205,9 +205,9 @@ module _ {slots : Table} {bounds : List ℕ} {m : List ℤ} {sizes : Sizes} {p :
       (record {
         coefficient = value-told p.variables m _ j _ s b;
         valid = row-valid p.variables _ _ j s b;
-        low = lower-told p.entries j (lower_word bounds j) (h.stated.lower j d) (h.stated.valid_lower j d);
+        low = lower-told p.entries bounds j (h.stated.lower j d);
         valid_low = lower-held p.entries j (h.stated.valid_lower j d);
-        high = upper-told p.entries j (upper_word bounds j) (h.stated.upper j d) (h.stated.valid_upper j d);
+        high = upper-told p.entries bounds j (h.stated.upper j d);
         valid_high = upper-held p.entries j (h.stated.valid_upper j d);
       }))
       zero-valid)
@@ -227,7 +227,7 @@ reach-valid greatest p e = from-valid greatest (lower_of p.entries) (upper_of p.
 
 -- ---- what `end_of` answers
 
-module _ (m : List ℤ) (bounds : List ℕ) (k : ℕ) (greatest : Bool) (n : ℕ) where
+module _ (m : List ℤ) (bounds : BoundTable) (k : ℕ) (greatest : Bool) (n : ℕ) where
   reaches : (r : Option Value) → r ≡ columns_in m bounds k greatest n 0 (Some zero_value) → Reaches m bounds k n greatest r
   reaches r e = record { is = λ slots sizes p h c i f a q. e ∙ rw (q, c) (told h greatest i f a) }
 

@@ -5,8 +5,8 @@ use Rattle.value.specs.Decimal.{is_zero, if_in_range, sum_of, product_of}
 use Rattle.language.specs.Listed.{At}
 use Rattle.language.specs.Numbering.{Entry, Lp, rows, xor}
 use Rattle.rows.specs.declared.Sizes.{Sizes}
-use Rattle.rows.specs.Bounds.{lower_word, upper_word}
-use Rattle.rows.specs.Read.{slot_at, lower_in, end_in}
+use Rattle.rows.specs.Bounds.{BoundTable}
+use Rattle.rows.specs.Read.{slot_at, lower_in, upper_in}
 use Rattle.rows.specs.Held.{Held}
 use Rattle.reach.specs.declared.End.{End}
 use Rattle.reach.specs.declared.End.TheVariants.{Least, Greatest}
@@ -32,10 +32,10 @@ added_in t c None = None
 added_in t c (Some b) = sum_in t (if_in_range c b (product_of c b))
 
 -- one column more: the sum t, and the coefficient c of variable j
-unfoldable pub column_in : List ℕ → Bool → ℕ → Value → Value → Option Value
-column_in bounds greatest j t c = cond (is_zero c) (Some t) (added_in t c (takes greatest c (lower_in (lower_word bounds j)) (end_in (upper_word bounds j))))
+unfoldable pub column_in : BoundTable → Bool → ℕ → Value → Value → Option Value
+column_in bounds greatest j t c = cond (is_zero c) (Some t) (added_in t c (takes greatest c (lower_in bounds j) (upper_in bounds j)))
 
 -- of the row in slot k of every problem that the tables hold: row i, from 0
-pub record Reaches (m : List ℤ) (bounds : List ℕ) (k n : ℕ) (greatest : Bool) (r : Option Value) : Type 0 where
+pub record Reaches (m : List ℤ) (bounds : BoundTable) (k n : ℕ) (greatest : Bool) (r : Option Value) : Type 0 where
   pub is : (slots : Table) (sizes : Sizes) (p : Lp) → Held slots bounds m sizes p → n ≡ length p.variables
       → (i : ℕ) (e : Entry) → At (rows p) i e → k ≡ slot_at sizes.less i → r ≡ reach greatest p e

@@ -3,11 +3,11 @@
 #![tactic(auto)]
 
 ghost use Rattle.std.specs.Prelude.{◌≡◌};
-ghost use Rattle.rows.specs.Bounds.{lower_word, upper_word};
-ghost use Rattle.rows.specs.Read.{lower_in, end_in, value_of};
+ghost use Rattle.rows.specs.Read.{lower_in, upper_in, value_of};
 ghost use Rattle.reach.specs.Reach.{takes};
 ghost use Rattle.reach.specs.Tables.{is_greatest, lower_taken, added_in, column_in, Reaches};
 
+use rows::Bound;
 use value::Value;
 
 // The two ends of a row: its least value and its greatest.
@@ -28,8 +28,8 @@ fn takes_lower(end: End, c: Value) -> bool
 }
 
 // The bound of variable j that an end of a row takes where its coefficient is c.
-fn taken(bounds: &[u64], j: usize, c: Value, end: End) -> Option<Value>
-    ensures { result ≡ takes (is_greatest end) c (lower_in (lower_word bounds.now j)) (end_in (upper_word bounds.now j)) }
+fn taken(bounds: &[Bound], j: usize, c: Value, end: End) -> Option<Value>
+    ensures { result ≡ takes (is_greatest end) c (lower_in bounds.now j) (upper_in bounds.now j) }
 {
     if takes_lower(end, c) {
         return Some(rows::lower_of(bounds, j));
@@ -46,7 +46,7 @@ fn added(t: Value, c: Value, bound: Option<Value>) -> Option<Value>
 }
 
 // The sum t with the column of variable j, whose coefficient has the count z.
-fn column(t: Value, z: i64, bounds: &[u64], j: usize, end: End) -> Option<Value>
+fn column(t: Value, z: i64, bounds: &[Bound], j: usize, end: End) -> Option<Value>
     ensures { result ≡ column_in bounds.now (is_greatest end) j t (value_of z) }
 {
     let c = rows::value_of(z);
@@ -57,7 +57,7 @@ fn column(t: Value, z: i64, bounds: &[u64], j: usize, end: End) -> Option<Value>
 }
 
 // An end of the row in slot k, over n variables.
-pub fn end_of(counts: &[i64], bounds: &[u64], k: usize, n: usize, end: End) -> Option<Value>
+pub fn end_of(counts: &[i64], bounds: &[Bound], k: usize, n: usize, end: End) -> Option<Value>
     ensures { Reaches counts.now bounds.now k n (is_greatest end) result }
 {
     let mut t = Value::from(0);

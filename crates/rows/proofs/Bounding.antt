@@ -3,12 +3,12 @@ use Rattle.std.specs.Prelude.{Option, Some, None}
 use mathlib.Core.Path.{◌≡◌, refl, sym, ◌∙◌, ap}
 use mathlib.Core.Bool.{Bool, true, false, cond, ◌&&◌}
 use mathlib.Core.List.{List, [], ◌∷◌, ◌++◌}
-use Prim.Native.Nat.{ℕ, ◌+◌, ◌*◌, ◌<◌, ◌≤◌}
+use Prim.Native.Nat.{ℕ, ◌<◌, ◌≤◌}
 use native.Mathlib.Omega.{arith}
 use native.Mathlib.Decide.{ℕ_discrete}
 use borrow.Author.Tests.{eq-eqb, ne_eqb}
 use lib.Dec.{eqb}
-use lib.ListN.{length, get_or, set, length-set}
+use lib.ListN.{length, set, length-set}
 use lib.Seq.{get_or-set_same, get_or-set_other, set_out}
 use Rattle.rules.specs.Limits.{scale_limit}
 use Rattle.value.specs.declared.Value.{Value}
@@ -26,7 +26,8 @@ use Rattle.store.specs.Packed.{packed, unpacked}
 use Rattle.store.proofs.Keys.{digit-above}
 use Rattle.store.proofs.Words.{unpacked-packed, packed-in}
 use Rattle.rows.specs.Slots.{floor_word}
-use Rattle.rows.specs.Bounds.{lowers_of, uppers_of, kept_word, lower_word, upper_word, BoundsHeld, gives_way, stated_word, state_word, bound_stated, floor_stated, states_lower, states_upper}
+use Rattle.rows.specs.declared.Bound.{Bound}
+use Rattle.rows.specs.Bounds.{lowers_of, uppers_of, kept_of, BoundTable, unstated, nth_bound, BoundsHeld, gives_way, stated_value, stated_if, both_stated, bound_stated, floor_stated, states_lower, states_upper}
 
 -- ---- words
 
@@ -45,18 +46,9 @@ unfolding gives_way
 gives-way-is true u v hu hv = valid-at-most u v hu hv
 gives-way-is false u v hu hv = valid-at-most v u hv hu
 
-stated-first : (larger : Bool) (v : Value) → stated_word larger 0 v ≡ packed v
-unfolding stated_word
-stated-first larger v = refl
-
-stated-next : (larger : Bool) (u v : Value) → Valid u → Valid v → stated_word larger (packed u) v ≡ packed (cond (order larger u v) v u)
-unfolding stated_word
-stated-next larger u v hu hv =
-    rw (ne_eqb (packed u) 0 (packed_above u hu), unpacked-packed u hu.small hu.places, gives-way-is larger u v hu hv) (go (order larger u v))
-  where
-    go : (b : Bool) → cond b (packed v) (packed u) ≡ packed (cond b v u)
-    go true = refl
-    go false = refl
+stated-next : (larger : Bool) (u v : Value) → Valid u → Valid v → stated_value larger (Some u) v ≡ cond (order larger u v) v u
+unfolding stated_value
+stated-next larger u v hu hv = rw (gives-way-is larger u v hu hv)
 
 -- ---- the one that is kept
 
@@ -75,11 +67,14 @@ module _ (le : Value → Value → Bool) where
       go true = k.0
       go false = h
 
-kept_more : (larger : Bool) (l : List Value) (v : Value) → All Valid l → Valid v → kept_word (order larger) (l ++ (v ∷ [])) ≡ stated_word larger (kept_word (order larger) l) v
-unfolding kept_word extreme
-kept_more larger [] v h k = sym (stated-first larger v)
+kept_more : (larger : Bool) (l : List Value) (v : Value) → All Valid l → Valid v
+    → kept_of (order larger) (l ++ (v ∷ [])) ≡ Some (stated_value larger (kept_of (order larger) l) v)
+unfolding kept_of extreme stated_value
+kept_more larger [] v h k = refl
 kept_more larger (u ∷ l) v h k =
-    ap packed (extreme-more (order larger) u l v) ∙ sym (stated-next larger (extreme (order larger) u l) v (extreme-valid (order larger) u l h.0 h.1) k)
+    ap Some
+    (extreme-more (order larger) u l v
+    ∙ sym (stated-next larger (extreme (order larger) u l) v (extreme-valid (order larger) u l h.0 h.1) k))
 
 -- ---- what is picked
 
@@ -104,110 +99,58 @@ module _ (f : Entry → Option Value) where
       go (Some w) k = ap (λ (l : List Value). w ∷ l) k
       go None k = k
 
--- the word of the one that is kept, after one entry more
-pub record Kept (larger : Bool) (l : List Value) (w : ℕ) : Type 0 where
-  pub word : w ≡ kept_word (order larger) l
+-- the one that is kept, after one entry more
+pub record Kept (larger : Bool) (l : List Value) (o : Option Value) : Type 0 where
+  pub is : o ≡ kept_of (order larger) l
   pub valid : All Valid l
 
--- a word after one bound more, or none
-abbrev stated_if_any : Bool → ℕ → Option Value → ℕ
-stated_if_any larger w (Some v) = stated_word larger w v
+-- a bound after one more is stated, or none
+abbrev stated_if_any : Bool → Option Value → Option Value → Option Value
+stated_if_any larger w (Some v) = Some (stated_value larger w v)
 stated_if_any larger w None = w
 
-kept_next : (larger : Bool) (f : Entry → Option Value) (es : List Entry) (e : Entry) (o : Option Value) (w : ℕ) → Kept larger (picked f es) w → ValidIfAny o → f e ≡ o
-    → Kept larger (picked f (es ++ (e ∷ []))) (stated_if_any larger w o)
+kept_next : (larger : Bool) (f : Entry → Option Value) (es : List Entry) (e : Entry) (o w : Option Value)
+    → Kept larger (picked f es) w → ValidIfAny o → f e ≡ o → Kept larger (picked f (es ++ (e ∷ []))) (stated_if_any larger w o)
 kept_next larger f es e (Some v) w h d g =
     rw (picked_more f es e v g)
     (record {
-      word = ap (λ (x : ℕ). stated_word larger x v) h.word ∙ sym (kept_more larger (picked f es) v h.valid d);
+      is = ap (λ (x : Option Value). Some (stated_value larger x v)) h.is ∙ sym (kept_more larger (picked f es) v h.valid d);
       valid = all-with Valid (picked f es) v h.valid d;
     })
 kept_next larger f es e None w h d g = rw (picked_same f es e g) h
 
--- ---- words of the table
+-- ---- the table
 
-module _ (larger a : Bool) (t : List ℕ) (k : ℕ) (v : Value) where
-  state-size : length (state_word larger a t k v) ≡ length t
-  unfolding state_word
-  state-size = go a
-    where
-      go : (b : Bool) → length (cond b (set t k (stated_word larger (get_or t k 0) v)) t) ≡ length t
-      go true = length-set t k _
-      go false = refl
-
-  state-other : (q : ℕ) → (q ≡ k → ⊥) → get_or (state_word larger a t k v) q 0 ≡ get_or t q 0
-  unfolding state_word
-  state-other q d = go a
-    where
-      go : (b : Bool) → get_or (cond b (set t k (stated_word larger (get_or t k 0) v)) t) q 0 ≡ get_or t q 0
-      go true = get_or-set_other t k q _ 0 d
-      go false = refl
-
-  state-here : k < length t → get_or (state_word larger a t k v) k 0 ≡ cond a (stated_word larger (get_or t k 0) v) (get_or t k 0)
-  unfolding state_word
-  state-here h = go a
-    where
-      go : (b : Bool) → get_or (cond b (set t k (stated_word larger (get_or t k 0) v)) t) k 0 ≡ cond b (stated_word larger (get_or t k 0) v) (get_or t k 0)
-      go true = get_or-set_same t k _ 0 h
-      go false = refl
-
-  -- what the code answers
-  pub state-none : a ≡ false → t ≡ state_word larger a t k v
-  unfolding state_word
-  state-none e = rw e
-
-  pub state-out : length t ≤ k → t ≡ state_word larger a t k v
-  unfolding state_word
-  state-out h = go a
-    where
-      go : (b : Bool) → t ≡ cond b (set t k (stated_word larger (get_or t k 0) v)) t
-      go true = sym (set_out t k _ h)
-      go false = refl
-
-  pub state-set : (w : ℕ) → a ≡ true → w ≡ stated_word larger (get_or t k 0) v → set t k w ≡ state_word larger a t k v
-  unfolding state_word
-  state-set w e f = rw (e, f)
-
-module _ (t : List ℕ) (j : ℕ) (lower upper : Bool) (v : Value) where
-  abbrev half : List ℕ
-  half = state_word true lower t (j * 2) v
-
+module _ (t : BoundTable) (j : ℕ) (lower upper : Bool) (v : Value) where
   pub bound-size : length (bound_stated t j lower upper v) ≡ length t
   unfolding bound_stated
-  bound-size = state-size false upper half (j * 2 + 1) v ∙ state-size true lower t (j * 2) v
+  bound-size = length-set t j _
 
-  lower-here : j * 2 < length t → lower_word (bound_stated t j lower upper v) j ≡ cond lower (stated_word true (lower_word t j) v) (lower_word t j)
-  unfolding bound_stated
-  lower-here h = state-other false upper half (j * 2 + 1) v (j * 2) (λ e. omega arith) ∙ state-here true lower t (j * 2) v h
+  bound-here : j < length t → nth_bound (bound_stated t j lower upper v) j ≡ both_stated (nth_bound t j) lower upper v
+  unfolding bound_stated nth_bound
+  bound-here h = get_or-set_same t j _ unstated h
 
-  upper-here : j * 2 + 1 < length t → upper_word (bound_stated t j lower upper v) j ≡ cond upper (stated_word false (upper_word t j) v) (upper_word t j)
-  unfolding bound_stated
-  upper-here h =
-      let e : get_or half (j * 2 + 1) 0 ≡ get_or t (j * 2 + 1) 0 = state-other true lower t (j * 2) v (j * 2 + 1) (λ e. omega arith) in
-      state-here false upper half (j * 2 + 1) v (omega (arith, state-size true lower t (j * 2) v))
-      ∙ ap (λ (x : ℕ). cond upper (stated_word false x v) x) e
+  bound-other : (q : ℕ) → (q ≡ j → ⊥) → nth_bound (bound_stated t j lower upper v) q ≡ nth_bound t q
+  unfolding bound_stated nth_bound
+  bound-other q d = get_or-set_other t j q _ unstated d
 
-  word-other : (q : ℕ) → (q ≡ j * 2 → ⊥) → (q ≡ j * 2 + 1 → ⊥) → get_or (bound_stated t j lower upper v) q 0 ≡ get_or t q 0
-  unfolding bound_stated
-  word-other q d e = state-other false upper half (j * 2 + 1) v q e ∙ state-other true lower t (j * 2) v q d
-
+  -- what the code answers
   pub bound-out : length t ≤ j → t ≡ bound_stated t j lower upper v
   unfolding bound_stated
-  bound-out h =
-      state-out true lower t (j * 2) v (omega arith)
-      ∙ state-out false upper half (j * 2 + 1) v (omega (arith, state-size true lower t (j * 2) v))
+  bound-out h = sym (set_out t j _ h)
 
-  pub bound-in : (u w : List ℕ) → u ≡ state_word true lower t (j * 2) v → w ≡ state_word false upper u (j * 2 + 1) v → w ≡ bound_stated t j lower upper v
+  pub bound-in : (x y : Option Value) → x ≡ stated_if true lower (nth_bound t j).lower v → y ≡ stated_if false upper (nth_bound t j).upper v
+      → set t j (record { lower = x; upper = y }) ≡ bound_stated t j lower upper v
   unfolding bound_stated
-  bound-in u w e f = f ∙ ap (λ (x : List ℕ). state_word false upper x (j * 2 + 1) v) e
+  bound-in x y e f = rw (e, f)
 
 -- a floor after the right side
-module _ (t : List ℕ) (j : ℕ) where
+module _ (t : BoundTable) (j : ℕ) where
   pub floor-out : (w : ℕ) → w ≡ 0 → t ≡ floor_stated t j w
   unfolding floor_stated
   floor-out w z = rw (eq-eqb w 0 z)
 
-  pub floor-in : (w : ℕ) (v : Value) (t' : List ℕ) → (w ≡ 0 → ⊥) → v ≡ unpacked w → t' ≡ bound_stated t j true false v → t' ≡ floor_stated t j w
+  pub floor-in : (w : ℕ) (v : Value) (t' : BoundTable) → (w ≡ 0 → ⊥) → v ≡ unpacked w → t' ≡ bound_stated t j true false v → t' ≡ floor_stated t j w
   unfolding floor_stated
   floor-in w v t' z e f = rw (ne_eqb w 0 z) (f ∙ ap (bound_stated t j true false) e)
 
@@ -220,40 +163,59 @@ module _ (t : List ℕ) (j : ℕ) where
   floor-some v h = sym (floor-in (packed v) v _ (packed_above v h) (sym (unpacked-packed v h.small h.places)) refl)
 
 -- a right side and a floor: a relation does not state lower bounds by both
-module _ (t : List ℕ) (j : ℕ) (lower upper : Bool) (v : Value) (o : Option Value) (d : ValidIfAny o) where
-  abbrev stated : List ℕ
+module _ (t : BoundTable) (j : ℕ) (lower upper : Bool) (v : Value) (o : Option Value) (d : ValidIfAny o) where
+  abbrev stated : BoundTable
   stated = floor_stated (bound_stated t j lower upper v) j (floor_word o)
 
-  lower-both : (lower ≡ true → o ≡ None) → j * 2 < length t → lower_word stated j ≡ stated_if_any true (lower_word t j) (cond lower (Some v) o)
-  lower-both one h = go o d lower one
-    where
-      go : (o : Option Value) → ValidIfAny o → (lower : Bool) → (lower ≡ true → o ≡ None)
-          → lower_word (floor_stated (bound_stated t j lower upper v) j (floor_word o)) j ≡ stated_if_any true (lower_word t j) (cond lower (Some v) o)
-      go None d true one = ap (λ (x : List ℕ). lower_word x j) (floor-none _ j) ∙ lower-here t j true upper v h
-      go None d false one = ap (λ (x : List ℕ). lower_word x j) (floor-none _ j) ∙ lower-here t j false upper v h
-      go (Some u) d true one = absurd (none-some (sym (one refl)))
-      go (Some u) d false one =
-          ap (λ (x : List ℕ). lower_word x j) (floor-some _ j u d) ∙ lower-here (bound_stated t j false upper v) j true false u (omega (arith, bound-size t j false upper v))
-          ∙ ap (λ (x : ℕ). stated_word true x u) (lower-here t j false upper v h)
+  -- after the floor
+  floored : Option Value → Bound → Bound
+  floored None x = x
+  floored (Some u) x = both_stated x true false u
 
-  upper-both : j * 2 + 1 < length t → upper_word stated j ≡ stated_if_any false (upper_word t j) (cond upper (Some v) None)
-  upper-both h = go o d ∙ upper-here t j lower upper v h ∙ either upper
+  both-here : j < length t → nth_bound stated j ≡ floored o (both_stated (nth_bound t j) lower upper v)
+  unfolding floored
+  both-here h = go o d
     where
-      go : (o : Option Value) → ValidIfAny o → upper_word (floor_stated (bound_stated t j lower upper v) j (floor_word o)) j ≡ upper_word (bound_stated t j lower upper v) j
-      go None d = ap (λ (x : List ℕ). upper_word x j) (floor-none _ j)
+      here : nth_bound (bound_stated t j lower upper v) j ≡ both_stated (nth_bound t j) lower upper v
+      here = bound-here t j lower upper v h
+
+      go : (o : Option Value) → ValidIfAny o
+          → nth_bound (floor_stated (bound_stated t j lower upper v) j (floor_word o)) j ≡ floored o (both_stated (nth_bound t j) lower upper v)
+      go None d = ap (λ (x : BoundTable). nth_bound x j) (floor-none _ j) ∙ here
       go (Some u) d =
-          ap (λ (x : List ℕ). upper_word x j) (floor-some _ j u d) ∙ upper-here (bound_stated t j lower upper v) j true false u (omega (arith, bound-size t j lower upper v))
+          ap (λ (x : BoundTable). nth_bound x j) (floor-some _ j u d)
+          ∙ bound-here (bound_stated t j lower upper v) j true false u (omega (arith, bound-size t j lower upper v))
+          ∙ ap (λ (x : Bound). both_stated x true false u) here
 
-      either : (b : Bool) → cond b (stated_word false (upper_word t j) v) (upper_word t j) ≡ stated_if_any false (upper_word t j) (cond b (Some v) None)
-      either true = refl
-      either false = refl
-
-  both-other : (q : ℕ) → (q ≡ j * 2 → ⊥) → (q ≡ j * 2 + 1 → ⊥) → get_or stated q 0 ≡ get_or t q 0
-  both-other q a b = go o d ∙ word-other t j lower upper v q a b
+  lower-both : (lower ≡ true → o ≡ None) → j < length t → (nth_bound stated j).lower ≡ stated_if_any true (nth_bound t j).lower (cond lower (Some v) o)
+  unfolding stated_if nth_bound floored
+  lower-both one h = ap (λ (x : Bound). x.lower) (both-here h) ∙ go o lower one
     where
-      go : (o : Option Value) → ValidIfAny o → get_or (floor_stated (bound_stated t j lower upper v) j (floor_word o)) q 0 ≡ get_or (bound_stated t j lower upper v) q 0
-      go None d = ap (λ (x : List ℕ). get_or x q 0) (floor-none _ j)
-      go (Some u) d = ap (λ (x : List ℕ). get_or x q 0) (floor-some _ j u d) ∙ word-other (bound_stated t j lower upper v) j true false u q a b
+      go : (o : Option Value) (lower : Bool) → (lower ≡ true → o ≡ None)
+          → (floored o (both_stated (nth_bound t j) lower upper v)).lower ≡ stated_if_any true (nth_bound t j).lower (cond lower (Some v) o)
+      go None true one = refl
+      go None false one = refl
+      go (Some u) true one = absurd (none-some (sym (one refl)))
+      go (Some u) false one = refl
+
+  upper-both : j < length t → (nth_bound stated j).upper ≡ stated_if_any false (nth_bound t j).upper (cond upper (Some v) None)
+  unfolding stated_if nth_bound floored
+  upper-both h = ap (λ (x : Bound). x.upper) (both-here h) ∙ go o upper
+    where
+      go : (o : Option Value) (upper : Bool)
+          → (floored o (both_stated (nth_bound t j) lower upper v)).upper ≡ stated_if_any false (nth_bound t j).upper (cond upper (Some v) None)
+      go None true = refl
+      go None false = refl
+      go (Some u) true = refl
+      go (Some u) false = refl
+
+  both-other : (q : ℕ) → (q ≡ j → ⊥) → nth_bound stated q ≡ nth_bound t q
+  both-other q a = go o d ∙ bound-other t j lower upper v q a
+    where
+      go : (o : Option Value) → ValidIfAny o
+          → nth_bound (floor_stated (bound_stated t j lower upper v) j (floor_word o)) q ≡ nth_bound (bound_stated t j lower upper v) q
+      go None d = ap (λ (x : BoundTable). nth_bound x q) (floor-none _ j)
+      go (Some u) d = ap (λ (x : BoundTable). nth_bound x q) (floor-some _ j u d) ∙ bound-other (bound_stated t j lower upper v) j true false u q a
 
 -- ---- one entry more
 
@@ -291,49 +253,49 @@ no_bound f w i e at_least = (e, refl)
 no_bound f w i e equal = (e, e)
 no_bound f w i e (between g) = (no-floor f w i e, e)
 
-module _ (b b' : List ℕ) (n : ℕ) (es : List Entry) (e : Entry) (h : BoundsHeld b n es) where
-  held-lower : (i : ℕ) → i < n → Kept true (lowers_of es i) (lower_word b i)
-  held-lower i g = record { word = h.lower i g; valid = h.valid_lower i g }
+module _ (b b' : BoundTable) (n : ℕ) (es : List Entry) (e : Entry) (h : BoundsHeld b n es) where
+  held-lower : (i : ℕ) → i < n → Kept true (lowers_of es i) (nth_bound b i).lower
+  held-lower i g = record { is = h.lower i g; valid = h.valid_lower i g }
 
-  held-upper : (i : ℕ) → i < n → Kept false (uppers_of es i) (upper_word b i)
-  held-upper i g = record { word = h.upper i g; valid = h.valid_upper i g }
+  held-upper : (i : ℕ) → i < n → Kept false (uppers_of es i) (nth_bound b i).upper
+  held-upper i g = record { is = h.upper i g; valid = h.valid_upper i g }
 
-  held_of : ((i : ℕ) → i < n → Kept true (lowers_of (es ++ (e ∷ [])) i) (lower_word b' i)) → ((i : ℕ) → i < n → Kept false (uppers_of (es ++ (e ∷ [])) i) (upper_word b' i))
+  held_of : ((i : ℕ) → i < n → Kept true (lowers_of (es ++ (e ∷ [])) i) (nth_bound b' i).lower) → ((i : ℕ) → i < n → Kept false (uppers_of (es ++ (e ∷ [])) i) (nth_bound b' i).upper)
       → BoundsHeld b' n (es ++ (e ∷ []))
-  held_of x y = record { lower = λ i g. (x i g).word; upper = λ i g. (y i g).word; valid_lower = λ i g. (x i g).valid; valid_upper = λ i g. (y i g).valid }
+  held_of x y = record { lower = λ i g. (x i g).is; upper = λ i g. (y i g).is; valid_lower = λ i g. (x i g).valid; valid_upper = λ i g. (y i g).valid }
 
   -- of a variable for which the entry states no more than this
   lower-kept : (i : ℕ) (o : Option Value) → i < n → ValidIfAny o → lower_at e.source.constraint.relation e.fact e.floor i ≡ o
-      → lower_word b' i ≡ stated_if_any true (lower_word b i) o → Kept true (lowers_of (es ++ (e ∷ [])) i) (lower_word b' i)
+      → (nth_bound b' i).lower ≡ stated_if_any true (nth_bound b i).lower o → Kept true (lowers_of (es ++ (e ∷ [])) i) (nth_bound b' i).lower
   unfolding lowers_of
-  lower-kept i o g d q s = rw s (kept_next true (λ e. lower_at e.source.constraint.relation e.fact e.floor i) es e o (lower_word b i) (held-lower i g) d q)
+  lower-kept i o g d q s = rw s (kept_next true (λ e. lower_at e.source.constraint.relation e.fact e.floor i) es e o (nth_bound b i).lower (held-lower i g) d q)
 
-  upper-kept : (i : ℕ) (o : Option Value) → i < n → ValidIfAny o → upper_at e.source.constraint.relation e.fact i ≡ o → upper_word b' i ≡ stated_if_any false (upper_word b i) o
-      → Kept false (uppers_of (es ++ (e ∷ [])) i) (upper_word b' i)
+  upper-kept : (i : ℕ) (o : Option Value) → i < n → ValidIfAny o → upper_at e.source.constraint.relation e.fact i ≡ o → (nth_bound b' i).upper ≡ stated_if_any false (nth_bound b i).upper o
+      → Kept false (uppers_of (es ++ (e ∷ [])) i) (nth_bound b' i).upper
   unfolding uppers_of
-  upper-kept i o g d q s = rw s (kept_next false (λ e. upper_at e.source.constraint.relation e.fact i) es e o (upper_word b i) (held-upper i g) d q)
+  upper-kept i o g d q s = rw s (kept_next false (λ e. upper_at e.source.constraint.relation e.fact i) es e o (nth_bound b i).upper (held-upper i g) d q)
 
-  lower-same : (i : ℕ) → i < n → bound_at e.fact i ≡ None → lower_word b' i ≡ lower_word b i → Kept true (lowers_of (es ++ (e ∷ [])) i) (lower_word b' i)
+  lower-same : (i : ℕ) → i < n → bound_at e.fact i ≡ None → (nth_bound b' i).lower ≡ (nth_bound b i).lower → Kept true (lowers_of (es ++ (e ∷ [])) i) (nth_bound b' i).lower
   lower-same i g q s = lower-kept i None g tt (no_bound e.fact e.floor i q e.source.constraint.relation).0 s
 
-  upper-same : (i : ℕ) → i < n → bound_at e.fact i ≡ None → upper_word b' i ≡ upper_word b i → Kept false (uppers_of (es ++ (e ∷ [])) i) (upper_word b' i)
+  upper-same : (i : ℕ) → i < n → bound_at e.fact i ≡ None → (nth_bound b' i).upper ≡ (nth_bound b i).upper → Kept false (uppers_of (es ++ (e ∷ [])) i) (nth_bound b' i).upper
   upper-same i g q s = upper-kept i None g tt (no_bound e.fact e.floor i q e.source.constraint.relation).1 s
 
   -- a bound is stated
   module _ (j : ℕ) (v : Value) (lower upper : Bool) (q : e.fact ≡ bound j v) (lo : states_lower e.source.constraint.relation ≡ lower) (up : states_upper e.source.constraint.relation ≡ upper)
-      (d : Valid v) (c : Scope) (fl : FloorIs e.source.constraint.relation c e.floor) (vf : ValidIfAny e.floor) (size : n * 2 ≤ length b) (x : ℕ) (hx : x ≡ floor_word e.floor)
+      (d : Valid v) (c : Scope) (fl : FloorIs e.source.constraint.relation c e.floor) (vf : ValidIfAny e.floor) (size : n ≤ length b) (x : ℕ) (hx : x ≡ floor_word e.floor)
       (w : b' ≡ floor_stated (bound_stated b j lower upper v) j x) where
     -- after both
     is : b' ≡ floor_stated (bound_stated b j lower upper v) j (floor_word e.floor)
     is = w ∙ ap (floor_stated (bound_stated b j lower upper v) j) hx
 
-    other : (k : ℕ) → (k ≡ j * 2 → ⊥) → (k ≡ j * 2 + 1 → ⊥) → get_or b' k 0 ≡ get_or b k 0
-    other k y z = ap (λ (t : List ℕ). get_or t k 0) is ∙ both-other b j lower upper v e.floor vf k y z
+    other : (k : ℕ) → (k ≡ j → ⊥) → nth_bound b' k ≡ nth_bound b k
+    other k z = ap (λ (t : BoundTable). nth_bound t k) is ∙ both-other b j lower upper v e.floor vf k z
 
     nothing-else : (i : ℕ) → (i ≡ j → ⊥) → bound_at e.fact i ≡ None
     nothing-else i z = rw (q, ne_eqb j i (λ k. z (sym k)))
 
-    lower-next : (i : ℕ) → i < n → Kept true (lowers_of (es ++ (e ∷ [])) i) (lower_word b' i)
+    lower-next : (i : ℕ) → i < n → Kept true (lowers_of (es ++ (e ∷ [])) i) (nth_bound b' i).lower
     lower-next i g = go (ℕ_discrete i j)
       where
         states : lower_at e.source.constraint.relation e.fact e.floor j ≡ cond lower (Some v) e.floor
@@ -346,14 +308,14 @@ module _ (b b' : List ℕ) (n : ℕ) (es : List Entry) (e : Entry) (h : BoundsHe
         once : lower ≡ true → e.floor ≡ None
         once z = lower-once e.source.constraint.relation c e.floor fl (lo ∙ z)
 
-        go : Dec (i ≡ j) → Kept true (lowers_of (es ++ (e ∷ [])) i) (lower_word b' i)
+        go : Dec (i ≡ j) → Kept true (lowers_of (es ++ (e ∷ [])) i) (nth_bound b' i).lower
         go (yes z) =
             rw z
             (lower-kept j _ (omega arith) (valid lower) states
-            (ap (λ (t : List ℕ). lower_word t j) is ∙ lower-both b j lower upper v e.floor vf once (omega arith)))
-        go (no z) = lower-same i g (nothing-else i z) (other (i * 2) (λ k. z (omega arith)) (λ k. omega arith))
+            (ap (λ (t : BoundTable). (nth_bound t j).lower) is ∙ lower-both b j lower upper v e.floor vf once (omega arith)))
+        go (no z) = lower-same i g (nothing-else i z) (ap (λ (x : Bound). x.lower) (other i z))
 
-    upper-next : (i : ℕ) → i < n → Kept false (uppers_of (es ++ (e ∷ [])) i) (upper_word b' i)
+    upper-next : (i : ℕ) → i < n → Kept false (uppers_of (es ++ (e ∷ [])) i) (nth_bound b' i).upper
     upper-next i g = go (ℕ_discrete i j)
       where
         states : upper_at e.source.constraint.relation e.fact j ≡ cond upper (Some v) None
@@ -363,18 +325,18 @@ module _ (b b' : List ℕ) (n : ℕ) (es : List Entry) (e : Entry) (h : BoundsHe
         valid true = d
         valid false = tt
 
-        go : Dec (i ≡ j) → Kept false (uppers_of (es ++ (e ∷ [])) i) (upper_word b' i)
+        go : Dec (i ≡ j) → Kept false (uppers_of (es ++ (e ∷ [])) i) (nth_bound b' i).upper
         go (yes z) =
             rw z
             (upper-kept j _ (omega arith) (valid upper) states
-            (ap (λ (t : List ℕ). upper_word t j) is ∙ upper-both b j lower upper v e.floor vf (omega arith)))
-        go (no z) = upper-same i g (nothing-else i z) (other (i * 2 + 1) (λ k. omega arith) (λ k. z (omega arith)))
+            (ap (λ (t : BoundTable). (nth_bound t j).upper) is ∙ upper-both b j lower upper v e.floor vf (omega arith)))
+        go (no z) = upper-same i g (nothing-else i z) (ap (λ (x : Bound). x.upper) (other i z))
 
     pub bound-added : BoundsHeld b' n (es ++ (e ∷ []))
     bound-added = held_of lower-next upper-next
 
 -- a row states no bound
-pub row-passed : (b : List ℕ) (n : ℕ) (es : List Entry) (e : Entry) → BoundsHeld b n es → is_row e.fact ≡ true → BoundsHeld b n (es ++ (e ∷ []))
+pub row-passed : (b : BoundTable) (n : ℕ) (es : List Entry) (e : Entry) → BoundsHeld b n es → is_row e.fact ≡ true → BoundsHeld b n (es ++ (e ∷ []))
 row-passed b n es e h z = held_of b b n es e h (λ i g. lower-same b b n es e h i g (nothing i) refl) (λ i g. upper-same b b n es e h i g (nothing i) refl)
   where
     go : (f : Fact) (i : ℕ) → is_row f ≡ true → bound_at f i ≡ None
@@ -385,9 +347,14 @@ row-passed b n es e h z = held_of b b n es e h (λ i g. lower-same b b n es e h 
     nothing i = go e.fact i z
 
 -- nothing is stated yet
-pub bounds-none : (b : List ℕ) (n : ℕ) → ((k : ℕ) → get_or b k 0 ≡ 0) → BoundsHeld b n []
-unfolding lowers_of uppers_of picked kept_word
-bounds-none b n z = record { lower = λ j g. z (j * 2); upper = λ j g. z (j * 2 + 1); valid_lower = λ j g. tt; valid_upper = λ j g. tt }
+pub bounds-none : (b : BoundTable) (n : ℕ) → ((k : ℕ) → nth_bound b k ≡ unstated) → BoundsHeld b n []
+unfolding lowers_of uppers_of picked kept_of
+bounds-none b n z = record {
+  lower = λ j g. ap (λ (x : Bound). x.lower) (z j);
+  upper = λ j g. ap (λ (x : Bound). x.upper) (z j);
+  valid_lower = λ j g. tt;
+  valid_upper = λ j g. tt;
+}
 
 -- ---- what the code of bounds answers
 
@@ -400,16 +367,25 @@ module _ (u v : Value) (larger r : Bool) where
   unfolding gives_way
   way-smaller e f = rw e f
 
-module _ (old new : ℕ) (v : Value) (larger : Bool) where
-  pub stated-new : new ≡ packed v → old ≡ 0 → new ≡ stated_word larger old v
-  unfolding stated_word
-  stated-new e z = rw (eq-eqb old 0 z) e
+module _ (old : Option Value) (v : Value) (larger : Bool) where
+  pub stated-new : old ≡ None → v ≡ stated_value larger old v
+  unfolding stated_value
+  stated-new e = rw e
 
-  module _ (u : Value) (r : Bool) (z : old ≡ 0 → ⊥) (hu : u ≡ unpacked old) (hr : r ≡ gives_way larger u v) where
-    pub stated-over : new ≡ packed v → r ≡ true → new ≡ stated_word larger old v
-    unfolding stated_word
-    stated-over e f = rw (ne_eqb old 0 z, ← hu, ← hr, f) e
+  module _ (u : Value) (r : Bool) (e : old ≡ Some u) (hr : r ≡ gives_way larger u v) where
+    pub stated-over : r ≡ true → v ≡ stated_value larger old v
+    unfolding stated_value
+    stated-over f = rw (e, ← hr, f)
 
-    pub stated-old : r ≡ false → old ≡ stated_word larger old v
-    unfolding stated_word
-    stated-old f = rw (ne_eqb old 0 z, ← hu, ← hr, f) refl
+    pub stated-old : r ≡ false → u ≡ stated_value larger old v
+    unfolding stated_value
+    stated-old f = rw (e, ← hr, f)
+
+  module _ (applies : Bool) where
+    pub stated-yes : (w : Value) → applies ≡ true → w ≡ stated_value larger old v → Some w ≡ stated_if larger applies old v
+    unfolding stated_if
+    stated-yes w e f = rw e (ap Some f)
+
+    pub stated-no : applies ≡ false → old ≡ stated_if larger applies old v
+    unfolding stated_if
+    stated-no e = rw e

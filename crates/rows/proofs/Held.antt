@@ -20,15 +20,15 @@ use Rattle.language.specs.All.{All}
 use Rattle.language.specs.Valid.{ValidIfAny}
 use Rattle.language.specs.Listed.{At}
 use Rattle.language.proofs.Listed.{Split, at_length, at-append}
-use Rattle.language.specs.Numbering.{Variable, Row, Entry, keep, less_row, equal_row, extreme, is_at_least, largest, smallest, lower_of, upper_of}
+use Rattle.language.specs.Numbering.{Variable, Row, Entry, keep, less_row, equal_row, is_at_least, largest, smallest, lower_of, upper_of}
 use Rattle.language.proofs.ValidProblem.{extreme-valid}
 use Rattle.store.specs.Table.{Table, word_at}
 use Rattle.store.specs.Packed.{packed, unpacked}
 use Rattle.store.proofs.Words.{unpacked-packed}
 use Rattle.rows.specs.Counts.{RowOf}
 use Rattle.rows.specs.Slots.{counts_at, floor_slot, floor_word, Slot, RowsHeld}
-use Rattle.rows.specs.Bounds.{lowers_of, uppers_of, kept_word}
-use Rattle.rows.specs.Read.{slot_at, count_at, fitted, value_of, lower_in, end_in}
+use Rattle.rows.specs.Bounds.{lowers_of, uppers_of, kept_of, BoundTable, nth_bound}
+use Rattle.rows.specs.Read.{slot_at, count_at, fitted, value_of, lower_in, upper_in, end_in}
 use Rattle.rows.proofs.Bounding.{packed_above}
 
 -- ---- rows
@@ -65,28 +65,24 @@ value-told vs m k j r h b =
 pub word_back : (v : Value) → Valid v → unpacked (packed v) ≡ v
 word_back v h = unpacked-packed v h.small h.places
 
-lower-back : (l : List Value) → All Valid l → lower_in (kept_word is_at_most l) ≡ largest l
-unfolding lower_in kept_word largest
-lower-back [] h = refl
-lower-back (v ∷ l) h =
-    let x = extreme-valid is_at_most v l h.0 h.1 in
-    rw (ne_eqb (packed (extreme is_at_most v l)) 0 (packed_above _ x)) (word_back _ x)
+lower-back : (l : List Value) → fitted (kept_of is_at_most l) ≡ largest l
+unfolding fitted kept_of largest
+lower-back [] = refl
+lower-back (v ∷ l) = refl
 
-upper-back : (l : List Value) → All Valid l → end_in (kept_word is_at_least l) ≡ smallest l
-unfolding end_in kept_word smallest
-upper-back [] h = refl
-upper-back (v ∷ l) h =
-    let x = extreme-valid is_at_least v l h.0 h.1 in
-    rw (ne_eqb (packed (extreme is_at_least v l)) 0 (packed_above _ x)) (ap Some (word_back _ x))
+upper-back : (l : List Value) → kept_of is_at_least l ≡ smallest l
+unfolding kept_of smallest
+upper-back [] = refl
+upper-back (v ∷ l) = refl
 
-module _ (es : List Entry) (j w : ℕ) where
-  pub lower-told : w ≡ kept_word is_at_most (lowers_of es j) → All Valid (lowers_of es j) → lower_in w ≡ lower_of es j
-  unfolding lower_of lowers_of
-  lower-told e h = rw e (lower-back (lowers_of es j) h)
+module _ (es : List Entry) (b : BoundTable) (j : ℕ) where
+  pub lower-told : (nth_bound b j).lower ≡ kept_of is_at_most (lowers_of es j) → lower_in b j ≡ lower_of es j
+  unfolding lower_in lower_of lowers_of
+  lower-told e = ap fitted e ∙ lower-back (lowers_of es j)
 
-  pub upper-told : w ≡ kept_word is_at_least (uppers_of es j) → All Valid (uppers_of es j) → end_in w ≡ upper_of es j
-  unfolding upper_of uppers_of
-  upper-told e h = rw e (upper-back (uppers_of es j) h)
+  pub upper-told : (nth_bound b j).upper ≡ kept_of is_at_least (uppers_of es j) → upper_in b j ≡ upper_of es j
+  unfolding upper_in upper_of uppers_of
+  upper-told e = e ∙ upper-back (uppers_of es j)
 
 -- ---- floors
 

@@ -7,7 +7,7 @@ use Prim.Native.Nat.{ℕ, ◌+◌, ◌-◌, ◌*◌, ◌<◌, ◌≤◌}
 use native.Mathlib.Omega.{arith}
 use borrow.Author.Tests.{le-leb, lt-leb, leb-true, leb-false, lt-ltb, le-ltb, eq-eqb, ne_eqb}
 use lib.Dec.{leb}
-use lib.ListN.{length, get_or, get_or-eq_default}
+use lib.ListN.{length, get_or-eq_default}
 use lib.IntN.{ℤ, pos}
 use Rattle.rules.specs.Limits.{variable_limit, row_limit, scale_limit}
 use Rattle.value.specs.declared.Value.{Value}
@@ -20,8 +20,9 @@ use Rattle.store.specs.Table.{Table, word_at}
 use Rattle.store.specs.Packed.{unpacked}
 use Rattle.rows.specs.declared.Sizes.{Sizes}
 use Rattle.rows.specs.Slots.{floor_slot, less_slot, equal_slot}
-use Rattle.rows.specs.Bounds.{lower_word, upper_word}
-use Rattle.rows.specs.Read.{within, slot_at, count_at, fitted, value_of, lower_in, end_in}
+use Rattle.rows.specs.declared.Bound.{Bound}
+use Rattle.rows.specs.Bounds.{BoundTable, nth_bound}
+use Rattle.rows.specs.Read.{within, slot_at, count_at, fitted, value_of, lower_in, upper_in, end_in}
 
 -- ---- sizes
 
@@ -94,15 +95,22 @@ zero-count = sym (value-fits (pos 0) (of_millionths (pos 0)) zero_value refl (of
 
 -- ---- bounds
 
+module _ (b : BoundTable) (j : ℕ) (x : Bound) (is : x ≡ nth_bound b j) where
+  pub lower-read : (z : Value) → z ≡ of_whole (pos 0) → unwrap_or x.lower z ≡ lower_in b j
+  unfolding lower_in fitted of_whole
+  lower-read z e = rw (← is, e) (go x.lower)
+    where
+      go : (o : Option Value) → unwrap_or o zero_value ≡ fitted o
+      go (Some v) = refl
+      go None = refl
+
+  pub upper-read : x.upper ≡ upper_in b j
+  unfolding upper_in
+  upper-read = rw is
+
+-- ---- floors
+
 module _ (w : ℕ) where
-  lower-none : (v : Value) → w ≡ 0 → v ≡ of_whole (pos 0) → v ≡ lower_in w
-  unfolding lower_in of_whole
-  lower-none v e h = rw (eq-eqb w 0 e) h
-
-  lower-some : (v : Value) → (w ≡ 0 → ⊥) → v ≡ unpacked w → v ≡ lower_in w
-  unfolding lower_in
-  lower-some v e h = rw (ne_eqb w 0 e) h
-
   end_none : w ≡ 0 → None ≡ end_in w
   unfolding end_in
   end_none e = rw (eq-eqb w 0 e)
@@ -110,27 +118,6 @@ module _ (w : ℕ) where
   end-some : (v : Value) → (w ≡ 0 → ⊥) → v ≡ unpacked w → (Some v) ≡ end_in w
   unfolding end_in
   end-some v e h = rw (ne_eqb w 0 e) (ap Some h)
-
-module _ (b : List ℕ) (j : ℕ) where
-  pub lower-past : (v : Value) → length b ≤ j → v ≡ of_whole (pos 0) → v ≡ lower_in (lower_word b j)
-  lower-past v h e = lower-none (lower_word b j) v (get_or-eq_default b 0 (omega arith)) e
-
-  pub lower-zero : (w : ℕ) (v : Value) → w ≡ get_or b (j * 2) 0 → w ≡ 0 → v ≡ of_whole (pos 0) → v ≡ lower_in (lower_word b j)
-  lower-zero w v e z h = lower-none (lower_word b j) v (sym e ∙ z) h
-
-  pub lower-read : (w : ℕ) (v : Value) → w ≡ get_or b (j * 2) 0 → (w ≡ 0 → ⊥) → v ≡ unpacked w → v ≡ lower_in (lower_word b j)
-  lower-read w v e z h = lower-some (lower_word b j) v (λ n. z (e ∙ n)) (h ∙ ap unpacked e)
-
-  pub upper-past : length b ≤ j → None ≡ end_in (upper_word b j)
-  upper-past h = end_none (upper_word b j) (get_or-eq_default b 0 (omega arith))
-
-  pub upper-zero : (w : ℕ) → w ≡ get_or b (j * 2 + 1) 0 → w ≡ 0 → None ≡ end_in (upper_word b j)
-  upper-zero w e z = end_none (upper_word b j) (sym e ∙ z)
-
-  pub upper-read : (w : ℕ) (v : Value) → w ≡ get_or b (j * 2 + 1) 0 → (w ≡ 0 → ⊥) → v ≡ unpacked w → (Some v) ≡ end_in (upper_word b j)
-  upper-read w v e z h = end-some (upper_word b j) v (λ n. z (e ∙ n)) (h ∙ ap unpacked e)
-
--- ---- floors
 
 module _ (t : Table) (k q w : ℕ) (a : q ≡ floor_slot k) (b : w ≡ word_at t q) where
   same_word : w ≡ word_at t (floor_slot k)

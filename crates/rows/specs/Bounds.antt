@@ -1,12 +1,12 @@
--- The bounds that are stated for each variable, two words each: the largest lower one and the smallest upper one, 0 where none is
--- stated.
-use Rattle.std.specs.Prelude.{◌≡◌, Bool, true, false, cond, ◌&&◌, List, [], ◌∷◌, ℕ, ◌+◌, ◌*◌, ◌<◌, eqb, get_or, set}
+-- The bounds that are stated for each variable: the largest lower one and the smallest upper one, each if one is stated.
+use Rattle.std.specs.Prelude.{◌≡◌, Bool, true, false, cond, ◌&&◌, List, [], ◌∷◌, ℕ, ◌<◌, eqb, get_or, set, Option, Some, None}
 use Rattle.value.specs.declared.Value.{Value}
 use Rattle.value.specs.Decimal.{Valid, is_at_most, in_range}
 use Rattle.language.specs.Syntax.{Relation, at_most, at_least, equal, between}
 use Rattle.language.specs.All.{All}
 use Rattle.language.specs.Numbering.{Entry, picked, extreme, is_at_least, lower_at, upper_at}
-use Rattle.store.specs.Packed.{packed, unpacked}
+use Rattle.store.specs.Packed.{unpacked}
+use Rattle.rows.specs.declared.Bound.{Bound}
 
 -- what is stated for variable j, in text order
 unfoldable pub lowers_of : List Entry → ℕ → List Value
@@ -15,21 +15,25 @@ lowers_of es j = picked (λ e. lower_at e.source.constraint.relation e.fact e.fl
 unfoldable pub uppers_of : List Entry → ℕ → List Value
 uppers_of es j = picked (λ e. upper_at e.source.constraint.relation e.fact j) es
 
--- the word of the one that is kept
-unfoldable pub kept_word : (Value → Value → Bool) → List Value → ℕ
-kept_word le [] = 0
-kept_word le (v ∷ l) = packed (extreme le v l)
+-- the one that is kept
+unfoldable pub kept_of : (Value → Value → Bool) → List Value → Option Value
+kept_of le [] = None
+kept_of le (v ∷ l) = Some (extreme le v l)
 
-abbrev pub lower_word : List ℕ → ℕ → ℕ
-lower_word b j = get_or b (j * 2) 0
+abbrev pub BoundTable : Type 0
+BoundTable = List Bound
 
-abbrev pub upper_word : List ℕ → ℕ → ℕ
-upper_word b j = get_or b (j * 2 + 1) 0
+-- what a variable has where none is stated, and where a table has no such variable
+abbrev pub unstated : Bound
+unstated = record { lower = None; upper = None }
+
+unfoldable pub nth_bound : BoundTable → ℕ → Bound
+nth_bound b j = get_or b j unstated
 
 -- the bounds of n variables
-pub record BoundsHeld (b : List ℕ) (n : ℕ) (es : List Entry) : Type 0 where
-  pub lower : (j : ℕ) → j < n → lower_word b j ≡ kept_word is_at_most (lowers_of es j)
-  pub upper : (j : ℕ) → j < n → upper_word b j ≡ kept_word is_at_least (uppers_of es j)
+pub record BoundsHeld (b : BoundTable) (n : ℕ) (es : List Entry) : Type 0 where
+  pub lower : (j : ℕ) → j < n → (nth_bound b j).lower ≡ kept_of is_at_most (lowers_of es j)
+  pub upper : (j : ℕ) → j < n → (nth_bound b j).upper ≡ kept_of is_at_least (uppers_of es j)
   pub valid_lower : (j : ℕ) → j < n → All Valid (lowers_of es j)
   pub valid_upper : (j : ℕ) → j < n → All Valid (uppers_of es j)
 
@@ -40,20 +44,24 @@ unfoldable pub gives_way : Bool → Value → Value → Bool
 gives_way true u v = cond (in_range u && in_range v) (is_at_most u v) false
 gives_way false u v = cond (in_range v && in_range u) (is_at_most v u) false
 
--- the word after v is stated
-unfoldable pub stated_word : Bool → ℕ → Value → ℕ
-stated_word larger w v = cond (eqb w 0) (packed v) (cond (gives_way larger (unpacked w) v) (packed v) w)
+-- the bound after v is stated
+unfoldable pub stated_value : Bool → Option Value → Value → Value
+stated_value larger None v = v
+stated_value larger (Some u) v = cond (gives_way larger u v) v u
 
--- in word k, if there is a bound to state
-unfoldable pub state_word : Bool → Bool → List ℕ → ℕ → Value → List ℕ
-state_word larger b t k v = cond b (set t k (stated_word larger (get_or t k 0) v)) t
+-- the same if v is a bound of this kind
+unfoldable pub stated_if : Bool → Bool → Option Value → Value → Option Value
+stated_if larger b o v = cond b (Some (stated_value larger o v)) o
+
+abbrev pub both_stated : Bound → Bool → Bool → Value → Bound
+both_stated x lower upper v = record { lower = stated_if true lower x.lower v; upper = stated_if false upper x.upper v }
 
 -- v stated for variable j, as a lower bound, as an upper one, or as both
-unfoldable pub bound_stated : List ℕ → ℕ → Bool → Bool → Value → List ℕ
-bound_stated t j lower upper v = state_word false upper (state_word true lower t (j * 2) v) (j * 2 + 1) v
+unfoldable pub bound_stated : BoundTable → ℕ → Bool → Bool → Value → BoundTable
+bound_stated t j lower upper v = set t j (both_stated (nth_bound t j) lower upper v)
 
 -- the floor of a word, 0 for none, stated as a lower bound of variable j
-unfoldable pub floor_stated : List ℕ → ℕ → ℕ → List ℕ
+unfoldable pub floor_stated : BoundTable → ℕ → ℕ → BoundTable
 floor_stated t j w = cond (eqb w 0) t (bound_stated t j true false (unpacked w))
 
 -- what a relation states by its right side

@@ -8,8 +8,8 @@ ghost use Rattle.store.specs.Element.{list_of};
 ghost use Rattle.store.specs.Table.{word_at};
 ghost use Rattle.rows.specs.Counts.{opposed};
 ghost use Rattle.rows.specs.Slots.{next_slot, floor_slot, one_more, counted_as, Wrote};
-ghost use Rattle.rows.specs.Bounds.{lower_word, upper_word, gives_way, stated_word, state_word, bound_stated, floor_stated};
-ghost use Rattle.rows.specs.Read.{within, slot_at, count_at, value_of, lower_in, end_in};
+ghost use Rattle.rows.specs.Bounds.{unstated, nth_bound, gives_way, stated_value, stated_if, bound_stated, floor_stated};
+ghost use Rattle.rows.specs.Read.{within, slot_at, count_at, value_of, lower_in, upper_in, end_in};
 
 use store::Row;
 
@@ -132,6 +132,24 @@ pub fn write(
 
 // ---- bounds
 
+// The bounds that are stated for a variable: the largest lower one and the smallest upper one.
+#[derive(Clone, Copy)]
+pub struct Bound {
+    pub lower: Option<value::Value>,
+    pub upper: Option<value::Value>,
+}
+
+impl Bound {
+    pub fn unstated() -> Self
+        ensures { result ≡ unstated }
+    {
+        Bound {
+            lower: None,
+            upper: None,
+        }
+    }
+}
+
 // Does the old bound give way to the new one? Of lower bounds the larger is kept, of upper ones the smaller.
 fn gives_way(old: value::Value, new: value::Value, larger: bool) -> bool
     ensures { result ≡ gives_way larger old new }
@@ -142,47 +160,50 @@ fn gives_way(old: value::Value, new: value::Value, larger: bool) -> bool
     new.at_most(old)
 }
 
-// The word of a bound after v is stated; 0 before any is.
-fn stated(old: u64, v: value::Value, larger: bool) -> u64
-    ensures { result ≡ stated_word larger old v }
+// The bound after v is stated.
+fn stated(old: Option<value::Value>, v: value::Value, larger: bool) -> value::Value
+    ensures { result ≡ stated_value larger old v }
 {
-    let new = store::pack(v);
-    if old == 0 {
-        return new;
+    let Some(u) = old else {
+        return v;
+    };
+    if gives_way(u, v, larger) {
+        return v;
     }
-    if gives_way(store::unpack(old), v, larger) {
-        return new;
+    u
+}
+
+// The same where v is a bound of this kind; else the bound stays.
+fn stated_if(
+    applies: bool,
+    old: Option<value::Value>,
+    v: value::Value,
+    larger: bool,
+) -> Option<value::Value>
+    ensures { result ≡ stated_if larger applies old v }
+{
+    if applies {
+        return Some(stated(old, v, larger));
     }
     old
 }
 
-// States a bound in word k, where there is one to state and such a word.
-fn state_word(bounds: &mut [u64], k: usize, applies: bool, larger: bool, v: value::Value)
-    ensures { bounds.new ≡ state_word larger applies bounds.old k v }
-{
-    if !applies {
-        return;
-    }
-    if bounds.len() <= k {
-        return;
-    }
-    bounds[k] = stated(bounds[k], v, larger);
-}
-
 // States v as a lower bound of variable j, as an upper one, or as both.
-pub fn state(bounds: &mut [u64], j: usize, lower: bool, upper: bool, v: value::Value)
+pub fn state(bounds: &mut [Bound], j: usize, lower: bool, upper: bool, v: value::Value)
     ensures { bounds.new ≡ bound_stated bounds.old j lower upper v }
 {
     if bounds.len() <= j {
         return;
     }
-    let k = j * 2;
-    state_word(bounds, k, lower, true, v);
-    state_word(bounds, k + 1, upper, false, v);
+    let old = bounds[j];
+    bounds[j] = Bound {
+        lower: stated_if(lower, old.lower, v, true),
+        upper: stated_if(upper, old.upper, v, false),
+    };
 }
 
 // States the floor of a word as a lower bound of variable j, where there is one.
-pub fn state_floor(bounds: &mut [u64], j: usize, floor: u64)
+pub fn state_floor(bounds: &mut [Bound], j: usize, floor: u64)
     ensures { bounds.new ≡ floor_stated bounds.old j floor }
 {
     if floor == 0 {
@@ -272,30 +293,23 @@ pub fn floor_of(rows: &[Row], k: usize) -> Option<value::Value>
     Some(store::unpack(w))
 }
 
-// The lower bound of variable j, from 0: that which is stated, or 0.
-pub fn lower_of(bounds: &[u64], j: usize) -> value::Value
-    ensures { result ≡ lower_in (lower_word bounds.now j) }
+// The bounds of variable j, from 0; none where the table has no such variable.
+fn bound_at(bounds: &[Bound], j: usize) -> Bound
+    ensures { result ≡ nth_bound bounds.now j }
 {
-    if bounds.len() <= j {
-        return value::Value::from(0);
-    }
-    let w = word(bounds, j * 2);
-    if w == 0 {
-        return value::Value::from(0);
-    }
-    store::unpack(w)
+    bounds.get(j).copied().unwrap_or(Bound::unstated())
+}
+
+// The lower bound of variable j, from 0: that which is stated, or 0.
+pub fn lower_of(bounds: &[Bound], j: usize) -> value::Value
+    ensures { result ≡ lower_in bounds.now j }
+{
+    bound_at(bounds, j).lower.unwrap_or(value::Value::from(0))
 }
 
 // The upper bound of variable j, from 0: that which is stated, or none.
-pub fn upper_of(bounds: &[u64], j: usize) -> Option<value::Value>
-    ensures { result ≡ end_in (upper_word bounds.now j) }
+pub fn upper_of(bounds: &[Bound], j: usize) -> Option<value::Value>
+    ensures { result ≡ upper_in bounds.now j }
 {
-    if bounds.len() <= j {
-        return None;
-    }
-    let w = word(bounds, j * 2 + 1);
-    if w == 0 {
-        return None;
-    }
-    Some(store::unpack(w))
+    bound_at(bounds, j).upper
 }

@@ -42,6 +42,7 @@ use Rattle.listing.proofs.Writing.{Left, left-all, left-more}
 use Rattle.listing.proofs.sheet.Slots.{equal-last}
 use Rattle.spans.specs.Spans.{SpanLine, span_line, last_line, is_idle, span_of, spans_from, spans_of, end_field, span_bytes, all_span_bytes}
 use Rattle.spans.specs.Told.{idle_in, span_text, Holds, RowWritten, RowsWritten, Reports}
+use Rattle.rows.specs.Bounds.{BoundTable}
 
 -- ---- what code answers
 
@@ -112,7 +113,7 @@ last-rows : (p : Lp) (i : ℕ) (e : Entry) → At (rows p) i e → is_equal e.so
 unfolding rows less_rows equal_rows
 last-rows p i e a = equal-last p.entries i e a
 
-module _ {t : Table} {b : List ℕ} {m : List ℤ} {first n : ℕ} {p : Lp} (h : Holds t b m first n p) (i : ℕ) (e : Entry) (a : At (rows p) i e) where
+module _ {t : Table} {b : BoundTable} {m : List ℤ} {first n : ℕ} {p : Lp} (h : Holds t b m first n p) (i : ℕ) (e : Entry) (a : At (rows p) i e) where
   here : Slot p.variables t m (slot_at first i) e
   here = rw h.lesses (slot h.held i e a)
 
@@ -132,7 +133,7 @@ module _ {t : Table} {b : List ℕ} {m : List ℤ} {first n : ℕ} {p : Lp} (h :
   end-told : (greatest : Bool) (k : ℕ) (r : Option Value) → Reaches m b k n greatest r → k ≡ slot_at first i → r ≡ reach greatest p e
   end-told greatest k r w q = w.is t h.sizes p h.held h.variables i e a (q ∙ ap (λ x. slot_at x i) h.lesses)
 
-pub row_written : (t : Table) (b : List ℕ) (m : List ℤ) (first n i k : ℕ) (o : Option Value) (q : code.Kind) (u g : Option Value) (w : ℕ) (v : Value) {l : List ℕ} {at r : ℕ} {l' : List ℕ}
+pub row_written : (t : Table) (b : BoundTable) (m : List ℤ) (first n i k : ℕ) (o : Option Value) (q : code.Kind) (u g : Option Value) (w : ℕ) (v : Value) {l : List ℕ} {at r : ℕ} {l' : List ℕ}
     → i < 512 → k ≡ slot_at first i → o ≡ end_in (word_at t (floor_slot k)) → kind_in q ≡ cond (leb first i) Listing.equal (kind_by o)
     → Reaches m b k n false u → Reaches m b k n true g → w ≡ word_at t k → v ≡ unpacked w
     → (Written l at (span_text (kind_in q) (i + 1) u g v) r l') × (r ≤ at + 128) → RowWritten t b m first n i l at r l'
@@ -164,7 +165,7 @@ no_rows : (p : Lp) (n : ℕ) → all_span_bytes (spans_from p n []) ≡ []
 unfolding spans_from all_span_bytes
 no_rows p n = refl
 
-module _ (t : Table) (b : List ℕ) (m : List ℤ) (first n k : ℕ) (l₀ : List ℕ) (at₀ : ℕ) where
+module _ (t : Table) (b : BoundTable) (m : List ℤ) (first n k : ℕ) (l₀ : List ℕ) (at₀ : ℕ) where
   -- i of k rows are written, and what is left makes the lines of all
   pub record Spanning (i : ℕ) (l : List ℕ) (at : ℕ) : Type 0 where
     pub within : i ≤ k
@@ -197,7 +198,7 @@ module _ (t : Table) (b : List ℕ) (m : List ℤ) (first n k : ℕ) (l₀ : Lis
 
 -- ---- the report
 
-row_count_lem : {t : Table} {b : List ℕ} {m : List ℤ} {z : Sizes} {p : Lp} → Held t b m z p → z.less + z.equal ≡ length (rows p)
+row_count_lem : {t : Table} {b : BoundTable} {m : List ℤ} {z : Sizes} {p : Lp} → Held t b m z p → z.less + z.equal ≡ length (rows p)
 unfolding rows less_rows equal_rows
 row_count_lem {t} {b} {m} {z} {p} h = omega (arith, length-append (less_rows p) (equal_rows p), h.rows.less_count, h.rows.equal_count)
 
@@ -209,7 +210,7 @@ report-parts : (p : Lp) → all_span_bytes (spans_of p) ≡ all_span_bytes (span
 unfolding spans_of
 report-parts p = bytes-append (spans_from p 1 (rows p)) (last_line ∷ []) ∙ ap (λ r. all_span_bytes (spans_from p 1 (rows p)) ++ r) (one_line last_line ∙ last_line_lem)
 
-module _ (t : Table) (b : List ℕ) (m : List ℤ) (z : Sizes) where
+module _ (t : Table) (b : BoundTable) (m : List ℤ) (z : Sizes) where
   pub reports-none : (f : Bool) (l : List ℕ) (r : ℕ) (l' : List ℕ) → f ≡ within z → not f ≡ true → Reports t b m z l r l'
   reports-none f l r l' e n = record { lines = λ p h. never (sym (yes-within z (omega (arith, h.variables, h.few)) h.rows.room) ∙ sym e ∙ not-true f n) }
     where

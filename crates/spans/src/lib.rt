@@ -14,6 +14,7 @@ ghost use Rattle.spans.specs.Told.{idle_in, span_text, RowWritten, RowsWritten, 
 
 use listing::Kind;
 use reach::End;
+use rows::Bound;
 use store::Row;
 
 // Is the greatest value of a row no more than its right side?
@@ -64,7 +65,7 @@ fn span_line(
 // The line of row i, of which the first `less` are those of `<=` and `>=`, over n variables.
 fn row_line(
     slots: &[Row],
-    bounds: &[u64],
+    bounds: &[Bound],
     counts: &[i64],
     less: usize,
     n: usize,
@@ -86,7 +87,7 @@ fn row_line(
 // The lines of all rows, so many.
 fn row_lines(
     slots: &[Row],
-    bounds: &[u64],
+    bounds: &[Bound],
     counts: &[i64],
     less: usize,
     n: usize,
@@ -115,7 +116,7 @@ fn last_line(out: &mut [u8], at: usize) -> usize
 // The report of a problem, from the output's first byte on, and its length. Nothing is written where a number is past its limit.
 pub fn write(
     slots: &[Row],
-    bounds: &[u64],
+    bounds: &[Bound],
     counts: &[i64],
     sizes: rows::Sizes,
     out: &mut [u8],

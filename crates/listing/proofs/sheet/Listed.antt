@@ -22,13 +22,14 @@ use Rattle.language.specs.Numbering.{Entry, Lp, is_equal, keep, less_row, equal_
 use Rattle.language.specs.Listing.{Line, lp_line, ending_line, right_of, coefficients_of, kind_of, row_lines, var_lines, col_lines, lines_of}
 use Rattle.language.specs.Proper.{Proper}
 use Rattle.language.proofs.ProperText.{kept-all}
+use Rattle.constraints.specs.declared.Record.{Record}
 use Rattle.listing.specs.Shown.{shown_line, shown_lines}
 use Rattle.listing.proofs.Lines.{lines_join}
 use Rattle.store.specs.Table.{Table, word_at}
 use Rattle.store.specs.Packed.{unpacked}
 use Rattle.store.specs.Entries.{variable_key}
 use Rattle.rows.specs.Slots.{objective_row, Slot}
-use Rattle.rows.specs.Bounds.{lower_word, upper_word}
+use Rattle.rows.specs.Bounds.{BoundTable}
 use Rattle.rows.specs.declared.Sizes.{Sizes}
 use Rattle.rows.specs.Read.{slot_at}
 use Rattle.rows.specs.Held.{Held}
@@ -56,7 +57,7 @@ line-join k ls w v = written_then _ _ _ _ _ _ _ _ w v
 
 -- ---- the lines of a problem, and what the tables tell of them
 
-module _ {s ns ts cs : List ℕ} {vs rs : Table} {bs : List ℕ} {m : List ℤ} {z : Sizes} {at place bytes : ℕ} {x : Model} {p : Lp} (h : Shown s ns ts cs vs rs bs m z at place bytes x p) where
+module _ {s ns ts : List ℕ} {cs : List Record} {vs rs : Table} {bs : BoundTable} {m : List ℤ} {z : Sizes} {at place bytes : ℕ} {x : Model} {p : Lp} (h : Shown s ns ts cs vs rs bs m z at place bytes x p) where
   abbrev lesses : List Entry
   lesses = keep less_row p.entries
 
@@ -141,8 +142,8 @@ module _ {s ns ts cs : List ℕ} {vs rs : Table} {bs : List ℕ} {m : List ℤ} 
             let is = rw (n, ← add-one j) at r.2 in
             let visible = (subst (All Proper) r.2 (all_of Proper _ j ks a variable-proper)).0.name in
             let name = name-told s ns x.structure.names v.name undeclared h.named refl visible in
-            let lower = lower-told p.entries j (lower_word bs j) (h.bounds.lower j b) (h.bounds.valid_lower j b) in
-            let upper = upper-told p.entries j (upper_word bs j) (h.bounds.upper j b) (h.bounds.valid_upper j b) in
+            let lower = lower-told p.entries bs j (h.bounds.lower j b) in
+            let upper = upper-told p.entries bs j (h.bounds.upper j b) in
             record {
               name = v.name;
               element = v.element;
@@ -196,7 +197,7 @@ module _ {s ns ts cs : List ℕ} {vs rs : Table} {bs : List ℕ} {m : List ℤ} 
 
 -- ---- what `write` answers
 
-module _ (s ns ts cs : List ℕ) (vs rs : Table) (bs : List ℕ) (m : List ℤ) (z : Sizes) (at place bytes : ℕ) where
+module _ (s ns ts : List ℕ) (cs : List Record) (vs rs : Table) (bs : BoundTable) (m : List ℤ) (z : Sizes) (at place bytes : ℕ) where
   pub lists-none : (b : Bool) (l : List ℕ) (r : ℕ) (l' : List ℕ) → b ≡ within (length s) z → not b ≡ true → Lists s ns ts cs vs rs bs m z at place bytes l r l'
   lists-none b l r l' e n = record { lines = λ x p h. never (sym (all-within h) ∙ sym e ∙ not-true b n) }
     where

@@ -20,8 +20,8 @@ use Rattle.language.specs.Proper.{Visible}
 use Rattle.language.specs.Proper as Proper
 use Rattle.tokens.specs.Stored.{place_part, payload_part, bytes_from, spelling, kind_of, token, from, Named, Stands}
 use Rattle.tokens.proofs.Tables.{view-here, view-end}
-use Rattle.constraints.specs.Layout.{row_at}
-use Rattle.constraints.specs.Rows.{Rows}
+use Rattle.constraints.specs.declared.Record.{Record}
+use Rattle.constraints.specs.Rows.{row_at, Rows}
 use Rattle.evaluator.specs.Steps.Names.{row_word}
 use Rattle.listing.specs.Sheet.Strings.{name_at, string_at, title_of}
 
@@ -115,21 +115,15 @@ string-told s ts at x h t = spelled-part s (place_part (get_or ts at 0) + 1) (pa
 
 -- ---- constraints
 
-title-stands : (s ts cs : List ℕ) (names : List Name) (xs : List Constraint) (i : ℕ) (x : Constraint) → Rows s ts cs names xs → At xs i x
-    → Stands read_string s ts (get_or (row_at cs i) 0 0) (record { title = x.title; place = x.place })
-unfolding row_word
+title-stands : (s ts : List ℕ) (cs : List Record) (names : List Name) (xs : List Constraint) (i : ℕ) (x : Constraint) → Rows s ts cs names xs → At xs i x
+    → Stands read_string s ts (row_at cs i).title (record { title = x.title; place = x.place })
 title-stands s ts [] names [] i x h a = absurd a
 title-stands s ts [] names (y ∷ ys) i x h a = absurd h
-title-stands s ts (a ∷ []) names ys i x h z = absurd h
-title-stands s ts (a ∷ b ∷ []) names ys i x h z = absurd h
-title-stands s ts (a ∷ b ∷ c ∷ []) names ys i x h z = absurd h
-title-stands s ts (a ∷ b ∷ c ∷ d ∷ []) names ys i x h z = absurd h
-title-stands s ts (a ∷ b ∷ c ∷ d ∷ e ∷ cs) names [] i x h z = absurd h
-title-stands s ts (a ∷ b ∷ c ∷ d ∷ e ∷ cs) names (y ∷ ys) zero x h z = subst (λ w. Stands read_string s ts a (record { title = w.title; place = w.place })) z h.0.title
-title-stands s ts (a ∷ b ∷ c ∷ d ∷ e ∷ cs) names (y ∷ ys) (suc i) x h z =
-    subst (λ w. Stands read_string s ts w (record { title = x.title; place = x.place })) (sym (row_next a b c d e cs i 0)) (title-stands s ts cs names ys i x h.1 z)
+title-stands s ts (r ∷ cs) names [] i x h a = absurd h
+title-stands s ts (r ∷ cs) names (y ∷ ys) zero x h a = subst (λ w. Stands read_string s ts r.title (record { title = w.title; place = w.place })) a h.0.title
+title-stands s ts (r ∷ cs) names (y ∷ ys) (suc i) x h a = title-stands s ts cs names ys i x h.1 a
 
-pub title-told : (s ts cs : List ℕ) (names : List Name) (xs : List Constraint) (i : ℕ) (x : Constraint) → Rows s ts cs names xs → At xs i x → Proper.Text x.title
+pub title-told : (s ts : List ℕ) (cs : List Record) (names : List Name) (xs : List Constraint) (i : ℕ) (x : Constraint) → Rows s ts cs names xs → At xs i x → Proper.Text x.title
     → x.title ≡ title_of s ts cs i
 unfolding title_of
-title-told s ts cs names xs i x h a t = string-told s ts (get_or (row_at cs i) 0 0) _ (title-stands s ts cs names xs i x h a) t
+title-told s ts cs names xs i x h a t = string-told s ts (row_at cs i).title _ (title-stands s ts cs names xs i x h a) t

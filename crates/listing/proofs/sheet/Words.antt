@@ -1,5 +1,5 @@
 -- Laws of sizes within the limits, and of the names and strings that words tell.
-use mathlib.Core.Path.{◌≡◌}
+use mathlib.Core.Path.{◌≡◌, ◌∙◌, ap}
 use mathlib.Core.Bool.{Bool, true, ◌&&◌}
 use mathlib.Core.List.{List}
 use Prim.Native.Nat.{ℕ, ◌+◌, ◌/◌, ◌%◌, ◌≤◌}
@@ -11,7 +11,8 @@ use Rattle.rules.specs.Limits.{byte_limit}
 use Rattle.value.proofs.Ranges.{and_left, and_right}
 use Rattle.lexer.specs.View.{part_of}
 use Rattle.tokens.specs.Stored.{place_part, payload_part}
-use Rattle.constraints.specs.Layout.{row_at}
+use Rattle.constraints.specs.declared.Record.{Record}
+use Rattle.constraints.specs.Rows.{row_at}
 use Rattle.evaluator.specs.Steps.Names.{row_word}
 use Rattle.rows.specs.declared.Sizes.{Sizes}
 use Rattle.rows.specs.Read as rows
@@ -52,9 +53,9 @@ module _ (s t : List ℕ) (i : ℕ) where
   unfolding string_at
   string-is w r e h = rw (← e) h
 
-pub title-is : (s ts cs : List ℕ) (i w : ℕ) (r : List ℕ) → w ≡ get_or (row_at cs i) 0 0 → r ≡ string_at s ts w → r ≡ title_of s ts cs i
+pub title-is : (s ts : List ℕ) (cs : List Record) (i : ℕ) (w : Record) (r : List ℕ) → w ≡ row_at cs i → r ≡ string_at s ts w.title → r ≡ title_of s ts cs i
 unfolding title_of
-title-is s ts cs i w r e h = rw (← e) h
+title-is s ts cs i w r e h = h ∙ ap (λ (w : Record). string_at s ts w.title) e
 
 pub part-most : (s : List ℕ) (a n : ℕ) → length (part_of s a n) ≤ length s
 part-most s a n = simp (length-take, length-drop) (omega arith)
@@ -67,6 +68,6 @@ pub string-most : (s ts : List ℕ) (at : ℕ) → length (string_at s ts at) �
 unfolding string_at
 string-most s ts at = part-most s (place_part (get_or ts at 0) + 1) (payload_part (get_or ts at 0))
 
-pub title-most : (s ts cs : List ℕ) (i : ℕ) → length (title_of s ts cs i) ≤ length s
+pub title-most : (s ts : List ℕ) (cs : List Record) (i : ℕ) → length (title_of s ts cs i) ≤ length s
 unfolding title_of
-title-most s ts cs i = string-most s ts (get_or (row_at cs i) 0 0)
+title-most s ts cs i = string-most s ts (row_at cs i).title

@@ -28,8 +28,9 @@ use Rattle.store.specs.Packed.{unpacked}
 use Rattle.store.proofs.Elements.{length-few}
 use Rattle.store.proofs.Back.{name_back, element-back}
 use Rattle.rows.specs.Slots.{floor_slot}
-use Rattle.rows.specs.Bounds.{lower_word, upper_word}
-use Rattle.rows.specs.Read.{slot_at, lower_in, end_in}
+use Rattle.rows.specs.Bounds.{BoundTable}
+use Rattle.rows.specs.Read.{slot_at, lower_in, upper_in, end_in}
+use Rattle.constraints.specs.declared.Record.{Record}
 use Rattle.listing.specs.Sheet.Strings.{name_at, title_of}
 use Rattle.listing.specs.Sheet.Told.{floor_in, kind_at, concat, RowAlone, RowTold, VariableTold, Told, Writes, WritesAll}
 use Rattle.listing.proofs.sheet.Cells.{one_line}
@@ -53,7 +54,7 @@ module _ (l : List ℕ) (at from : ℕ) (f : from ≡ min at (length l)) {n : �
       → Written l at (shown_lines ks) (at + n) (put_mid from (length l - from) l p)
   lent-line k ks e w = rw e (one_line k (written_from l at from (shown_line k) n p f w))
 
-  pub row_written : (s ts cs : List ℕ) (rows : Table) (k number w name : ℕ) (q : Kind) (v : Value) (title : List ℕ) (e : Element) → length s ≤ 16384 → w ≡ word_at rows k
+  pub row_written : (s ts : List ℕ) (cs : List Record) (rows : Table) (k number w name : ℕ) (q : Kind) (v : Value) (title : List ℕ) (e : Element) → length s ≤ 16384 → w ≡ word_at rows k
       → v ≡ unpacked w → name ≡ name_of (key_at rows k) → title ≡ title_of s ts cs name → list_of e ≡ element_of (key_at rows k)
       → Written (take (length l - from) (drop from l)) 0 (shown_line (row_line number q v title (list_of e))) n p
       → Writes 32000 (RowAlone s ts cs rows k number q) l at (at + n) (put_mid from (length l - from) l p)
@@ -67,8 +68,8 @@ module _ (l : List ℕ) (at from : ℕ) (f : from ≡ min at (length l)) {n : �
             lent-line _ z same written;
       }
 
-  pub variable-written : (s ns : List ℕ) (vs : Table) (bs : List ℕ) (discrete j name : ℕ) (lower : Value) (upper : Option Value) (spelled : List ℕ) (e : Element) → length s ≤ 16384
-      → lower ≡ lower_in (lower_word bs j) → upper ≡ end_in (upper_word bs j) → name ≡ name_of (key_at vs j) → spelled ≡ name_at s ns name → list_of e ≡ element_of (key_at vs j)
+  pub variable-written : (s ns : List ℕ) (vs : Table) (bs : BoundTable) (discrete j name : ℕ) (lower : Value) (upper : Option Value) (spelled : List ℕ) (e : Element) → length s ≤ 16384
+      → lower ≡ lower_in bs j → upper ≡ upper_in bs j → name ≡ name_of (key_at vs j) → spelled ≡ name_at s ns name → list_of e ≡ element_of (key_at vs j)
       → Written (take (length l - from) (drop from l)) 0 (shown_line (var_line (j + 1) (ltb j discrete) lower upper spelled (list_of e))) n p
       → Writes 32768 (VariableTold s ns vs bs discrete j) l at (at + n) (put_mid from (length l - from) l p)
   variable-written s ns vs bs discrete j name lower upper spelled e h low high d g x written =
@@ -81,7 +82,7 @@ module _ (l : List ℕ) (at from : ℕ) (f : from ≡ min at (length l)) {n : �
       }
 
 -- a row's line, and its floor's
-pub row-both : (s ts cs : List ℕ) (rows : Table) (less i k : ℕ) (o : Option Value) (q : Kind) {l : List ℕ} {at r : ℕ} {l' : List ℕ} {r' : ℕ} {l'' : List ℕ} → k ≡ slot_at less i
+pub row-both : (s ts : List ℕ) (cs : List Record) (rows : Table) (less i k : ℕ) (o : Option Value) (q : Kind) {l : List ℕ} {at r : ℕ} {l' : List ℕ} {r' : ℕ} {l'' : List ℕ} → k ≡ slot_at less i
     → o ≡ end_in (word_at rows (floor_slot k)) → q ≡ cond (leb less i) Listing.equal (kind_by o) → Writes 32000 (RowAlone s ts cs rows k (i + 1) q) l at r l'
     → (Written l' r (shown_lines (low_lines (i + 1) o)) r' l'') × (r' ≤ r + 128) → Writes 32768 (RowTold s ts cs rows less i) l at r' l''
 unfolding floor_in kind_at

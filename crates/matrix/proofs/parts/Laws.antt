@@ -2,27 +2,26 @@
 use Rattle.std.specs.Prelude.{Err, Ok, Result}
 use Rattle.rules.specs.declared.Refused.{Refused}
 use mathlib.Core.Path.{◌≡◌, refl, sym, ◌∙◌, ap, subst}
-use mathlib.Core.Bool.{Bool, not}
+use mathlib.Core.Bool.{not}
 use mathlib.Core.List.{List}
 use Prim.Native.Nat.{ℕ}
 use native.Mathlib.Omega.{arith}
 use lib.Dec.{eqb}
-use lib.ListN.{get_or}
-use Rattle.rules.specs.Limits.{nesting_limit, index_limit}
+use Rattle.rules.specs.Limits.{index_limit}
 use Rattle.lexer.specs.Text.{Token}
 use Rattle.language.proofs.Outcome.{refused-done}
 use Rattle.language.specs.Syntax.{Relation, at_most, at_least, equal, between}
 use Rattle.language.specs.Reader.{Titled, next, demand, string_of, read_string}
-use Rattle.language.specs.Formulas.{optional_domain, formula_at}
 use Rattle.language.specs.Numbering.{flips, is_equal}
 use Rattle.onepass.proofs.Steps.{after_read, same-what}
 use Rattle.onepass.proofs.WalkedDomain.{entries-read}
 use Rattle.tokens.specs.declared.Seen.{Seen}
-use Rattle.tokens.specs.Stored.{token, from, size, Sees, Looks, Stands}
+use Rattle.tokens.specs.Stored.{token, from, size, Sees, Looks}
 use Rattle.tokens.proofs.Moved.{next-is}
 use Rattle.evaluator.specs.Tables.{DomainAt}
-use Rattle.constraints.specs.Layout.{row_at, mark_part, bare_part, floor_part, entries_part}
-use Rattle.constraints.specs.Rows.{relation_mark, SideAt, FloorAt}
+use Rattle.lexer.specs.Numbers.{number}
+use Rattle.constraints.specs.declared.Record.{Record}
+use Rattle.constraints.specs.Rows.{relation_mark, row_at, RowOf}
 use Rattle.constraints.proofs.DomainLaws.{few-entries, domain-wrong, domain-none, domain-some}
 use Rattle.rows.specs.Bounds.{states_lower, states_upper}
 use Rattle.matrix.specs.Parts.Parts.{PlaceIs, FirstIs, PartsAre}
@@ -106,24 +105,22 @@ module _ (r : Relation) (m : ℕ) (h : relation_mark r ≡ m) where
       go equal = refl
       go (between h) = refl
 
-pub parts_are : (ts t : List ℕ) (k p q a m : ℕ) (v : Bool) (b : ℕ) (l : Bool) (e x n : ℕ) → p ≡ get_or (row_at t k) 0 0 → PlaceIs ts p q → a ≡ get_or (row_at t k) 1 0
-    → m ≡ mark_part (get_or (row_at t k) 2 0) → v ≡ bare_part (get_or (row_at t k) 2 0) → b ≡ get_or (row_at t k) 3 0 → l ≡ floor_part (get_or (row_at t k) 2 0) → e ≡ get_or (row_at t k) 4 0
-    → FirstIs ts e x → n ≡ entries_part (get_or (row_at t k) 2 0)
-    → PartsAre ts t k (record { place = q; left = a; right = b; at = x; count = n; bare = v; floor = l; flips = eqb m 62; equal = eqb m 61; lower = not (eqb m 60); upper = not (eqb m 62) })
-parts_are ts t k p q a m v b l e x n hp pl ha hm hv hb hl he fi hn =
+pub parts_are : (ts : List ℕ) (t : List Record) (k : ℕ) (r : Record) (p x m : ℕ) → r ≡ row_at t k → PlaceIs ts r.title p → FirstIs ts r.domain x → m ≡ number r.mark
+    → PartsAre ts t k (record { place = p; left = r.left; right = r.right; at = x; count = r.entries; bare = r.bare; floor = r.floor; flips = eqb m 62; equal = eqb m 61; lower = not (eqb m 60); upper = not (eqb m 62) })
+parts_are ts t k r p x m e pl fi hm =
     record {
-      is = λ s names c row.
+      is = λ s names c o.
+          let row = subst (λ z. RowOf s ts z names c) (sym e) o in
           let rel = row.relation ∙ sym hm in
-          let right = subst (λ z. (h : Stands (formula_at names nesting_limit) s ts z c.right) × FloorAt names h.rest c.relation) (sym hb) (row.right, row.floor_stands) in
           record {
-            place = pl.is s _ (subst (λ z. Stands read_string s ts z (record { title = c.title; place = c.place })) (sym hp) row.title);
-            left = subst (λ z. SideAt s ts z names c.left) (sym ha) row.left;
-            right = right.0;
-            floor = row.floor ∙ sym hl;
-            floor_stands = right.1;
-            domain = fi.is s names c.domain (subst (λ z. Stands (optional_domain names) s ts z c.domain) (sym he) row.domain);
-            count = row.entries ∙ sym hn;
-            bare = row.bare ∙ sym hv;
+            place = pl.is s _ row.title;
+            left = row.left;
+            right = row.right;
+            floor = row.floor;
+            floor_stands = row.floor_stands;
+            domain = fi.is s names c.domain row.domain;
+            count = row.entries;
+            bare = row.bare;
             flips = flips-is c.relation m rel;
             equal = equal_is c.relation m rel;
             lower = lower-is c.relation m rel;

@@ -7,8 +7,8 @@ use Rattle.language.specs.Formulas.{formula_at, optional_domain}
 use Rattle.language.specs.Numbering.{flips, is_equal}
 use Rattle.tokens.specs.Stored.{size, Stands}
 use Rattle.evaluator.specs.Tables.{DomainAt}
-use Rattle.constraints.specs.Layout.{row_at}
-use Rattle.constraints.specs.Rows.{SideAt, is_bare, has_floor, FloorAt, RowOf}
+use Rattle.constraints.specs.declared.Record.{Record}
+use Rattle.constraints.specs.Rows.{SideAt, is_bare, has_floor, FloorAt, row_at, RowOf}
 use Rattle.rows.specs.Bounds.{states_lower, states_upper}
 use Rattle.matrix.specs.declared.parts.Parts.{Parts}
 
@@ -36,5 +36,5 @@ pub record Tells (s ts : List ℕ) (names : List Name) (c : Constraint) (r : Par
   pub upper : states_upper c.relation ≡ r.upper
 
 -- of the constraint in row k
-pub record PartsAre (ts t : List ℕ) (k : ℕ) (r : Parts) : Type 0 where
+pub record PartsAre (ts : List ℕ) (t : List Record) (k : ℕ) (r : Parts) : Type 0 where
   pub is : (s : List ℕ) (names : List Name) (c : Constraint) → RowOf s ts (row_at t k) names c → Tells s ts names c r

@@ -1,4 +1,5 @@
 -- `rows::state` meets its contract.
+use Rattle.rows.specs.Bounds.{nth_bound}
 use Rattle.rows.proofs.Bounding.{bound-out, bound-in}
 use Rattle.rows.proofs.state.Goals as goal
 
@@ -6,4 +7,5 @@ pub returns-then-bounds-j : goal.returns-then-bounds-j
 returns-then-bounds-j c = bound-out _ _ _ _ _ c.if-bounds-j.true
 
 pub returns : goal.returns
-returns c = search bound-in depth 6
+unfolding nth_bound
+returns c = bound-in _ _ _ _ _ _ _ c.stated_if.ensures c.stated_if-2.ensures

@@ -3,4 +3,4 @@ use Rattle.listing.proofs.sheet.Words.{title-is}
 use Rattle.listing.proofs.sheet.title_of.Goals as goal
 
 pub returns : goal.returns
-returns c = title-is _ _ _ _ _ _ c.title_of.ensures c.string_at.ensures
+returns c = title-is _ _ _ _ _ _ c.row_at-row.ensures c.string_at.ensures
