@@ -2,7 +2,7 @@
 """Sets a tree's signatures, clauses and definitions beside those of an older one: `tools/changes.py OLD [NEW]`, two folders with crates/;
 with `--laws` the laws of proofs/ in their place.
 
-Prints what changed, the old text above the new one, as section 4 of docs/DESIGN-PASS.md has it. Comments, the breaking of lines, how binders
+Prints what changed, the old text above the new one, as section 5 of docs/DESIGN-PASS.md has it. Comments, the breaking of lines, how binders
 are grouped and the words of WORDS don't count."""
 import re
 import sys
@@ -21,11 +21,17 @@ def no_comments(text, sign):
     return re.sub(r'(^|\s)' + sign + r'[^\n]*', r'\1', text)
 
 
+def place(tree, path):
+    """the crate, with the module"""
+    parts = path.relative_to(tree).with_suffix('').parts
+    return '::'.join((parts[1],) + tuple(x for x in parts[3:] if x not in ('lib', 'main')))
+
+
 def functions(tree):
     """each public function: its signature and clauses, by crate, type and name"""
     found = {}
     for path in sorted(tree.glob('crates/*/src/**/*.rt')):
-        crate = path.relative_to(tree).parts[1]
+        crate = place(tree, path)
         text = no_comments(path.read_text(), '//')
         owner, end = '', 0
         for m in re.finditer(r'^( *)(?:impl(?:<[^>]*>)? ([^{]*?) \{|pub fn (\w+))', text, re.M):
@@ -47,7 +53,7 @@ def types(tree):
     """each public struct, enum and constant, and the ghost members of types and impls, by crate and name"""
     found = {}
     for path in sorted(tree.glob('crates/*/src/**/*.rt')):
-        crate = path.relative_to(tree).parts[1]
+        crate = place(tree, path)
         text = no_comments(path.read_text(), '//')
         for m in re.finditer(r'^pub (?:struct|enum) (\w+)[^\n]*\{\n.*?^\}|^pub const (\w+)[^\n]*;', text, re.M | re.S):
             found[crate, m.group(1) or m.group(2)] = squeeze(m.group(0))

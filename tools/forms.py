@@ -49,7 +49,7 @@ def shape(body):
 
 
 def twins():
-    """functions of five lines and more whose shape another one has"""
+    """functions of seven lines and more whose shape another one has"""
     by = {}
     for name, at, fn, body in functions():
         if body.count('\n') >= 7:
