@@ -1,17 +1,20 @@
-// The elements of a domain as an iterator: each in its turn, and a refusal ends them.
-ghost use Rattle.std.specs.Prelude.{◌≡◌};
+// The elements of a domain as an iterator: each in its turn, and a refusal ends them. The next one is looked for when it is asked
+// for, so that a caller that stops at an element pays for none behind it.
+ghost use Rattle.std.specs.Prelude.{◌≡◌, false};
 ghost use Rattle.elements.specs.Steps.{FirstIs};
+ghost use Rattle.elements.specs.Walk.{Comes};
 ghost use Rattle.evaluator.specs.Context.{Over};
 
 use crate::here::Here;
 use evaluator::Context;
 use rules::Refused;
 
-// What is read, and the element to come.
+// What is read, the element at which the walk stands, and whether it was handed out.
 #[derive(Clone, Copy)]
 pub struct Walk<'a> {
     pub cx: Context<'a>,
     pub step: Result<Option<Here>, Refused>,
+    pub given: bool,
 }
 
 impl<'a> Walk<'a> {
@@ -19,9 +22,27 @@ impl<'a> Walk<'a> {
     pub fn new(cx: Context<'a>, count: usize, at: usize) -> Self
         ensures same { result.cx ≡ cx.entry }
         ensures first { Over FirstIs cx.entry.stored cx.entry.level count at result.step }
+        ensures fresh { result.given ≡ false }
     {
         let step = crate::first(&cx, count, at);
-        Walk { cx, step }
+        Walk {
+            cx,
+            step,
+            given: false,
+        }
+    }
+
+    // The element to come: where the walk stands, or behind the element that was handed out.
+    fn ahead(&self) -> Result<Option<Here>, Refused>
+        ensures { Comes self.now.cx self.now.given self.now.step result }
+    {
+        if !self.given {
+            return self.step;
+        }
+        match self.step {
+            Ok(Some(h)) => crate::next(&self.cx, h),
+            _ => Ok(None),
+        }
     }
 }
 
@@ -33,19 +54,11 @@ impl<'a> Iterator for Walk<'a> {
 
     ghost next_gives = { Gives };
 
-    ghost remaining = { λ s. at_most (items_left s.step) };
+    ghost remaining = { λ s. at_most (items_left s.given s.step) };
 
     fn next(&mut self) -> Option<Result<Here, Refused>> {
-        match self.step {
-            Ok(Some(h)) => {
-                self.step = crate::next(&self.cx, h);
-                Some(Ok(h))
-            }
-            Ok(None) => None,
-            Err(e) => {
-                self.step = Ok(None);
-                Some(Err(e))
-            }
-        }
+        self.step = self.ahead();
+        self.given = true;
+        self.step.transpose()
     }
 }

@@ -55,26 +55,28 @@ module _ (ns ts : List ℕ) (ds : Table) (given : ℕ) (xs : Table) (total : ℕ
       state : State w.variables t m b f entries
       remains : Left w n c p r entries (whole w n c es)
 
-    pub record RowsOn (f : Filled) (t : Table) (m : List ℤ) (r : Result (Option Here) Refused) : Type 0 where
+    -- C is what may be to come
+    pub record RowsOn (f : Filled) (t : Table) (m : List ℤ) (C : Result (Option Here) Refused → Type 0) : Type 0 where
       pub few : total ≤ 512
       pub room : 1026 ≤ length t
       pub wide : 263168 ≤ length m
       pub slots : length t ≡ length t₀
       pub counts : length m ≡ length m₀
       stays : Stays total m₀ m
-      on : (w : Model ns ts ds given xs total) (c : Constraint) → Takes ns ts ds given xs total w n c p → is_bare c.left ≡ false
+      on : (r : Result (Option Here) Refused) → C r → (w : Model ns ts ds given xs total) (c : Constraint) → Takes ns ts ds given xs total w n c p → is_bare c.left ≡ false
           → (b : BoundTable) (es : List Entry) → State w.variables t₀ m₀ b f₀ es → RowsAt w c b es f t m r
 
-    pub rows_start : (r : Result (Option Here) Refused) → FirstIs ns ts ds given 64 p.count p.at r → total ≤ 512 → 1026 ≤ length t₀ → 263168 ≤ length m₀ → RowsOn f₀ t₀ m₀ r
-    rows_start r i x y z = record { few = x; room = y; wide = z; slots = refl; counts = refl; stays = refl; on = λ w c k b bs es st. record { entries = es; state = st; remains = left-start w n c p k r i es } }
+    pub rows_start : (C : Result (Option Here) Refused → Type 0) → ((r : Result (Option Here) Refused) → C r → FirstIs ns ts ds given 64 p.count p.at r)
+        → total ≤ 512 → 1026 ≤ length t₀ → 263168 ≤ length m₀ → RowsOn f₀ t₀ m₀ C
+    rows_start C i x y z = record { few = x; room = y; wide = z; slots = refl; counts = refl; stays = refl; on = λ r v w c k b bs es st. record { entries = es; state = st; remains = left-start w n c p k r (i r v) es } }
 
-    module _ (f : Filled) (t : Table) (m : List ℤ) (q : Result (Option Here) Refused) (s : RowsOn f t m q) where
+    module _ (f : Filled) (t : Table) (m : List ℤ) (C : Result (Option Here) Refused → Type 0) (s : RowsOn f t m C) (q : Result (Option Here) Refused) (v : C q) where
       pub rows-stopped : (e : Refused) → q ≡ Err e → RowsAdd ns ts ds given xs total n p f₀ t₀ m₀ (Err e) t m
       rows-stopped y e =
           record {
             stays = s.stays;
             adds = λ w c k b bs es st.
-                let x = s.on w c k b bs es st in
+                let x = s.on q v w c k b bs es st in
                 loop-stopped w.world 64 p.count p.at (add_entry w.variables n c) y x.entries (whole w n c es) (subst (λ z. Left w n c p z x.entries (whole w n c es)) e x.remains);
           }
 
@@ -83,7 +85,7 @@ module _ (ns ts : List ℕ) (ds : Table) (given : ℕ) (xs : Table) (total : ℕ
           record {
             stays = s.stays;
             adds = λ w c k b bs es st.
-                let x = s.on w c k b bs es st in
+                let x = s.on q v w c k b bs es st in
                 record {
                   entries = x.entries;
                   is = loop-done w.world 64 p.count p.at (add_entry w.variables n c) x.entries (whole w n c es) (subst (λ z. Left w n c p z x.entries (whole w n c es)) e x.remains);
@@ -107,24 +109,24 @@ module _ (ns ts : List ℕ) (ds : Table) (given : ℕ) (xs : Table) (total : ℕ
             record {
               stays = add.stays ∙ s.stays;
               adds = λ w c k b bs es st.
-                  let x = subst (RowsAt w c bs es f t m) e (s.on w c k b bs es st) in
+                  let x = subst (RowsAt w c bs es f t m) e (s.on q v w c k b bs es st) in
                   let y = subst (λ z. Adds w.variables (add_entry w.variables n c (under w.world sc) (list_of l) x.entries) z t' m' bs) j (stepped w c k b bs es st x) in
                   loop-refused w.world 64 p.count p.at (add_entry w.variables n c) h x.entries (whole w n c es) x.remains sc hs l hl o.refusal o.place y;
             }
 
-        module _ (g : Filled) (j : z ≡ Ok g) (r : Result (Option Here) Refused) (i : NextIs ns ts ds given 64 h r) where
+        module _ (g : Filled) (j : z ≡ Ok g) (D : Result (Option Here) Refused → Type 0) (i : (r : Result (Option Here) Refused) → D r → NextIs ns ts ds given 64 h r) where
           -- the entry is added, and the next step is r
-          next-at : (w : Model ns ts ds given xs total) (c : Constraint) → Takes ns ts ds given xs total w n c p → is_bare c.left ≡ false → (b : BoundTable) (es : List Entry) → State w.variables t₀ m₀ b f₀ es → RowsAt w c b es g t' m' r
-          next-at w c k b bs es st =
-              let x = subst (RowsAt w c bs es f t m) e (s.on w c k b bs es st) in
+          next-at : (r : Result (Option Here) Refused) → D r → (w : Model ns ts ds given xs total) (c : Constraint) → Takes ns ts ds given xs total w n c p → is_bare c.left ≡ false → (b : BoundTable) (es : List Entry) → State w.variables t₀ m₀ b f₀ es → RowsAt w c b es g t' m' r
+          next-at r d w c k b bs es st =
+              let x = subst (RowsAt w c bs es f t m) e (s.on q v w c k b bs es st) in
               let y = subst (λ z. Adds w.variables (add_entry w.variables n c (under w.world sc) (list_of l) x.entries) z t' m' bs) j (stepped w c k b bs es st x) in
               record {
                 entries = y.entries;
                 state = y.state;
-                remains = loop-more w.world 64 p.count p.at (add_entry w.variables n c) h x.entries (whole w n c es) x.remains sc hs l hl y.entries r y.is i;
+                remains = loop-more w.world 64 p.count p.at (add_entry w.variables n c) h x.entries (whole w n c es) x.remains sc hs l hl y.entries r y.is (i r d);
               }
 
-          pub rows_more : length t' ≡ length t → length m' ≡ length m → RowsOn g t' m' r
+          pub rows_more : length t' ≡ length t → length m' ≡ length m → RowsOn g t' m' D
           rows_more ht hm =
               record {
                 few = s.few;
@@ -144,22 +146,23 @@ module _ (ns ts : List ℕ) (ds : Table) (given : ℕ) (xs : Table) (total : ℕ
       state : State w.variables t m b f entries
       remains : Left w n c p r entries (whole w n c es)
 
-    pub record BoundsOn (b : BoundTable) (r : Result (Option Here) Refused) : Type 0 where
+    pub record BoundsOn (b : BoundTable) (C : Result (Option Here) Refused → Type 0) : Type 0 where
       pub few : total ≤ 512
       pub room : 512 ≤ length b
       pub words : length b ≡ length b₀
-      on : (w : Model ns ts ds given xs total) (n : ℕ) (c : Constraint) → Takes ns ts ds given xs total w n c p → is_bare c.left ≡ true
+      on : (r : Result (Option Here) Refused) → C r → (w : Model ns ts ds given xs total) (n : ℕ) (c : Constraint) → Takes ns ts ds given xs total w n c p → is_bare c.left ≡ true
           → (t : Table) (m : List ℤ) (f : Filled) (es : List Entry) → State w.variables t m b₀ f es → BoundsAt w n c t m f es b r
 
-    pub bounds-start : (r : Result (Option Here) Refused) → FirstIs ns ts ds given 64 p.count p.at r → total ≤ 512 → 512 ≤ length b₀ → BoundsOn b₀ r
-    bounds-start r i x y = record { few = x; room = y; words = refl; on = λ w n c k a t m f es st. record { entries = es; state = st; remains = left-start w n c p k r i es } }
+    pub bounds-start : (C : Result (Option Here) Refused → Type 0) → ((r : Result (Option Here) Refused) → C r → FirstIs ns ts ds given 64 p.count p.at r)
+        → total ≤ 512 → 512 ≤ length b₀ → BoundsOn b₀ C
+    bounds-start C i x y = record { few = x; room = y; words = refl; on = λ r v w n c k a t m f es st. record { entries = es; state = st; remains = left-start w n c p k r (i r v) es } }
 
-    module _ (b : BoundTable) (q : Result (Option Here) Refused) (s : BoundsOn b q) where
+    module _ (b : BoundTable) (C : Result (Option Here) Refused → Type 0) (s : BoundsOn b C) (q : Result (Option Here) Refused) (v : C q) where
       pub bounds-stopped : (e : Refused) → q ≡ Err e → BoundsAdd ns ts ds given xs total p b₀ (Err e) b
       bounds-stopped y e =
           record {
             adds = λ w n c k a t m f es st.
-                let x = s.on w n c k a t m f es st in
+                let x = s.on q v w n c k a t m f es st in
                 loop-stopped w.world 64 p.count p.at (add_entry w.variables n c) y x.entries (whole w n c es) (subst (λ z. Left w n c p z x.entries (whole w n c es)) e x.remains);
           }
 
@@ -167,7 +170,7 @@ module _ (ns ts : List ℕ) (ds : Table) (given : ℕ) (xs : Table) (total : ℕ
       bounds-done e =
           record {
             adds = λ w n c k a t m f es st.
-                let x = s.on w n c k a t m f es st in
+                let x = s.on q v w n c k a t m f es st in
                 record {
                   entries = x.entries;
                   is = loop-done w.world 64 p.count p.at (add_entry w.variables n c) x.entries (whole w n c es) (subst (λ z. Left w n c p z x.entries (whole w n c es)) e x.remains);
@@ -187,25 +190,25 @@ module _ (ns ts : List ℕ) (ds : Table) (given : ℕ) (xs : Table) (total : ℕ
         bounds-refused o j =
             record {
               adds = λ w n c k a t m f es st.
-                  let x = subst (BoundsAt w n c t m f es b) e (s.on w n c k a t m f es st) in
+                  let x = subst (BoundsAt w n c t m f es b) e (s.on q v w n c k a t m f es st) in
                   let y = subst (λ z. AddsBounds w.variables (add_entry w.variables n c (under w.world sc) (list_of (element_at h)) x.entries) z t m b' f) j (stated w n c k a t m f es x) in
                   loop-refused w.world 64 p.count p.at (add_entry w.variables n c) h x.entries (whole w n c es) x.remains sc hs (element_at h) (element-held h) o.refusal o.place y;
             }
 
-        module _ (j : z ≡ Ok tt) (r : Result (Option Here) Refused) (i : NextIs ns ts ds given 64 h r) where
+        module _ (j : z ≡ Ok tt) (D : Result (Option Here) Refused → Type 0) (i : (r : Result (Option Here) Refused) → D r → NextIs ns ts ds given 64 h r) where
           -- the entry is added, and the next step is r
-          bound-next : (w : Model ns ts ds given xs total) (n : ℕ) (c : Constraint) → Takes ns ts ds given xs total w n c p → is_bare c.left ≡ true → (t : Table) (m : List ℤ) (f : Filled) (es : List Entry) → State w.variables t m b₀ f es
+          bound-next : (r : Result (Option Here) Refused) → D r → (w : Model ns ts ds given xs total) (n : ℕ) (c : Constraint) → Takes ns ts ds given xs total w n c p → is_bare c.left ≡ true → (t : Table) (m : List ℤ) (f : Filled) (es : List Entry) → State w.variables t m b₀ f es
               → BoundsAt w n c t m f es b' r
-          bound-next w n c k a t m f es st =
-              let x = subst (BoundsAt w n c t m f es b) e (s.on w n c k a t m f es st) in
+          bound-next r d w n c k a t m f es st =
+              let x = subst (BoundsAt w n c t m f es b) e (s.on q v w n c k a t m f es st) in
               let y = subst (λ z. AddsBounds w.variables (add_entry w.variables n c (under w.world sc) (list_of (element_at h)) x.entries) z t m b' f) j (stated w n c k a t m f es x) in
               record {
                 entries = y.entries;
                 state = y.state;
-                remains = loop-more w.world 64 p.count p.at (add_entry w.variables n c) h x.entries (whole w n c es) x.remains sc hs (element_at h) (element-held h) y.entries r y.is i;
+                remains = loop-more w.world 64 p.count p.at (add_entry w.variables n c) h x.entries (whole w n c es) x.remains sc hs (element_at h) (element-held h) y.entries r y.is (i r d);
               }
 
-          pub bounds-more : length b' ≡ length b → BoundsOn b' r
+          pub bounds-more : length b' ≡ length b → BoundsOn b' D
           bounds-more hb =
               record {
                 few = s.few;

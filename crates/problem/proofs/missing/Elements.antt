@@ -38,11 +38,11 @@ use Rattle.problem.specs.Missing.Given.{IsGiven, Declares, DomainGiven, Asking}
 -- ---- a value at an element
 
 module _ (ds : Table) (n i : ℕ) (l : List ℤ) (k : Key) (r : Option ℕ) (e : key_number k ≡ key_of i l) (f : r ≡ found_row ds n (key_number k)) where
-  given-found : (j : ℕ) → r ≡ Some j → IsGiven ds n i l true
+  pub given-found : (j : ℕ) → r ≡ Some j → IsGiven ds n i l true
   unfolding lookup word_in
   given-found j p = record { is = λ s. rw (ap (row_of ds n) (sym e) ∙ sym ((finds-row ds n (key_number k) r f).is_row s) ∙ p) }
 
-  given_nothing : r ≡ None → IsGiven ds n i l false
+  pub given_nothing : r ≡ None → IsGiven ds n i l false
   unfolding lookup word_in
   given_nothing p = record { is = λ s. rw (ap (row_of ds n) (sym e) ∙ sym ((finds-row ds n (key_number k) r f).is_row s) ∙ p) }
 

@@ -87,10 +87,11 @@ module _ (ns ts : List ℕ) (ds : Table) (given i from : ℕ) (t₀ : Table) whe
     below : (k : ℕ) → i < k → All (Below k) vs → All (Below k) variables
     under : Under t n i r
 
-  pub record NameOn (t : Table) (n : ℕ) (r : Result (Option Here) Refused) : Type 0 where
+  -- C is what may be to come
+  pub record NameOn (t : Table) (n : ℕ) (C : Result (Option Here) Refused → Type 0) : Type 0 where
     pub size : length t ≡ length t₀
     pub room : 512 ≤ length t
-    on : (w : World ns ts ds given) (d : Spans) (vs : List Variable) → Ranges w i d → Held t₀ from vs → All (Below i) vs → OnAt w d vs t n r
+    on : (r : Result (Option Here) Refused) → C r → (w : World ns ts ds given) (d : Spans) (vs : List Variable) → Ranges w i d → Held t₀ from vs → All (Below i) vs → OnAt w d vs t n r
 
   -- an element has a key
   element-keyed : (w : World ns ts ds given) (d : Spans) → Ranges w i d → (h : Here) (vs : List Variable) (o : Outcome (List Variable))
@@ -100,42 +101,43 @@ module _ (ns ts : List ℕ) (ds : Table) (given i from : ℕ) (t₀ : Table) whe
     subscripts = loop-subscripts w i (row_word ns i 3) (row_word ns i 4) (step d) h vs o m (scope_at h) (scope-held h) e q;
   }
 
-  pub name-start : (c at : ℕ) (r : Result (Option Here) Refused) → c ≡ row_word ns i 3 → at ≡ row_word ns i 4 → FirstIs ns ts ds given i c at r → 512 ≤ length t₀ → NameOn t₀ from r
-  name-start c at r p q f l = record { size = refl; room = l; on = go }
+  pub name-start : (c at : ℕ) (C : Result (Option Here) Refused → Type 0) → c ≡ row_word ns i 3 → at ≡ row_word ns i 4
+      → ((r : Result (Option Here) Refused) → C r → FirstIs ns ts ds given i c at r) → 512 ≤ length t₀ → NameOn t₀ from C
+  name-start c at C p q f l = record { size = refl; room = l; on = go }
     where
-      first : FirstIs ns ts ds given i (row_word ns i 3) (row_word ns i 4) r
-      first = subst₂ (λ x y. FirstIs ns ts ds given i x y r) p q f
+      first : (r : Result (Option Here) Refused) → C r → FirstIs ns ts ds given i (row_word ns i 3) (row_word ns i 4) r
+      first r k = subst₂ (λ x y. FirstIs ns ts ds given i x y r) p q (f r k)
 
-      go : (w : World ns ts ds given) (d : Spans) (vs : List Variable) → Ranges w i d → Held t₀ from vs → All (Below i) vs → OnAt w d vs t₀ from r
-      go w d vs g h b = record { variables = vs; remains = start; held = h; below = λ k l x. x; under = lower r start }
+      go : (r : Result (Option Here) Refused) → C r → (w : World ns ts ds given) (d : Spans) (vs : List Variable) → Ranges w i d → Held t₀ from vs → All (Below i) vs → OnAt w d vs t₀ from r
+      go r k w d vs g h b = record { variables = vs; remains = start; held = h; below = λ k l x. x; under = lower r start }
         where
           start : Left w d r vs (outcome w d vs)
-          start = loop-start w i (row_word ns i 3) (row_word ns i 4) (step d) d g.stands g.sized r first vs
+          start = loop-start w i (row_word ns i 3) (row_word ns i 4) (step d) d g.stands g.sized r (first r k) vs
 
           lower : (x : Result (Option Here) Refused) → Left w d x vs (outcome w d vs) → Under t₀ from i x
           lower (Ok (Some y)) m = λ e q l. last-below t₀ from i vs (list_of e) h.rows b (element-keyed w d g y vs (outcome w d vs) m e q) l
           lower (Ok None) m = tt
           lower (Err e) m = tt
 
-  pub name-stopped : (t : Table) (n : ℕ) (r : Result (Option Here) Refused) → NameOn t n r → (e : Refused) → r ≡ Err e → AddsName ns ts ds given i from t₀ (Err e) t
-  name-stopped t n r s z e = record { size = s.size; is = go }
+  pub name-stopped : (t : Table) (n : ℕ) (C : Result (Option Here) Refused → Type 0) → NameOn t n C → (r : Result (Option Here) Refused) → C r → (e : Refused) → r ≡ Err e → AddsName ns ts ds given i from t₀ (Err e) t
+  name-stopped t n C s r v z e = record { size = s.size; is = go }
     where
       go : (w : World ns ts ds given) (d : Spans) (vs : List Variable) → Ranges w i d → Held t₀ from vs → All (Below i) vs
           → outcome w d vs ≡ refused z.refusal z.place
       go w d vs g h b =
-          let a = s.on w d vs g h b in
+          let a = s.on r v w d vs g h b in
           let o = outcome w d vs in
           loop-stopped w i (row_word ns i 3) (row_word ns i 4) (step d) z a.variables o
           (subst (λ x. Left w d x a.variables o) e a.remains)
 
-  module _ (t : Table) (n : ℕ) (y : Result (Option Here) Refused) (s : NameOn t n y) where
+  module _ (t : Table) (n : ℕ) (C : Result (Option Here) Refused → Type 0) (s : NameOn t n C) (y : Result (Option Here) Refused) (v : C y) where
     pub name_done : y ≡ Ok None → AddsName ns ts ds given i from t₀ (Ok n) t
     name_done e = record { size = s.size; is = go }
       where
         go : (w : World ns ts ds given) (d : Spans) (vs : List Variable) → Ranges w i d → Held t₀ from vs → All (Below i) vs
             → Adds (outcome w d vs) (λ k. i < k) vs n t
         go w d vs g h b =
-            let a = s.on w d vs g h b in
+            let a = s.on y v w d vs g h b in
             let o = outcome w d vs in
             record {
               variables = a.variables;
@@ -147,7 +149,7 @@ module _ (ns ts : List ℕ) (ds : Table) (given i from : ℕ) (t₀ : Table) whe
     module _ (h : Here) (e : Element) (f : y ≡ Ok (Some h)) (q : list_of e ≡ map number_of (held h)) where
       -- the turn, at an element
       at-element : (w : World ns ts ds given) (d : Spans) (vs : List Variable) → Ranges w i d → Held t₀ from vs → All (Below i) vs → OnAt w d vs t n (Ok (Some h))
-      at-element w d vs g hd b = subst (OnAt w d vs t n) f (s.on w d vs g hd b)
+      at-element w d vs g hd b = subst (OnAt w d vs t n) f (s.on y v w d vs g hd b)
 
       pub name-full : (p : ℕ) → 512 ≤ n → p ≡ row_word ns i 0 → AddsName ns ts ds given i from t₀ (Err (record { refusal = Full; place = p })) t
       name-full p l z = record { size = s.size; is = go }
@@ -160,7 +162,8 @@ module _ (ns ts : List ℕ) (ds : Table) (given i from : ℕ) (t₀ : Table) whe
               (scope_at h) (scope-held h) e q Full p
               (added_full (declared_at ns i d) (under w (scope_at h)) (list_of e) a.variables (omega (arith, l, a.held.rows.count)) ∙ ap (λ (x : ℕ). refused Full x) (sym z))
 
-      module _ (key : Key) (t' : Table) (r' : Result (Option Here) Refused) (l : n < 512) (z : key_number key ≡ key_of i (list_of e)) (u : t' ≡ appended t n key 0) (x : NextIs ns ts ds given i h r') where
+      module _ (key : Key) (t' : Table) (D : Result (Option Here) Refused → Type 0) (l : n < 512) (z : key_number key ≡ key_of i (list_of e)) (u : t' ≡ appended t n key 0)
+          (x : (r : Result (Option Here) Refused) → D r → NextIs ns ts ds given i h r) where
         has_room_lem : has_room t n ≡ true
         unfolding has_room
         has_room_lem = lt-ltb n (length t) (omega (arith, l, s.room))
@@ -168,14 +171,14 @@ module _ (ns ts : List ℕ) (ds : Table) (given i from : ℕ) (t₀ : Table) whe
         next-size : length t' ≡ length t₀
         next-size = rw u (append-size t n key 0) ∙ s.size
 
-        next-on : (w : World ns ts ds given) (d : Spans) (vs : List Variable) → Ranges w i d → Held t₀ from vs → All (Below i) vs → OnAt w d vs t' (n + 1) r'
+        next-on : (r' : Result (Option Here) Refused) → D r' → (w : World ns ts ds given) (d : Spans) (vs : List Variable) → Ranges w i d → Held t₀ from vs → All (Below i) vs → OnAt w d vs t' (n + 1) r'
         unfolding variable_limit
-        next-on w d vs g hd b = record {
+        next-on r' k' w d vs g hd b = record {
           variables = more;
           remains = rest;
           held = record { rows = rows; few = omega arith };
-          below = λ k y b. all-with (Below k) a.variables v (a.below k y b) (record { keyed = keyed; less = y });
-          under = rises r' x rest;
+          below = λ k y b. all-with (Below k) a.variables one (a.below k y b) (record { keyed = keyed; less = y });
+          under = rises r' (x r' k') rest;
         }
           where
             a : OnAt w d vs t n (Ok (Some h))
@@ -184,11 +187,11 @@ module _ (ns ts : List ℕ) (ds : Table) (given i from : ℕ) (t₀ : Table) whe
             o : Outcome (List Variable)
             o = outcome w d vs
 
-            v : Variable
-            v = record { name = i; element = list_of e }
+            one : Variable
+            one = record { name = i; element = list_of e }
 
             more : List Variable
-            more = a.variables ++ (v ∷ [])
+            more = a.variables ++ (one ∷ [])
 
             keyed : Keyed i (list_of e)
             keyed = element-keyed w d g h a.variables o a.remains e q
@@ -196,13 +199,13 @@ module _ (ns ts : List ℕ) (ds : Table) (given i from : ℕ) (t₀ : Table) whe
             rest : Left w d r' more o
             rest =
                 loop-more w i (row_word ns i 3) (row_word ns i 4) (step d) h a.variables o a.remains (scope_at h) (scope-held h) e q more r'
-                (added_more (declared_at ns i d) (under w (scope_at h)) (list_of e) a.variables (omega (arith, l, a.held.rows.count))) x
+                (added_more (declared_at ns i d) (under w (scope_at h)) (list_of e) a.variables (omega (arith, l, a.held.rows.count))) (x r' k')
 
             rows : Numbered t' (n + 1) more
-            rows = subst (λ y. Numbered y (n + 1) more) (sym u) (numbered-append t n a.variables v key 0 a.held.rows keyed z has_room_lem (a.under e q))
+            rows = subst (λ y. Numbered y (n + 1) more) (sym u) (numbered-append t n a.variables one key 0 a.held.rows keyed z has_room_lem (a.under e q))
 
             last : key_at t' n ≡ key_of i (list_of e)
-            last = last-key t' n a.variables v a.held.rows.count rows
+            last = last-key t' n a.variables one a.held.rows.count rows
 
             rises : (y : Result (Option Here) Refused) → NextIs ns ts ds given i h y → Left w d y more o → Under t' (n + 1) i y
             rises (Ok (Some m)) y k = λ c p _.
@@ -212,5 +215,5 @@ module _ (ns ts : List ℕ) (ds : Table) (given i from : ℕ) (t₀ : Table) whe
             rises (Ok None) y k = tt
             rises (Err e) y k = tt
 
-        pub name-more : NameOn t' (n + 1) r'
+        pub name-more : NameOn t' (n + 1) D
         name-more = record { size = next-size; room = omega (arith, next-size, s.size, s.room); on = next-on }
