@@ -20,6 +20,7 @@ use Rattle.tokens.specs.declared.Seen.{Seen}
 use Rattle.tokens.specs.Stored.{token, from, Sees, Looks, Named, Moves, Gives}
 use Rattle.tokens.proofs.Moved.{Got, got, stuck, gives_at, gives-refused, follow-same, look_is}
 use Rattle.constraints.specs.declared.Record.{Record}
+use Rattle.constraints.specs.declared.Stopped.{Stopped}
 use Rattle.constraints.specs.Readers.{constraint_in, more_in, constraints_in}
 use Rattle.constraints.specs.Rows.{IsTrue, RowOf, Rows, Constrained}
 
@@ -43,8 +44,8 @@ rows_more s ts [] r names (y ∷ ys) x h o = absurd h
 rows_more s ts (q ∷ rows) r names [] x h o = absurd h
 rows_more s ts (q ∷ rows) r names (y ∷ ys) x h o = (h.0, rows_more s ts rows r names ys x h.1 o)
 
-rest_more : (n : ℕ) (t t' : List Record) → drop n t' ≡ drop n t → drop (n + 1) t' ≡ drop (n + 1) t
-rest_more n t t' h = sym (drop-drop 1 n t') ∙ ap (drop 1) h ∙ drop-drop 1 n t
+rest_more : (n k : ℕ) (t t' : List Record) → n < k → drop n t' ≡ drop n t → drop k t' ≡ drop k t
+rest_more n k t t' l h = let e : n + (k - n) ≡ k = omega arith in subst (λ k. drop k t' ≡ drop k t) e (sym (drop-drop (k - n) n t') ∙ ap (drop (k - n)) h ∙ drop-drop (k - n) n t)
 
 -- ---- one constraint and those behind it
 
@@ -89,15 +90,21 @@ module _ (s ns ts : List ℕ) (t : List Record) (at : ℕ) where
   constraints-start =
       record { size = refl; within = omega arith; rest = refl; reached = λ names d. record { before = []; are = tt; same = behind-none (constraints_in 64 names (from s ts at)) } }
 
-  refused-with : (t' : List Record) (w : Refused) → length t' ≡ length t → ((names : List Name) → Named s ns names → constraints_in 64 names (from s ts at) ≡ refused w.refusal w.place) → Constrained s ns ts t at (Err w) t'
+  -- a refusal behind n rows
+  abbrev after : ℕ → Refused → Result (ℕ × ℕ) Stopped
+  after n e = Err (record { count = n; refused = e })
+
+  refused-with : (n : ℕ) (t' : List Record) (w : Refused) → length t' ≡ length t → n ≤ 64 → drop n t' ≡ drop n t
+      → ((names : List Name) → Named s ns names → constraints_in 64 names (from s ts at) ≡ refused w.refusal w.place) → Constrained s ns ts t at (after n w) t'
   unfolding constraint_limit
-  refused-with t' z size g = record { size = size; within = tt; gives = (gives-refused (constraints_in 64) (λ _ _. Unit {0}) s ns ts at z g).moves; rest = tt }
+  refused-with n t' z size within rest g = record { size = size; within = within; gives = (gives-refused (constraints_in 64) (λ _ _. Unit {0}) s ns ts at z g).moves; rest = rest }
 
   module _ (n a : ℕ) (t' : List Record) (o : ConstraintsOn s ns ts t at n a t') where
-    pub constraints-full : (e : Refused) → 64 ≤ n → Moves (constraints_in 0) s ns ts a (Err e) → Constrained s ns ts t at (Err e) t'
+    pub constraints-full : (e : Refused) → 64 ≤ n → Moves (constraints_in 0) s ns ts a (Err e) → Constrained s ns ts t at (after 64 e) t'
     constraints-full w h m =
         let z : 64 - n ≡ 0 = omega arith in
-        refused-with t' w o.size (λ names d.
+        let full : n ≡ 64 = omega (arith, o.within) in
+        refused-with 64 t' w o.size (omega arith) (subst (λ n. drop n t' ≡ drop n t) full o.rest) (λ names d.
         let x = o.reached names d in
         x.same ∙ ap (behind x.before) (ap (λ k. constraints_in k names (from s ts a)) z ∙ stuck (constraints_in 0) s ns ts a (Err w) m names d w refl))
 
@@ -105,9 +112,9 @@ module _ (s ns ts : List ℕ) (t : List Record) (at : ℕ) where
       one : (names : List Name) → constraints_in (64 - n) names (from s ts a) ≡ follow (constraint_in names (from s ts a)) (λ c. more_in names >>= turn (64 - (n + 1)) c names)
       one names = let e : 64 - n ≡ suc (64 - (n + 1)) = omega arith in ap (λ j. constraints_in j names (from s ts a)) e ∙ constraints-is (64 - (n + 1)) names (from s ts a)
 
-      pub constraints-refused : (e : Refused) → Moves constraint_in s ns ts a (Err e) → Constrained s ns ts t at (Err e) t'
+      pub constraints-refused : (e : Refused) → Moves constraint_in s ns ts a (Err e) → Constrained s ns ts t at (after n e) t'
       constraints-refused z h =
-          refused-with t' z o.size (λ names d.
+          refused-with n t' z o.size o.within o.rest (λ names d.
           let x = o.reached names d in
           x.same ∙ ap (behind x.before) (one names ∙ ap (λ o. follow o (λ c. more_in names >>= turn (64 - (n + 1)) c names)) (stuck constraint_in s ns ts a (Err z) h names d z refl)))
 
@@ -127,15 +134,15 @@ module _ (s ns ts : List ℕ) (t : List Record) (at : ℕ) where
         size-same : length t'' ≡ length t
         size-same = length-set t' n row ∙ o.size
 
-        rest-same : drop (n + 1) t'' ≡ drop (n + 1) t
-        rest-same = drop-set-lt (n + 1) t' n row (omega arith) ∙ rest_more n t t' o.rest
+        rest-same : (k : ℕ) → n < k → drop k t'' ≡ drop k t
+        rest-same k l = drop-set-lt k t' n row l ∙ rest_more n k t t' l o.rest
 
         two : (names : List Name) (d : Named s ns names) → constraints_in (64 - n) names (from s ts a) ≡ follow (more_in names (from s ts b)) (turn (64 - (n + 1)) (row-got names d).what names)
         two names d = one names ∙ ap (λ o. follow o (λ c. more_in names >>= turn (64 - (n + 1)) c names)) (row-got names d).reads
 
-        pub constraints-wrong : (e : Refused) → Moves more_in s ns ts b (Err e) → Constrained s ns ts t at (Err e) (set t' n row)
-        constraints-wrong z k =
-            refused-with t'' z size-same (λ names d.
+        pub constraints-wrong : (e : Refused) (c : ℕ) → Moves more_in s ns ts b (Err e) → n < c → c ≤ 64 → Constrained s ns ts t at (after c e) (set t' n row)
+        constraints-wrong z c k l h =
+            refused-with c t'' z size-same h (rest-same c l) (λ names d.
             let x = o.reached names d in
             x.same ∙ ap (behind x.before) (two names d ∙ ap (λ o. follow o (turn (64 - (n + 1)) (row-got names d).what names)) (stuck more_in s ns ts b (Err z) k names d z refl)))
 
@@ -156,7 +163,7 @@ module _ (s ns ts : List ℕ) (t : List Record) (at : ℕ) where
                 gives = gives_at (constraints_in 64) (Rows s ts (take (n + 1) t'')) s ns ts at b (λ names d.
                     let x = o.reached names d in
                     record { what = x.before ++ ((row-got names d).what ∷ []); reads = x.same ∙ ap (behind x.before) (three false names d e); holds = grown names d });
-                rest = rest-same;
+                rest = rest-same (n + 1) (omega arith);
               }
 
           pub constraints-on : v ≡ true → ConstraintsOn s ns ts t at (n + 1) b (set t' n row)
@@ -165,7 +172,7 @@ module _ (s ns ts : List ℕ) (t : List Record) (at : ℕ) where
               record {
                 size = size-same;
                 within = omega arith;
-                rest = rest-same;
+                rest = rest-same (n + 1) (omega arith);
                 reached = λ names d.
                     let x = o.reached names d in
                     record {

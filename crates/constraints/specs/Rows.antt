@@ -1,5 +1,5 @@
 -- What code tells of what it read, and what a table of constraints tells of them.
-use Rattle.std.specs.Prelude.{Ok, Err, Result, IfOk, MatchResult, ◌≡◌, Bool, true, false, List, [], ◌∷◌, ℕ, ◌≤◌, length, take, drop, get_or}
+use Rattle.std.specs.Prelude.{Ok, Err, Result, MatchResult, ◌≡◌, Bool, true, false, List, [], ◌∷◌, ℕ, ◌≤◌, length, take, drop, get_or}
 use Rattle.rules.specs.Limits.{nesting_limit, constraint_limit}
 use Rattle.lexer.specs.Marks as Marks
 use Rattle.lexer.specs.Numbers.{number}
@@ -13,7 +13,7 @@ use Rattle.tokens.specs.Stored.{size, Stands, Moves, Gives}
 use Rattle.constraints.specs.declared.Bounds.{Bounds}
 use Rattle.constraints.specs.declared.Sites.{Sites}
 use Rattle.constraints.specs.declared.Record.{Record}
-use Rattle.rules.specs.declared.Refused.{Refused}
+use Rattle.constraints.specs.declared.Stopped.{Stopped}
 use Rattle.constraints.specs.Readers.{plain_by, Comparison, constraints_in}
 use Rattle.lexer.specs.declared.Mark.TheVariants.{AtMost}
 
@@ -115,9 +115,9 @@ Rows s ts [] names (x ∷ xs) = ⊥
 Rows s ts (r ∷ rows) names [] = ⊥
 Rows s ts (r ∷ rows) names (x ∷ xs) = RowOf s ts r names x × Rows s ts rows names xs
 
--- all constraints, in the first rows of a table t that becomes t'; what stands behind these rows stays
-pub record Constrained (s ns ts : List ℕ) (t : List Record) (at : ℕ) (r : Result (ℕ × ℕ) Refused) (t' : List Record) : Type 0 where
+-- all constraints, in the first rows of a table t that becomes t'; what stands behind the rows that were filled stays, at a refusal too
+pub record Constrained (s ns ts : List ℕ) (t : List Record) (at : ℕ) (r : Result (ℕ × ℕ) Stopped) (t' : List Record) : Type 0 where
   pub size : length t' ≡ length t
-  pub within : IfOk r (λ w. w.0 ≤ 64)
-  pub gives : MatchResult r (λ w. Gives (constraints_in constraint_limit) (Rows s ts (take w.0 t')) s ns ts at (Ok w.1)) (λ e. Moves (constraints_in constraint_limit) s ns ts at (Err e))
-  pub rest : IfOk r (λ w. drop w.0 t' ≡ drop w.0 t)
+  pub within : MatchResult r (λ w. w.0 ≤ 64) (λ e. e.count ≤ 64)
+  pub gives : MatchResult r (λ w. Gives (constraints_in constraint_limit) (Rows s ts (take w.0 t')) s ns ts at (Ok w.1)) (λ e. Moves (constraints_in constraint_limit) s ns ts at (Err e.refused))
+  pub rest : MatchResult r (λ w. drop w.0 t' ≡ drop w.0 t) (λ e. drop e.count t' ≡ drop e.count t)

@@ -7,11 +7,11 @@ ghost use Rattle.std.specs.Prelude.{Ok, Err, MatchResult, ◌≡◌, ◌≤◌, 
 ghost use Rattle.lexer.specs.Numbers.{number};
 ghost use Rattle.tokens.specs.Stored.{from, Moves, Gives};
 ghost use Rattle.tokens.specs.Text.{In};
-ghost use Rattle.constraints.specs.Readers.{title_in, relation_in, floor_formula_in, floor_in, comparison_in, goal_in, constraint_in, more_in};
+ghost use Rattle.constraints.specs.Readers.{title_in, relation_in, floor_formula_in, floor_in, comparison_in, goal_in, constraint_in, more_in, constraints_in};
 ghost use Rattle.constraints.specs.Rows.{IsRelation, IsFloor, Compares, IsTrue, Located, no_row, row_at, RowOf, Constrained};
 
 use lexer::Mark;
-use rules::{Refused, refused};
+use rules::{Refusal, Refused, refused};
 use tokens::{Kind, Text};
 
 // The mark of a relation, where its right side stands, and whether it has a floor.
@@ -61,6 +61,21 @@ impl Record {
             right: 0,
             domain: 0,
         }
+    }
+}
+
+// Why constraints are refused, and how many rows of the table were filled before.
+#[derive(Clone, Copy, Debug, PartialEq, Eq)]
+pub struct Stopped {
+    pub count: usize,
+    pub refused: Refused,
+}
+
+impl From<Stopped> for Refused {
+    ghost from_gives = { λ s r. r ≡ s.refused };
+
+    fn from(stopped: Stopped) -> Refused {
+        stopped.refused
     }
 }
 
@@ -130,7 +145,7 @@ fn more(text: Text<'_>, at: usize) -> Result<bool, Refused>
 fn floor_formula(text: Text<'_>, at: usize) -> Result<usize, Refused>
     ensures { In (Moves floor_formula_in) text.entry at result }
 {
-    let sign = tokens::expect(text, at, Mark::AtLeast)?;
+    let sign = tokens::expect(text, at, Mark::AtLeast as u8)?;
     formulas::formula(text, sign, rules::NESTING_LIMIT)
 }
 
@@ -207,32 +222,57 @@ fn constraint(text: Text<'_>, at: usize) -> Result<(Record, usize), Refused>
     Ok((row, end))
 }
 
+// The refusal of a constraint more than there is room for: 6 at its token.
+fn full(text: Text<'_>, at: usize) -> Refused
+    ensures { In (Moves (constraints_in 0)) text.entry at (Err result) }
+{
+    match tokens::token_at(text.tokens, at) {
+        Ok(token) => Refused {
+            refusal: Refusal::Full,
+            place: token.place,
+        },
+        Err(refused) => refused,
+    }
+}
+
 // One or more constraints, into the first rows of the table: how many there are, and the position after them. A 65th is refused with
 // 6 at its token.
-fn read_rows(text: Text<'_>, rows: &mut [Record], at: usize) -> Result<(usize, usize), Refused>
+fn read_rows(text: Text<'_>, rows: &mut [Record], at: usize) -> Result<(usize, usize), Stopped>
     requires { 64 ≤ length rows.old }
     ensures { In Constrained text.entry rows.old at result rows.new }
 {
     let mut start = at;
     for n in 0..rules::CONSTRAINT_LIMIT {
-        let (row, next) = constraint(text, start)?;
+        let (row, next) = match constraint(text, start) {
+            Ok(read) => read,
+            Err(refused) => return Err(Stopped { count: n, refused }),
+        };
         rows[n] = row;
-        let goes_on = more(text, next)?;
+        let goes_on = match more(text, next) {
+            Ok(goes_on) => goes_on,
+            Err(refused) => return Err(Stopped {
+                count: n + 1,
+                refused,
+            }),
+        };
         if !goes_on {
             return Ok((n + 1, next));
         }
         start = next;
     }
-    let token = tokens::token_at(text.tokens, start)?;
-    refused!(Full, token.place)
+    let refused = full(text, start);
+    Err(Stopped {
+        count: rules::CONSTRAINT_LIMIT,
+        refused,
+    })
 }
 
-// All constraints: 1 to 64 rows. How many there are, and the position after them.
+// All constraints: 1 to 64 rows. How many there are, and the position after them. What stands behind the rows that were filled stays.
 pub fn constraints(
     text: Text<'_>,
     rows: &mut [Record; 64],
     at: usize,
-) -> Result<(usize, usize), Refused>
+) -> Result<(usize, usize), Stopped>
     ensures { In Constrained text.entry rows.old at result rows.new }
 {
     read_rows(text, rows, at)

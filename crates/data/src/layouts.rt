@@ -17,7 +17,7 @@ pub struct Layout {
 fn pass_entry(text: Text<'_>, level: usize, at: usize) -> Option<(usize, usize)>
     ensures { In Passes text.entry level at result }
 {
-    let lower = formulas::part(text, at, rules::NESTING_LIMIT, Mark::AtMost);
+    let lower = formulas::part(text, at, rules::NESTING_LIMIT, Mark::AtMost as u8);
     let Ok(index) = lower else {
         return None;
     };

@@ -27,7 +27,7 @@ use Rattle.formulas.specs.Cycle.{formula_in}
 use Rattle.declarations.specs.declared.Indices.{Indices}
 use Rattle.declarations.specs.declared.Entry.{Entry}
 use Rattle.declarations.specs.Readers.{due_in, indices_in, domain_in, subscripted_in, entry_in}
-use Rattle.declarations.specs.Tables.{Numbers, Indexed, Spanning, Entered}
+use Rattle.declarations.specs.Tables.{Numbers, IndicesUpTo, Spanning, Entered}
 
 -- ---- a domain has as many entries as there are indices
 
@@ -81,7 +81,7 @@ module _ (s ns ts : List ℕ) (at : ℕ) (r : Result ℕ Refused) (h : Moves (br
               (λ _. stops indices_in list_rest s ns ts a (Err z) g z refl)).matches;
         }
 
-    module _ (i : Indices) (b : ℕ) (g : Indexed s ns ts a i b) (q : Result ℕ Refused) (k : Moves (bracket_in opens 12) s ns ts b q) where
+    module _ (i : Indices) (b : ℕ) (g : IndicesUpTo s ns ts a i b) (q : Result ℕ Refused) (k : Moves (bracket_in opens 12) s ns ts b q) where
       first_read : Moves (λ names. bracket opens 12) s ns ts b q
       unfolding bracket_in
       first_read = record { matches = k.matches }

@@ -26,7 +26,7 @@ use Rattle.tokens.specs.Pieces.{expect_in, index_in}
 use Rattle.tokens.proofs.Tables.{index-sort}
 use Rattle.tokens.proofs.Moved.{stuck, gives_at, gives-refused, gives_same, gives-stands, gives-map, got, follow-same, next-is, look_is, is-mark, expect-bad, index-yes, prefixed, prefixed-none, prefixed-more, knows-of}
 use Rattle.declarations.specs.Readers.{joint_in, indices_in}
-use Rattle.declarations.specs.Tables.{IsNumber, IsMore, Numbers, Indexed}
+use Rattle.declarations.specs.Tables.{IsNumber, IsMore, Numbers, IndicesUpTo}
 
 -- ---- one index
 
@@ -202,7 +202,7 @@ module _ (s ns ts : List ℕ) (at : ℕ) where
             let e : n + 1 ≡ suc n = omega arith in
             ap (λ k. take k (set l n i)) e ∙ take-suc-set l n i (omega (arith, o.size))
 
-        pub indices-end : more ≡ false → Indexed s ns ts at (record { numbers = set l n i; count = n + 1 }) c
+        pub indices-end : more ≡ false → IndicesUpTo s ns ts at (record { numbers = set l n i; count = n + 1 }) c
         unfolding prefixed indices_then
         indices-end w =
             record {

@@ -26,7 +26,7 @@ use Rattle.tokens.proofs.Tables.{put-rows}
 use Rattle.tokens.proofs.Moved.{Got, got, stuck, follow-same, look_is, next-is, is-mark}
 use Rattle.declarations.specs.declared.Row.{Row}
 use Rattle.declarations.specs.Readers.{separator_in, entry_in, One, row_in, entries_in, list_in, lists_in}
-use Rattle.declarations.specs.Tables.{IsRow, RowedAt, Declares, Told, NamesAre, Listing, Lists, Declared}
+use Rattle.declarations.specs.Tables.{IsRow, RowUpTo, Declares, Told, NamesAre, Listing, Lists, Declared}
 
 -- ---- one row more
 
@@ -157,7 +157,7 @@ module _ (s ts ns : List ℕ) (k count at : ℕ) where
           let x = o.reached start d in
           x.same ∙ one x.names ∙ ap (λ o. follow o (entries_then k (4096 - (i + 1)) x.names)) (stuck (row_in k) s (rows_of n ns') ts a (Err z) h x.names x.are.named z refl))
 
-      module _ (row : Row) (b : ℕ) (h : RowedAt s (rows_of n ns') ts k a row b) (ns'' : List ℕ) (room : 320 ≤ length ns) (l : k ≤ 5) (x : ℕ) (w' : Put ns' n (row.place ∷ row.bytes ∷ x ∷ row.count ∷ row.position ∷ []) ns'') (same : x ≡ k) where
+      module _ (row : Row) (b : ℕ) (h : RowUpTo s (rows_of n ns') ts k a row b) (ns'' : List ℕ) (room : 320 ≤ length ns) (l : k ≤ 5) (x : ℕ) (w' : Put ns' n (row.place ∷ row.bytes ∷ x ∷ row.count ∷ row.position ∷ []) ns'') (same : x ≡ k) where
         w : Put ns' n (row.place ∷ row.bytes ∷ k ∷ row.count ∷ row.position ∷ []) ns''
         w = rw same at w'
 

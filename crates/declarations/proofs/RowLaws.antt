@@ -24,7 +24,7 @@ use Rattle.tokens.proofs.Tables.{no_name_lem, declared, not-declared, named-leng
 use Rattle.tokens.proofs.Moved.{Got, gives_at, gives-refused, got, stuck, next-is, is-mark}
 use Rattle.declarations.specs.declared.Title.{Title}
 use Rattle.declarations.specs.Readers.{new_name_in, separator_in, entry_in, One, row_in}
-use Rattle.declarations.specs.Tables.{IsMore, IsTitle, TitledAt, Entered, IsRow, RowedAt}
+use Rattle.declarations.specs.Tables.{IsMore, IsTitle, TitleUpTo, Entered, IsRow, RowUpTo}
 
 -- ---- a new name
 
@@ -71,7 +71,7 @@ module _ (s ns ts : List ℕ) (at : ℕ) (t : Result Seen Refused) (l : Looks ts
     unfolding require
     title-full i = untitled-with (record { refusal = Full; place = w.place }) (λ names d. title-by false names d (le-ltb (length names) 64 (omega (arith, named-length s ns names d))))
 
-    pub title-new : length ns / 5 < 64 → TitledAt s ns ts at (record { place = w.place; bytes = name_bytes w.payload }) w.next
+    pub title-new : length ns / 5 < 64 → TitleUpTo s ns ts at (record { place = w.place; bytes = name_bytes w.payload }) w.next
     unfolding require new_name_in
     title-new i =
         record {
@@ -141,7 +141,7 @@ module _ (s ns ts : List ℕ) (k at : ℕ) where
   unfolding new_name_in
   row-title z h = no_row z (λ names d. row_is names ∙ ap (λ o. follow o (λ x. entry_rest x names)) (stuck new_name_in s ns ts at (Err z) h names d z refl))
 
-  module _ (title : Title) (a : ℕ) (h : TitledAt s ns ts at title a) where
+  module _ (title : Title) (a : ℕ) (h : TitleUpTo s ns ts at title a) where
     title-got : (names : List Name) → Named s ns names → Got (new_name_in names) (IsTitle s title.place title.bytes names) s ts at a
     title-got names d = got new_name_in (IsTitle s title.place title.bytes) s ns ts at a h.gives names d
 
@@ -167,7 +167,7 @@ module _ (s ns ts : List ℕ) (k at : ℕ) where
       row-sign e u =
           no_row e (λ names d. three names d ∙ ap (λ o. follow o (λ b'. give (one (title-got names d).what (entry-got names d).what b'))) (stuck separator_in s ns ts b (Err e) u names d e refl))
 
-      pub row-all : (v : Bool) (j : ℕ) → Gives separator_in (IsMore v) s ns ts b (Ok j) → RowedAt s ns ts k at (record { place = title.place; bytes = title.bytes; count = c; position = i; more = v }) j
+      pub row-all : (v : Bool) (j : ℕ) → Gives separator_in (IsMore v) s ns ts b (Ok j) → RowUpTo s ns ts k at (record { place = title.place; bytes = title.bytes; count = c; position = i; more = v }) j
       row-all v j u =
           record {
             gives = gives_at (row_in k) (IsRow s ts k title.place title.bytes c i v) s ns ts at j (λ names d.

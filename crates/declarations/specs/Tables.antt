@@ -1,5 +1,5 @@
 -- What code tells of what it read, and what the name table tells of the declared names.
-use Rattle.std.specs.Prelude.{Err, Ok, Result, IfOk, ◌≡◌, Bool, List, [], ◌∷◌, ◌++◌, ℕ, ◌≤◌, ◌/◌, ◌<◌, length, take}
+use Rattle.std.specs.Prelude.{Err, Ok, Result, IfOk, MatchResult, ◌≡◌, Bool, List, [], ◌∷◌, ◌++◌, ℕ, ◌≤◌, ◌/◌, ◌<◌, length, take}
 use Rattle.rules.specs.declared.Refused.{Refused}
 use Rattle.rules.specs.Limits.{nesting_limit}
 use Rattle.language.specs.Syntax.{Name, Sort, Spans}
@@ -7,7 +7,7 @@ use Rattle.language.specs.Syntax
 use Rattle.language.specs.Reader.{Used, Titled, Reader, Read}
 use Rattle.language.specs.Formulas.{formula_at}
 use Rattle.language.specs.Declarations.{due_of, declarations}
-use Rattle.tokens.specs.Stored.{size, Shaped, Stands, Gives, spelling, Named, rows_of, from}
+use Rattle.tokens.specs.Stored.{size, Shaped, Stands, Moves, Gives, spelling, Named, rows_of, from}
 use Rattle.declarations.specs.declared.Indices.{Indices}
 use Rattle.declarations.specs.declared.Row.{Row}
 use Rattle.declarations.specs.declared.Title.{Title}
@@ -27,10 +27,14 @@ pub record Numbers (n : ℕ) (l : List ℕ) (names : List Name) (w : List ℕ) :
   pub numbers : w ≡ take n l
 
 -- the indices r up to the position a
-pub record Indexed (s ns ts : List ℕ) (at : ℕ) (r : Indices) (a : ℕ) : Type 0 where
+pub record IndicesUpTo (s ns ts : List ℕ) (at : ℕ) (r : Indices) (a : ℕ) : Type 0 where
   pub gives : Gives indices_in (Numbers r.count r.numbers) s ns ts at (Ok a)
   pub within : r.count ≤ length r.numbers
   pub sized : length (take r.count r.numbers) ≡ r.count
+
+-- the same refusal, or indices
+abbrev pub Indexed : List ℕ → List ℕ → List ℕ → ℕ → Result (Indices × ℕ) Refused → Type 0
+Indexed s ns ts at r = MatchResult r (λ w. IndicesUpTo s ns ts at w.0 w.1) (λ e. Moves indices_in s ns ts at (Err e))
 
 -- a declared domain stands at q, where the names of its time read it
 pub record Spanned (s ts : List ℕ) (names : List Name) (d : Spans) (q : ℕ) : Type 0 where
@@ -62,9 +66,13 @@ pub record IsTitle (s : List ℕ) (p n : ℕ) (names : List Name) (x : Titled) :
   pub place : x.place ≡ p
 
 -- a new name up to the position a, and a table with room for one row more
-pub record TitledAt (s ns ts : List ℕ) (at : ℕ) (r : Title) (a : ℕ) : Type 0 where
+pub record TitleUpTo (s ns ts : List ℕ) (at : ℕ) (r : Title) (a : ℕ) : Type 0 where
   pub gives : Gives new_name_in (IsTitle s r.place r.bytes) s ns ts at (Ok a)
   pub room : length ns / 5 < 64
+
+-- the same refusal, or a new name
+abbrev pub TitledAt : List ℕ → List ℕ → List ℕ → ℕ → Result (Title × ℕ) Refused → Type 0
+TitledAt s ns ts at r = MatchResult r (λ w. TitleUpTo s ns ts at w.0 w.1) (λ e. Moves new_name_in s ns ts at (Err e))
 
 -- a row of sort k: the name is spelled by n bytes at p, has c indices and is declared at q
 pub record IsRow (s ts : List ℕ) (k p n c q : ℕ) (b : Bool) (names : List Name) (x : One) : Type 0 where
@@ -75,9 +83,13 @@ pub record IsRow (s ts : List ℕ) (k p n c q : ℕ) (b : Bool) (names : List Na
   pub more : x.more ≡ b
 
 -- a row up to the position a, and a table with room for it
-pub record RowedAt (s ns ts : List ℕ) (k at : ℕ) (r : Row) (a : ℕ) : Type 0 where
+pub record RowUpTo (s ns ts : List ℕ) (k at : ℕ) (r : Row) (a : ℕ) : Type 0 where
   pub gives : Gives (row_in k) (IsRow s ts k r.place r.bytes r.count r.position r.more) s ns ts at (Ok a)
   pub room : length ns / 5 < 64
+
+-- the same refusal, or a row
+abbrev pub RowedAt : List ℕ → List ℕ → List ℕ → ℕ → ℕ → Result (Row × ℕ) Refused → Type 0
+RowedAt s ns ts k at r = MatchResult r (λ w. RowUpTo s ns ts k at w.0 w.1) (λ e. Moves (row_in k) s ns ts at (Err e))
 
 -- ---- the name table
 

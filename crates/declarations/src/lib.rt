@@ -7,7 +7,7 @@ ghost use Rattle.tokens.specs.Stored.{Moves, Gives, sort_number};
 ghost use Rattle.tokens.specs.Pieces.{index_in};
 ghost use Rattle.tokens.specs.Text.{In};
 ghost use Rattle.domains.specs.Domains.{entry_with};
-ghost use Rattle.declarations.specs.Readers.{due_with, due_in, joint_in, indices_in, subscripted_in, domain_in, entry_in, new_name_in, separator_in, row_in, entries_in, list_in, lists_in};
+ghost use Rattle.declarations.specs.Readers.{due_with, due_in, joint_in, subscripted_in, domain_in, entry_in, separator_in, entries_in, list_in, lists_in};
 ghost use Rattle.declarations.specs.Tables.{IsNumber, IsMore, Indexed, Spanning, Entered, TitledAt, RowedAt, Lists, Declared};
 
 use lexer::Mark;
@@ -61,9 +61,9 @@ fn due_entry(text: Text<'_>, at: usize, i: usize, taken: bool) -> Result<usize, 
     ensures { In (Moves (entry_with (due_with i taken))) text.entry at result }
 {
     let nest = rules::NESTING_LIMIT;
-    let lower = formulas::part(text, at, nest, Mark::AtMost)?;
+    let lower = formulas::part(text, at, nest, Mark::AtMost as u8)?;
     let index = due_index(text, lower, i, taken)?;
-    let sign = tokens::expect(text, index, Mark::AtMost)?;
+    let sign = tokens::expect(text, index, Mark::AtMost as u8)?;
     formulas::inside(text, sign, nest)
 }
 
@@ -77,9 +77,9 @@ fn due(text: Text<'_>, at: usize, list: &[usize]) -> Result<usize, Refused>
         let taken = list[..k].contains(&i);
         let end = due_entry(text, start, i, taken)?;
         if k + 1 == list.len() {
-            return tokens::expect(text, end, Mark::RightParen);
+            return tokens::expect(text, end, Mark::RightParen as u8);
         }
-        start = tokens::expect(text, end, Mark::Comma)?;
+        start = tokens::expect(text, end, Mark::Comma as u8)?;
     }
     Ok(start)
 }
@@ -107,15 +107,13 @@ fn index_joint(text: Text<'_>, at: usize, left: usize) -> Result<(bool, usize), 
     if (0 < left) & (token.kind == Mark::Comma as u64) {
         return Ok((true, token.next));
     }
-    let next = tokens::expect(text, at, Mark::RightBracket)?;
+    let next = tokens::expect(text, at, Mark::RightBracket as u8)?;
     Ok((false, next))
 }
 
 // One to four indices and `]`, and the position after it.
 fn read_indices(text: Text<'_>, at: usize) -> Result<(Indices, usize), Refused>
-    ensures { MatchResult result
-        (λ w. In Indexed text.entry at w.0 w.1)
-        (λ e. In (Moves indices_in) text.entry at (Err e)) }
+    ensures { In Indexed text.entry at result }
 {
     let mut numbers = [0usize; 4];
     let mut start = at;
@@ -139,9 +137,9 @@ fn domain(text: Text<'_>, at: usize) -> Result<(Entry, usize), Refused>
         (λ e. In (Moves domain_in) text.entry at (Err e)) }
 {
     let nest = rules::NESTING_LIMIT;
-    let open = tokens::bracket(text, at, nest, Mark::LeftBracket)?;
+    let open = tokens::bracket(text, at, nest, Mark::LeftBracket as u8)?;
     let (list, next) = read_indices(text, open)?;
-    let first = tokens::bracket(text, next, nest, Mark::LeftParen)?;
+    let first = tokens::bracket(text, next, nest, Mark::LeftParen as u8)?;
     let end = due(text, first, &list.numbers[..list.count])?;
     let entry = Entry {
         count: list.count as u64,
@@ -182,7 +180,7 @@ fn read_entry(text: Text<'_>, at: usize, sort: Sort) -> Result<(Entry, usize), R
             Ok((none, at))
         }
         Sort::Formula => {
-            let first = tokens::expect(text, at, Mark::Equals)?;
+            let first = tokens::expect(text, at, Mark::Equals as u8)?;
             let end = formulas::formula(text, first, rules::NESTING_LIMIT)?;
             let entry = Entry {
                 count: 0,
@@ -196,9 +194,7 @@ fn read_entry(text: Text<'_>, at: usize, sort: Sort) -> Result<(Entry, usize), R
 
 // A new name, and the position after it: 3 if there is none, 4 if it is declared again, 6 if it is the 65th.
 fn new_name(text: Text<'_>, at: usize) -> Result<(Title, usize), Refused>
-    ensures { MatchResult result
-        (λ w. In TitledAt text.entry at w.0 w.1)
-        (λ e. In (Moves new_name_in) text.entry at (Err e)) }
+    ensures { In TitledAt text.entry at result }
 {
     let token = tokens::token_at(text.tokens, at)?;
     let place = token.place;
@@ -233,9 +229,7 @@ fn separator(text: Text<'_>, at: usize) -> Result<(bool, usize), Refused>
 
 // A name of the given sort, what stands behind it, and the sign that ends its entry.
 fn read_row(text: Text<'_>, at: usize, sort: Sort) -> Result<(Row, usize), Refused>
-    ensures { MatchResult result
-        (λ w. In RowedAt text.entry (sort_number sort) at w.0 w.1)
-        (λ e. In (Moves (row_in (sort_number sort))) text.entry at (Err e)) }
+    ensures { In RowedAt text.entry (sort_number sort) at result }
 {
     let (title, next) = new_name(text, at)?;
     let (entry, next) = read_entry(text, next, sort)?;

@@ -14,9 +14,9 @@ use tokens::Text;
 pub fn entry(text: Text<'_>, at: usize) -> Result<usize, Refused>
     ensures { In (Moves (entry_with index_in)) text.entry at result }
 {
-    let lower = formulas::part(text, at, rules::NESTING_LIMIT, Mark::AtMost)?;
+    let lower = formulas::part(text, at, rules::NESTING_LIMIT, Mark::AtMost as u8)?;
     let i = tokens::index(text, lower)?;
-    let sign = tokens::expect(text, i, Mark::AtMost)?;
+    let sign = tokens::expect(text, i, Mark::AtMost as u8)?;
     formulas::inside(text, sign, rules::NESTING_LIMIT)
 }
 
@@ -26,11 +26,11 @@ fn entries(text: Text<'_>, at: usize, left: usize) -> Result<usize, Refused>
 {
     let first = entry(text, at)?;
     if left == 0 {
-        return tokens::expect(text, first, Mark::RightParen);
+        return tokens::expect(text, first, Mark::RightParen as u8);
     }
     let token = tokens::token_at(text.tokens, first)?;
     if token.kind != Mark::Comma as u64 {
-        return tokens::expect(text, first, Mark::RightParen);
+        return tokens::expect(text, first, Mark::RightParen as u8);
     }
     entries(text, token.next, left - 1)
 }
@@ -39,7 +39,7 @@ fn entries(text: Text<'_>, at: usize, left: usize) -> Result<usize, Refused>
 fn domain(text: Text<'_>, at: usize) -> Result<usize, Refused>
     ensures { In (Moves domain_in) text.entry at result }
 {
-    let open = tokens::bracket(text, at, rules::NESTING_LIMIT, Mark::LeftParen)?;
+    let open = tokens::bracket(text, at, rules::NESTING_LIMIT, Mark::LeftParen as u8)?;
     entries(text, open, rules::INDEX_LIMIT - 1)
 }
 

@@ -18,7 +18,7 @@ use Rattle.language.specs.Formulas.{is_sum, negated, factors, summands, part_of,
 use Rattle.tokens.specs.declared.Seen.{Seen}
 use Rattle.tokens.specs.Stored.{token, from, Sees, Looks, size, Named, Matches, Moves}
 use Rattle.tokens.specs.Pieces.{expect_in, bracket_in}
-use Rattle.tokens.proofs.Tables.{mark-of, mark-same}
+use Rattle.tokens.proofs.Tables.{mark-own, mark-of, mark-same}
 use Rattle.tokens.proofs.Moved.{stops, goes, then_at, given, look_is, look-wrong, expect-yes, is_sum_lem, next-read}
 use Rattle.formulas.specs.Cycle.{primary_in, term_in, part_in, Factors, Summands, Subscripts, Entries}
 use Rattle.formulas.proofs.Laws.{inner, primaries, terms}
@@ -97,7 +97,7 @@ module _ (s ns ts : List ℕ) (n at : ℕ) where
     -- `*` and what stands behind it
     sign_read : (w : Seen) → t ≡ Ok w → w.kind ≡ 42 → Moves (λ names. expect times_sign) s ns ts a (Ok w.next)
     unfolding expect_in
-    sign_read z e i = record { matches = (expect-yes s ns ts a 42 t h z 42 e refl (omega arith) i).matches }
+    sign_read z e i = record { matches = (expect-yes s ns ts a 42 t h z z.kind e (mark-own z.kind (omega (arith, i))) i).matches }
 
     pub factors-refused : (w : Seen) (e : Refused) (r : Result ℕ Refused) → t ≡ Ok w → w.kind ≡ 42 → Moves (primary_in n) s ns ts w.next r → r ≡ Err e → Factors s ns ts n token_limit at r
     unfolding factor_turn primary_in

@@ -3,7 +3,6 @@
 #![tactic(auto)]
 
 ghost use Rattle.rules.specs.Limits.{token_limit};
-ghost use Rattle.lexer.specs.Numbers.{number};
 ghost use Rattle.tokens.specs.Stored.{Moves};
 ghost use Rattle.tokens.specs.Text.{In};
 ghost use Rattle.formulas.specs.Cycle.{inside_in, formula_in, primary_in, term_in, part_in, sum_in, nested_in, named_in, Factors, Summands, Subscripts};
@@ -92,9 +91,9 @@ fn sum(text: Text<'_>, at: usize, nest: usize, p: u64) -> Result<usize, Refused>
     ensures { In (Moves (sum_in nest p)) text.entry at result }
 {
     let head = tokens::head(text, at, nest)?;
-    let lower = part(text, head, nest, Mark::Comma)?;
-    let upper = part(text, lower, nest, Mark::Comma)?;
-    part(text, upper, nest, Mark::RightParen)
+    let lower = part(text, head, nest, Mark::Comma as u8)?;
+    let upper = part(text, lower, nest, Mark::Comma as u8)?;
+    part(text, upper, nest, Mark::RightParen as u8)
 }
 
 // A formula and `)`, behind the `(` at p.
@@ -105,7 +104,7 @@ fn nested(text: Text<'_>, at: usize, nest: usize, p: u64) -> Result<usize, Refus
     if nest == 0 {
         return refused!(Full, p);
     }
-    part(text, at, nest, Mark::RightParen)
+    part(text, at, nest, Mark::RightParen as u8)
 }
 
 // A primary that is the name of n bytes at p.
@@ -133,20 +132,20 @@ pub fn subscripts(text: Text<'_>, at: usize, nest: usize, count: u64) -> Result<
     if count == 0 {
         return Ok(at);
     }
-    let mut a = tokens::bracket(text, at, nest, Mark::LeftBracket)?;
+    let mut a = tokens::bracket(text, at, nest, Mark::LeftBracket as u8)?;
     for _ in 1..count {
-        a = part(text, a, nest, Mark::Comma)?;
+        a = part(text, a, nest, Mark::Comma as u8)?;
     }
-    part(text, a, nest, Mark::RightBracket)
+    part(text, a, nest, Mark::RightBracket as u8)
 }
 
-// A formula inside a bracket, and the sign `mark` after it.
+// A formula inside a bracket, and the sign with the number `c` after it.
 #[cycle(formulas)]
-pub fn part(text: Text<'_>, at: usize, nest: usize, mark: Mark) -> Result<usize, Refused>
-    ensures { In (Moves (part_in nest (number mark))) text.entry at result }
+pub fn part(text: Text<'_>, at: usize, nest: usize, c: u8) -> Result<usize, Refused>
+    ensures { In (Moves (part_in nest c)) text.entry at result }
 {
     let next = inside(text, at, nest)?;
-    tokens::expect(text, next, mark)
+    tokens::expect(text, next, c)
 }
 
 // A formula inside one of `nest` brackets; with none it is never read.

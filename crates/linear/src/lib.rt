@@ -63,7 +63,7 @@ fn term(text: Text<'_>, at: usize, nest: usize, sigmas: bool) -> Result<usize, R
             return formulas::subscripts(text, token.next, nest, name.count);
         }
         let factor = formulas::primary(text, a, nest)?;
-        a = tokens::expect(text, factor, Mark::Times)?;
+        a = tokens::expect(text, factor, Mark::Times as u8)?;
     }
     refused!(Full, 0)
 }
@@ -94,10 +94,10 @@ fn sigma(text: Text<'_>, at: usize, nest: usize, p: u64) -> Result<usize, Refuse
     if nest == 0 {
         return refused!(Full, 0);
     }
-    let lower = formulas::part(text, head, nest, Mark::Comma)?;
-    let upper = formulas::part(text, lower, nest, Mark::Comma)?;
+    let lower = formulas::part(text, head, nest, Mark::Comma as u8)?;
+    let upper = formulas::part(text, lower, nest, Mark::Comma as u8)?;
     let inner = body(text, upper, nest - 1)?;
-    tokens::expect(text, inner, Mark::RightParen)
+    tokens::expect(text, inner, Mark::RightParen as u8)
 }
 
 // A sigma's body: another sigma, or a linear form without sigma.

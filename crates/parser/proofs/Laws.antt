@@ -22,6 +22,7 @@ use Rattle.linear.specs.Linear.{linear_in}
 use Rattle.declarations.specs.Tables.{NamesAre, Listing, Declared}
 use Rattle.constraints.specs.Readers.{title_in, goal_in, constraints_in}
 use Rattle.constraints.specs.declared.Record.{Record}
+use Rattle.constraints.specs.declared.Stopped.{Stopped}
 use Rattle.constraints.specs.Rows.{IsTrue, Rows, Constrained}
 use Rattle.parser.specs.declared.Aim.{Aim}
 use Rattle.parser.specs.declared.Body.{Body}
@@ -141,9 +142,9 @@ module _ (s ns ts : List ℕ) (at : ℕ) where
     unfolding rows_rest
     behind names d = content-is names ∙ ap (λ o. follow o (rows_rest names)) (objective-read names d).reads
 
-    pub body-refused : (e : Refused) (t t' : List Record) → Constrained s ns ts t a (Err e) t' → Bodied s ns ts at (Err e) t'
+    pub body-refused : (e : Stopped) (t t' : List Record) → Constrained s ns ts t a (Err e) t' → Bodied s ns ts at (Err e.refused) t'
     body-refused e t t' g =
-        no-body e t' (λ names d. behind names d ∙ ap (λ o. follow o (λ cs. give (all names d cs))) (stuck (constraints_in constraint_limit) s ns ts a (Err e) g.gives names d e refl))
+        no-body e.refused t' (λ names d. behind names d ∙ ap (λ o. follow o (λ cs. give (all names d cs))) (stuck (constraints_in constraint_limit) s ns ts a (Err e.refused) g.gives names d e.refused refl))
 
     pub body-rows : (n b : ℕ) (t t' : List Record) → Constrained s ns ts t a (Ok (n, b)) t' → Bodied s ns ts at (Ok (record { minimize = r.minimize; objective = r.position; constraints = n }, b)) t'
     body-rows n b t t' g =

@@ -44,7 +44,7 @@ fn read_opening(text: Text<'_>, at: usize) -> Result<(usize, usize), Refused>
         (λ w. In (Gives opening_in (TitleAt text.entry.bytes.now text.entry.tokens.now w.0)) text.entry at (Ok w.1))
         (λ e. In (Moves opening_in) text.entry at (Err e)) }
 {
-    let title = tokens::expect(text, at, Mark::Open)?;
+    let title = tokens::expect(text, at, Mark::Open as u8)?;
     let end = constraints::title(text, title)?;
     Ok((title, end))
 }
@@ -56,7 +56,7 @@ fn objective(text: Text<'_>, at: usize) -> Result<(Aim, usize), Refused>
         (λ e. In (Moves objective_in) text.entry at (Err e)) }
 {
     let (minimize, next) = constraints::goal(text, at)?;
-    let form = tokens::expect(text, next, Mark::Colon)?;
+    let form = tokens::expect(text, next, Mark::Colon as u8)?;
     let end = linear::linear(text, form, rules::NESTING_LIMIT)?;
     let aim = Aim {
         minimize,

@@ -237,19 +237,13 @@ module _ (s ns ts : List ℕ) (at c : ℕ) (t : Result Seen Refused) (h : Looks 
   unfolding expect_in
   expect-wrong z e = let u = sees (Err z) e in record { matches = λ names d. rw (expect-bad s ts at c z.refusal z.place u) (refl, refl) }
 
-  same-mark : (k n : ℕ) → n ≡ c → 5 < c → k ≡ n → mark_number k ≡ c
-  same-mark k n i b j = eqb-true (mark_number k) c (mark-same k c b ∙ eq-eqb k c (j ∙ i))
-
-  other-mark : (k n : ℕ) → n ≡ c → 5 < c → (k ≡ n → ⊥) → mark_number k ≡ c → ⊥
-  other-mark k n i b j e = j (eqb-true k c (sym (mark-same k c b) ∙ eq-eqb (mark_number k) c e) ∙ sym i)
-
-  pub expect-yes : (w : Seen) (n : ℕ) → t ≡ Ok w → n ≡ c → 5 < c → w.kind ≡ n → Moves (expect_in c) s ns ts at (Ok w.next)
+  pub expect-yes : (w : Seen) (m : ℕ) → t ≡ Ok w → m ≡ mark_number w.kind → m ≡ c → Moves (expect_in c) s ns ts at (Ok w.next)
   unfolding expect_in
-  expect-yes z n e i b j = record { matches = λ names d. rw (expect-is s ts at c z (sees _ e) (same-mark z.kind n i b j)) refl }
+  expect-yes z m e i j = record { matches = λ names d. rw (expect-is s ts at c z (sees _ e) (sym i ∙ j)) refl }
 
-  pub expect-no : (w : Seen) (n : ℕ) → t ≡ Ok w → n ≡ c → 5 < c → (w.kind ≡ n → ⊥) → Moves (expect_in c) s ns ts at (Err (record { refusal = Misplaced; place = w.place }))
+  pub expect-no : (w : Seen) (m : ℕ) → t ≡ Ok w → m ≡ mark_number w.kind → (m ≡ c → ⊥) → Moves (expect_in c) s ns ts at (Err (record { refusal = Misplaced; place = w.place }))
   unfolding expect_in
-  expect-no z n e i b j = record { matches = λ names d. rw (expect-not s ts at c z (sees _ e) (other-mark z.kind n i b j)) (refl, refl) }
+  expect-no z m e i j = record { matches = λ names d. rw (expect-not s ts at c z (sees _ e) (λ y. j (i ∙ y))) (refl, refl) }
 
   -- ---- a bracket
 
@@ -258,20 +252,20 @@ module _ (s ns ts : List ℕ) (at c : ℕ) (t : Result Seen Refused) (h : Looks 
   bracket-wrong zero z e = let u = sees (Err z) e in record { matches = λ names d. rw (expect-bad s ts at c z.refusal z.place u) (refl, refl) }
   bracket-wrong (suc nest) z e = let u = sees (Err z) e in record { matches = λ names d. rw (expect-bad s ts at c z.refusal z.place u) (refl, refl) }
 
-  pub bracket-no : (nest : ℕ) (w : Seen) (n : ℕ) → t ≡ Ok w → n ≡ c → 5 < c → (w.kind ≡ n → ⊥) → Moves (bracket_in c nest) s ns ts at (Err (record { refusal = Misplaced; place = w.place }))
+  pub bracket-no : (nest : ℕ) (w : Seen) (m : ℕ) → t ≡ Ok w → m ≡ mark_number w.kind → (m ≡ c → ⊥) → Moves (bracket_in c nest) s ns ts at (Err (record { refusal = Misplaced; place = w.place }))
   unfolding bracket_in bracket
-  bracket-no zero z n e i b j = record { matches = λ names d. rw (expect-not s ts at c z (sees _ e) (other-mark z.kind n i b j)) (refl, refl) }
-  bracket-no (suc nest) z n e i b j = record { matches = λ names d. rw (expect-not s ts at c z (sees _ e) (other-mark z.kind n i b j)) (refl, refl) }
+  bracket-no zero w m e i j = record { matches = λ names d. rw (expect-not s ts at c w (sees _ e) (λ y. j (i ∙ y))) (refl, refl) }
+  bracket-no (suc nest) w m e i j = record { matches = λ names d. rw (expect-not s ts at c w (sees _ e) (λ y. j (i ∙ y))) (refl, refl) }
 
-  pub bracket-full : (nest : ℕ) (w : Seen) (n : ℕ) → t ≡ Ok w → n ≡ c → 5 < c → w.kind ≡ n → nest ≡ 0 → Moves (bracket_in c nest) s ns ts at (Err (record { refusal = Full; place = w.place }))
+  pub bracket-full : (nest : ℕ) (w : Seen) (m : ℕ) → t ≡ Ok w → m ≡ mark_number w.kind → m ≡ c → nest ≡ 0 → Moves (bracket_in c nest) s ns ts at (Err (record { refusal = Full; place = w.place }))
   unfolding bracket_in bracket
-  bracket-full zero w n e i b j z = record { matches = λ names d. rw (expect-is s ts at c w (sees _ e) (same-mark w.kind n i b j)) (refl, refl) }
-  bracket-full (suc nest) w n e i b j z = absurd (omega arith)
+  bracket-full zero w m e i j z = record { matches = λ names d. rw (expect-is s ts at c w (sees _ e) (sym i ∙ j)) (refl, refl) }
+  bracket-full (suc nest) w m e i j z = absurd (omega arith)
 
-  pub bracket-yes : (nest : ℕ) (w : Seen) (n : ℕ) → t ≡ Ok w → n ≡ c → 5 < c → w.kind ≡ n → (nest ≡ 0 → ⊥) → Moves (bracket_in c nest) s ns ts at (Ok w.next)
+  pub bracket-yes : (nest : ℕ) (w : Seen) (m : ℕ) → t ≡ Ok w → m ≡ mark_number w.kind → m ≡ c → (nest ≡ 0 → ⊥) → Moves (bracket_in c nest) s ns ts at (Ok w.next)
   unfolding bracket_in bracket
-  bracket-yes zero w n e i b j z = absurd (z refl)
-  bracket-yes (suc nest) w n e i b j z = record { matches = λ names d. rw (expect-is s ts at c w (sees _ e) (same-mark w.kind n i b j)) refl }
+  bracket-yes zero w m e i j z = absurd (z refl)
+  bracket-yes (suc nest) w m e i j z = record { matches = λ names d. rw (expect-is s ts at c w (sees _ e) (sym i ∙ j)) refl }
 
 -- ---- an index, an optional sign
 

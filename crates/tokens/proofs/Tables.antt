@@ -58,6 +58,26 @@ refusal-other (suc (suc (suc (suc (suc zero))))) a b c d e = absurd (d refl)
 refusal-other (suc (suc (suc (suc (suc (suc zero)))))) a b c d e = absurd (e refl)
 refusal-other (suc (suc (suc (suc (suc (suc (suc n))))))) a b c d e = refl
 
+pub mark-none : (k : ℕ) → k ≤ 5 → 0 ≡ mark_number k
+unfolding mark_number
+mark-none zero h = refl
+mark-none (suc zero) h = refl
+mark-none (suc (suc zero)) h = refl
+mark-none (suc (suc (suc zero))) h = refl
+mark-none (suc (suc (suc (suc zero)))) h = refl
+mark-none (suc (suc (suc (suc (suc zero))))) h = refl
+mark-none (suc (suc (suc (suc (suc (suc k)))))) h = absurd (omega arith)
+
+pub mark-own : (k : ℕ) → 5 < k → k ≡ mark_number k
+unfolding mark_number
+mark-own zero h = absurd (omega arith)
+mark-own (suc zero) h = absurd (omega arith)
+mark-own (suc (suc zero)) h = absurd (omega arith)
+mark-own (suc (suc (suc zero))) h = absurd (omega arith)
+mark-own (suc (suc (suc (suc zero)))) h = absurd (omega arith)
+mark-own (suc (suc (suc (suc (suc zero))))) h = absurd (omega arith)
+mark-own (suc (suc (suc (suc (suc (suc k)))))) h = refl
+
 pub mark-of : (s : List ℕ) (k p x : ℕ) → mark_of (kind_of s k p x) ≡ mark_number k
 unfolding mark_number kind_of mark_of
 mark-of s zero p x = refl

@@ -7,8 +7,7 @@ pub mod scanner;
 
 ghost use Rattle.std.specs.Prelude.{◌≡◌, [], ◌∷◌, ◌+◌, get_or};
 ghost use Rattle.lexer.specs.Text.{same_bytes};
-ghost use Rattle.lexer.specs.Numbers.{number};
-ghost use Rattle.tokens.specs.Stored.{spelling, refusal_of, sort_number, Looks, look_up, KnownAt, Put, Moves};
+ghost use Rattle.tokens.specs.Stored.{spelling, refusal_of, mark_number, sort_number, Looks, look_up, KnownAt, Put, Moves};
 ghost use Rattle.tokens.specs.Pieces.{expect_in, bracket_in, index_in, head_in, sign_in};
 ghost use Rattle.tokens.specs.Text.{In};
 
@@ -105,6 +104,13 @@ fn refusal(x: u64) -> rules::Refusal
     }
 }
 
+// The number of a sign or word, 0 for other kinds.
+fn mark(kind: u64) -> u64
+    ensures { result ≡ mark_number kind }
+{
+    if kind <= Kind::Wrong as u64 { 0 } else { kind }
+}
+
 // The token at `at`, after its own tests.
 pub fn token_at(tokens: &[u64], at: usize) -> Result<Seen, Refused>
     ensures { Looks tokens.now at result }
@@ -195,23 +201,25 @@ pub fn put_row(rows: &mut [u64], number: usize, a: u64, b: u64, c: u64, d: u64, 
     rows[at + 4] = e;
 }
 
-// The sign or word `mark`.
-pub fn expect(text: Text<'_>, at: usize, mark: Mark) -> Result<usize, Refused>
-    ensures { In (Moves (expect_in (number mark))) text.entry at result }
+// The sign or word with the number `c`.
+pub fn expect(text: Text<'_>, at: usize, c: u8) -> Result<usize, Refused>
+    ensures { In (Moves (expect_in c)) text.entry at result }
 {
     let token = token_at(text.tokens, at)?;
-    if token.kind != mark.number() {
+    let m = mark(token.kind);
+    if m != c as u64 {
         return refused!(Misplaced, token.place);
     }
     Ok(token.next)
 }
 
-// The opening bracket `mark`; with `nest` 0 it is one too many.
-pub fn bracket(text: Text<'_>, at: usize, nest: usize, mark: Mark) -> Result<usize, Refused>
-    ensures { In (Moves (bracket_in (number mark) nest)) text.entry at result }
+// The opening bracket `c`; with `nest` 0 it is one too many.
+pub fn bracket(text: Text<'_>, at: usize, nest: usize, c: u8) -> Result<usize, Refused>
+    ensures { In (Moves (bracket_in c nest)) text.entry at result }
 {
     let token = token_at(text.tokens, at)?;
-    if token.kind != mark.number() {
+    let m = mark(token.kind);
+    if m != c as u64 {
         return refused!(Misplaced, token.place);
     }
     if nest == 0 {
@@ -260,9 +268,9 @@ pub fn index(text: Text<'_>, at: usize) -> Result<usize, Refused>
 pub fn head(text: Text<'_>, at: usize, nest: usize) -> Result<usize, Refused>
     ensures { In (Moves (head_in nest)) text.entry at result }
 {
-    let a = bracket(text, at, nest, Mark::LeftParen)?;
+    let a = bracket(text, at, nest, Mark::LeftParen as u8)?;
     let b = index(text, a)?;
-    expect(text, b, Mark::Comma)
+    expect(text, b, Mark::Comma as u8)
 }
 
 // An optional `+` or `-`.

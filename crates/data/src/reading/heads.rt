@@ -4,7 +4,6 @@ ghost use Rattle.language.specs.Data.{signed_entry, read_entry};
 ghost use Rattle.data.specs.Reading.Entries.{entries_of};
 ghost use Rattle.data.specs.Reading.Readers.{Answers, Says, indexed, entered, index_in};
 ghost use Rattle.data.specs.Reading.Lists.{item_in, separator_of, planned, bracketed_in, optional_in, order_in, rest_in, head_in, Lists, Ordered, Orders, Heads};
-ghost use Rattle.lexer.specs.Numbers.{number};
 ghost use Rattle.tokens.specs.Text.{In};
 
 use super::entries::{Entries, Entry};
@@ -65,23 +64,23 @@ fn entry(text: Text<'_>, at: usize) -> Result<(Entry, usize), Refused>
     refused!(Misplaced, token.place)
 }
 
-// An entry and the sign `mark` behind it.
-fn item(text: Text<'_>, at: usize, mark: Mark) -> Result<(Entry, usize), Refused>
-    ensures { In (Answers entered (item_in (number mark))) text.entry at result }
+// An entry and the sign with the number `c` behind it.
+fn item(text: Text<'_>, at: usize, c: u8) -> Result<(Entry, usize), Refused>
+    ensures { In (Answers entered (item_in c)) text.entry at result }
 {
     let (first, sign) = entry(text, at)?;
-    let next = tokens::expect(text, sign, mark)?;
+    let next = tokens::expect(text, sign, c)?;
     Ok((first, next))
 }
 
 // The sign behind an entry with which `left` are due.
-fn separator(left: usize) -> Mark
-    ensures { number result ≡ separator_of left }
+fn separator(left: usize) -> u8
+    ensures { result ≡ separator_of left }
 {
     if left == 1 {
-        Mark::RightBracket
+        Mark::RightBracket as u8
     } else {
-        Mark::Comma
+        Mark::Comma as u8
     }
 }
 
@@ -180,6 +179,6 @@ fn entries_head(text: Text<'_>, at: usize, place: u64, count: usize) -> Result<P
 pub fn head(text: Text<'_>, at: usize, place: u64, count: usize) -> Result<Plan, Refused>
     ensures { In (Heads (head_in place count)) text.entry at count result }
 {
-    let open = tokens::bracket(text, at, rules::NESTING_LIMIT, Mark::LeftBracket)?;
+    let open = tokens::bracket(text, at, rules::NESTING_LIMIT, Mark::LeftBracket as u8)?;
     entries_head(text, open, place, count)
 }
