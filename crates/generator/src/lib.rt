@@ -143,7 +143,9 @@ fn list_in<P: FnOnce(Posed<'_>, &mut [u8]) -> usize>(
     Ok(print(posed, out))
 }
 
-// The report of a model that was read into tables.
+// The report of a model that was read into tables. It is not inlined: its tables lie on the stack while it runs, and not in the frame
+// of a program that may as well read an export, which needs none of them.
+#[inline(never)]
 fn list<P: FnOnce(Posed<'_>, &mut [u8]) -> usize>(
     text: Text<'_>,
     constraints: &[Record; 64],
@@ -219,7 +221,8 @@ fn generate_in<P: FnOnce(Posed<'_>, &mut [u8]) -> usize>(
     part(read, constraints, store, model, print, out)
 }
 
-// The report of a text, as far as the output reaches.
+// The report of a text, as far as the output reaches. It is not inlined, as `list`.
+#[inline(never)]
 fn generate<P: FnOnce(Posed<'_>, &mut [u8]) -> usize>(
     text: &[u8],
     print: P,
