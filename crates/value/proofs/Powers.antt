@@ -120,7 +120,7 @@ module _ (x k : ℕ) where
 
 -- ---- the first `E`
 
-letter-first : (t : List ℕ) → length (significand t) ≡ position_or_len (λ b. eqb b 69) t
+pub letter-first : (t : List ℕ) → length (significand t) ≡ position_or_len (λ b. eqb b 69) t
 unfolding significand
 letter-first = is_position_or_len (λ t. length (significand t)) (λ b. eqb b 69) refl (λ b t. go (eqb b 69) b t)
   where

@@ -80,7 +80,7 @@ ceiling-sign (pos (suc n)) d = rw (lt-ltb 0 (suc n) (omega arith), less_one n d)
 ceiling-sign (negsuc n) d = refl
 
 module _ (v : Value) where
-  floor-is : with_sign v.m (cond (lt_z v.m (pos 0)) ((nat_abs v.m - 1) / 10 ^ v.s + 1) (nat_abs v.m / 10 ^ v.s)) ≡ floor_of v
+  pub floor-is : with_sign v.m (cond (lt_z v.m (pos 0)) ((nat_abs v.m - 1) / 10 ^ v.s + 1) (nat_abs v.m / 10 ^ v.s)) ≡ floor_of v
   unfolding floor_of
   floor-is = floor-sign v.m (10 ^ v.s)
 
@@ -90,7 +90,7 @@ module _ (v : Value) where
   pub floor-toward : lt_z v.m (pos 0) ≡ false → with_sign v.m (nat_abs v.m / 10 ^ v.s) ≡ floor_of v
   floor-toward e = rw e at floor-is
 
-  ceiling-is : with_sign v.m (cond (lt_z (pos 0) v.m) ((nat_abs v.m - 1) / 10 ^ v.s + 1) (nat_abs v.m / 10 ^ v.s)) ≡ ceiling_of v
+  pub ceiling-is : with_sign v.m (cond (lt_z (pos 0) v.m) ((nat_abs v.m - 1) / 10 ^ v.s + 1) (nat_abs v.m / 10 ^ v.s)) ≡ ceiling_of v
   unfolding ceiling_of floor_of negate
   ceiling-is = ceiling-sign v.m (10 ^ v.s)
 

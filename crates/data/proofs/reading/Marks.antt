@@ -54,7 +54,7 @@ module _ (e : Entries) where
   entry-more x r d = ap (map entry_of) d ∙ map-more entry_of (items_of e.entries) x
 
   -- another entry at a position
-  put-entry : (i : ℕ) (x : Held) (r : Entries) → items_of r.entries ≡ set (items_of e.entries) i x → entries_of r ≡ set (entries_of e) i (entry_of x)
+  pub put-entry : (i : ℕ) (x : Held) (r : Entries) → items_of r.entries ≡ set (items_of e.entries) i x → entries_of r ≡ set (entries_of e) i (entry_of x)
   unfolding entries_of
   put-entry i x r d = ap (map entry_of) d ∙ map-set entry_of (items_of e.entries) i x
 
