@@ -58,7 +58,7 @@ enum recipe_refusal {
 #define RECIPE_TEXT_LIMIT 16384
 #define RECIPE_BUFFER 65536
 
-/* The stack that a call needs, in bytes, with a margin: the most deeply nested texts took up to 3,649,664 (host/stack.c measures
+/* The stack that a call needs, in bytes, with a margin: the most deeply nested texts took up to 3,287,264 (host/stack.c measures
    this, and host/run fails if a text takes more than RECIPE_STACK). */
 #define RECIPE_STACK 4194304
 
